@@ -1,0 +1,4 @@
+pub mod Paper
+pub mod Counters
+pub mod Refusals
+pub mod OneAnswer

@@ -1,0 +1,74 @@
+-- Document 01, "What each number says": the number of each refusal, a row a line.
+use Prim.Native.Nat.{ℕ}
+use mathlib.Core.Path.{_≡_, refl, sym, ap, _∙_}
+use lib.Dec.{eqb}
+use Rattle.terms.specs.Paper.{pick}
+use Rattle.terms.specs.declared.Refusal.{Refusal}
+use Rattle.terms.specs.declared.Refusal.the-variants.{More, MsgType, Long, Length, Sum, Field, Room, Place, Range, Repeat, Far, State, Busy, Whole, Unasked, Status, Channel, Entries}
+
+abbrev pub numberOf : Refusal → ℕ
+numberOf More = 1  -- more
+numberOf MsgType = 2  -- type
+numberOf Long = 3  -- long
+numberOf Length = 4  -- length
+numberOf Sum = 5  -- sum
+numberOf Field = 6  -- field
+numberOf Room = 8  -- room
+numberOf Place = 9  -- place
+numberOf Range = 10  -- number
+numberOf Repeat = 11  -- repeat
+numberOf Far = 12  -- far
+numberOf State = 13  -- state
+numberOf Busy = 14  -- busy
+numberOf Whole = 15  -- whole
+numberOf Unasked = 16  -- unasked
+numberOf Status = 17  -- status
+numberOf Channel = 18  -- channel
+numberOf Entries = 20  -- entries
+
+-- the refusal of a number of the table
+unfoldable pub refusalOf : ℕ → Refusal
+refusalOf n =
+    pick (eqb n 1) More
+    (pick (eqb n 2) MsgType
+    (pick (eqb n 3) Long
+    (pick (eqb n 4) Length
+    (pick (eqb n 5) Sum
+    (pick (eqb n 6) Field
+    (pick (eqb n 8) Room
+    (pick (eqb n 9) Place
+    (pick (eqb n 10) Range
+    (pick (eqb n 11) Repeat
+    (pick (eqb n 12) Far
+    (pick (eqb n 13) State
+    (pick (eqb n 14) Busy
+    (pick (eqb n 15) Whole
+    (pick (eqb n 16) Unasked
+    (pick (eqb n 17) Status
+    (pick (eqb n 18) Channel
+    Entries))))))))))))))))
+
+pub refusal-back : (w : Refusal) → refusalOf (numberOf w) ≡ w
+unfolding refusalOf
+refusal-back More = refl
+refusal-back MsgType = refl
+refusal-back Long = refl
+refusal-back Length = refl
+refusal-back Sum = refl
+refusal-back Field = refl
+refusal-back Room = refl
+refusal-back Place = refl
+refusal-back Range = refl
+refusal-back Repeat = refl
+refusal-back Far = refl
+refusal-back State = refl
+refusal-back Busy = refl
+refusal-back Whole = refl
+refusal-back Unasked = refl
+refusal-back Status = refl
+refusal-back Channel = refl
+refusal-back Entries = refl
+
+-- two refusals of one number are one
+pub refusal-one : (v w : Refusal) → numberOf v ≡ numberOf w → v ≡ w
+refusal-one v w e = sym (refusal-back v) ∙ ap refusalOf e ∙ refusal-back w
