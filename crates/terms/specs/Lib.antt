@@ -1,4 +1,6 @@
 pub mod Paper
+pub mod Cases
 pub mod Counters
 pub mod Refusals
 pub mod OneAnswer
+pub mod OneBuffer

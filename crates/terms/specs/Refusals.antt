@@ -1,8 +1,11 @@
 -- Document 01, "What each number says": the number of each refusal, a row a line.
 use Prim.Native.Nat.{ℕ}
 use mathlib.Core.Path.{_≡_, refl, sym, ap, _∙_}
+use mathlib.Core.Bool.{false}
+use mathlib.Core.List.{List}
 use lib.Dec.{eqb}
-use Rattle.terms.specs.Paper.{pick}
+use borrow.Author.Tests.{eqb-false}
+use Rattle.terms.specs.Paper.{Paper, refusal, pick}
 use Rattle.terms.specs.declared.Refusal.{Refusal}
 use Rattle.terms.specs.declared.Refusal.the-variants.{More, MsgType, Long, Length, Sum, Field, Room, Place, Range, Repeat, Far, State, Busy, Whole, Unasked, Status, Channel, Entries}
 
@@ -72,3 +75,35 @@ refusal-back Entries = refl
 -- two refusals of one number are one
 pub refusal-one : (v w : Refusal) → numberOf v ≡ numberOf w → v ≡ w
 refusal-one v w e = sym (refusal-back v) ∙ ap refusalOf e ∙ refusal-back w
+
+-- no refusal is 0
+pub refusal-not-0 : (w : Refusal) → eqb (numberOf w) 0 ≡ false
+refusal-not-0 More = refl
+refusal-not-0 MsgType = refl
+refusal-not-0 Long = refl
+refusal-not-0 Length = refl
+refusal-not-0 Sum = refl
+refusal-not-0 Field = refl
+refusal-not-0 Room = refl
+refusal-not-0 Place = refl
+refusal-not-0 Range = refl
+refusal-not-0 Repeat = refl
+refusal-not-0 Far = refl
+refusal-not-0 State = refl
+refusal-not-0 Busy = refl
+refusal-not-0 Whole = refl
+refusal-not-0 Unasked = refl
+refusal-not-0 Status = refl
+refusal-not-0 Channel = refl
+refusal-not-0 Entries = refl
+
+-- an answer told from its paper: by its values where it is 0, else by its number
+unfoldable pub told : {A : Type 0} → (List ℕ → A) → (Refusal → A) → Paper → A
+told done refused p = pick (eqb (p .number) 0) (done (p .values)) (refused (refusalOf (p .number)))
+
+pub told-refused : {A : Type 0} (done : List ℕ → A) (refused : Refusal → A) (w : Refusal) → told done refused (refusal (numberOf w)) ≡ refused w
+unfolding told
+told-refused done refused w = rw (refusal-not-0 w, refusal-back w)
+
+pub refusal-pos : (w : Refusal) → numberOf w ≡ 0 → ⊥
+refusal-pos w = eqb-false (numberOf w) 0 (refusal-not-0 w)
