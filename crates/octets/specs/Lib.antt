@@ -1,0 +1,5 @@
+pub mod Octets
+pub mod Numerals
+pub mod Overlays
+pub mod Sums
+pub mod Papers
