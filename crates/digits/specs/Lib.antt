@@ -1,0 +1,4 @@
+pub mod Digits
+pub mod Widths
+pub mod Laws
+pub mod Texts
