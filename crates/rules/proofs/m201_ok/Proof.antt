@@ -1,0 +1,49 @@
+-- `m201_ok`: each field is the number that the definition reads, so the tests are the same. Assumes nothing.
+use Rattle.rules.specs.Fields.{m201Ok}
+use borrow.Author.Needs.{needs}
+use Rattle.rules.proofs.m201_ok.Statement.{statement}
+use Rattle.rules.proofs.m201_ok.Tie as tie
+use Rattle.rules.proofs.m201_ok.Reads as reads
+use Rattle.rules.proofs.m201_ok.Lts as lts
+use Rattle.octets.proofs.u16_at.Reads as u16-at-reads
+use Rattle.octets.proofs.u32_at.Reads as u32-at-reads
+use Rattle.octets.proofs.u64_at.Reads as u64-at-reads
+use Rattle.octets.proofs.u8_at.Reads as u8-at-reads
+
+u8-at-requires : tie.Need-u8-at-requires
+u8-at-requires c κs = search needs
+
+u16-at-requires : tie.Need-u16-at-requires
+u16-at-requires c κs = search needs
+
+u64-at-requires : tie.Need-u64-at-requires
+u64-at-requires c κs = search needs
+
+u32-at-requires : tie.Need-u32-at-requires
+u32-at-requires c κs = search needs
+
+u8-at-requires-2 : tie.Need-u8-at-requires-2
+u8-at-requires-2 c κs = search needs
+
+u64-at-requires-2 : tie.Need-u64-at-requires-2
+u64-at-requires-2 c κs = search needs
+
+u64-at-requires-3 : tie.Need-u64-at-requires-3
+u64-at-requires-3 c κs = search needs
+
+returns : tie.Need-returns
+unfolding m201Ok
+returns c = cc
+
+pub m201-ok-spec : {M : Type 1} → statement M
+m201-ok-spec =
+    tie.close
+    (tie.spec
+    u8-at-requires
+    u16-at-requires
+    u64-at-requires
+    u32-at-requires
+    u8-at-requires-2
+    u64-at-requires-2
+    u64-at-requires-3
+    returns)

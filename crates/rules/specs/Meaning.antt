@@ -1,0 +1,332 @@
+-- The tests say the rules: each definition that a promise cites holds exactly when document 01's words do.
+use Prim.Native.Nat.{ℕ, zero, suc, _+_, _*_, _<_, _≤_, _^_}
+use mathlib.Core.Path.{_≡_, refl, sym, ap, _∙_}
+use mathlib.Core.Bool.{Bool, true, false, _&&_, _||_}
+use mathlib.Core.Logic.{_⊎_, inl, inr, ⊎-elim}
+use mathlib.Core.List.{List}
+use native.Mathlib.Omega.{arith}
+use native.Mathlib.Nat.{eq-or-lt-of-le, le-of-suc-le-suc, not-suc-le-zero}
+use lib.Dec.{ltb, leb, eqb}
+use lib.ListN.{length}
+use borrow.Author.Tests.{eq-eqb, ne-eqb, eqb-true}
+use Rattle.octets.specs.Octets.{be}
+use Rattle.terms.specs.Paper.{pick}
+use Rattle.terms.specs.Cases.{two, same, clash}
+use Rattle.rules.specs.declared.Kind.{Kind}
+use Rattle.rules.specs.declared.Kind.the-variants.{S001, S002, S003, P001, P002, M101, M102, M201, Unknown}
+use Rattle.rules.specs.Table.{kindOf, known, suits}
+use Rattle.rules.specs.Fields.{s001Ok, s002Ok, p001Ok, p002Ok, m201Ok, pairOk, m102ValuesOk, entrySize, entryOk, entriesOk, m102Ok, fieldsOk}
+use Rattle.rules.specs.Rules.{TypeRule, LengthRule, S001Rules, S002Rules, P001Rules, P002Rules, Pair, pair-1, pair-2, pair-3-MD101, pair-3-MD102, pair-12, pair-13, pair-14, EntrySize, short, long, EntryRules, M102Rules, M201Rules, NoRules, FieldRules}
+use Rattle.rules.specs.Says.{Says, says-lt, says-le, says-eq, says-and, says-or, says-as}
+
+-- LENGTHS
+
+pub length-says : (k : Kind) (n : ℕ) → Says (suits k n) (LengthRule k n)
+unfolding suits
+length-says S001 n = says-eq n 74
+length-says S002 n = says-eq n 260
+length-says S003 n = says-eq n 0
+length-says P001 n = says-eq n 12
+length-says P002 n = says-eq n 52
+length-says M101 n = (λ h. refl, λ h. refl)
+length-says M102 n = says-le 73 n
+length-says M201 n = says-le 45 n
+length-says Unknown n = (λ h. let z : _≡_ {A = ℕ} 0 1 = cc in absurd (omega arith), λ h. absurd h)
+
+-- FIELDS
+
+s001-says : (b : List ℕ) → Says (s001Ok b) (S001Rules b)
+unfolding s001Ok
+s001-says b = says-as (says-lt 0 (be 2 64 b)) (λ h. record { heart-bt-int = h }) (λ r. r .heart-bt-int)
+
+s002-says : (b : List ℕ) → Says (s002Ok b) (S002Rules b)
+unfolding s002Ok
+s002-says b = says-as (says-le (be 4 0 b) 9999) (λ h. record { session-status = h }) (λ r. r .session-status)
+
+p001-says : (b : List ℕ) → Says (p001Ok b) (P001Rules b)
+unfolding p001Ok
+p001-says b =
+    says-as
+    (says-and
+    (says-and (says-and (says-eq (be 1 0 b) 13) (says-lt (be 2 1 b) (10 ^ 4))) (says-lt (be 8 3 b) (10 ^ 18)))
+    (says-or (says-eq (be 1 11 b) 0x59) (says-eq (be 1 11 b) 0x4E)))
+    (λ h. record { security-type = h .0 .0 .0; channel-no = h .0 .0 .1; appl-last-seq-num = h .0 .1; end-of-channel = h .1 })
+    (λ r. (((r .security-type, r .channel-no), r .appl-last-seq-num), r .end-of-channel))
+
+-- "in a request [..]": no request, or the end is 0, or it is not below the start
+request-to : (status first last : ℕ) → ((0 < status) ⊎ (last ≡ 0)) ⊎ (first ≤ last) → status ≡ 0 → (last ≡ 0) ⊎ (first ≤ last)
+request-to status first last h e =
+    ⊎-elim (λ (g : (0 < status) ⊎ (last ≡ 0)). ⊎-elim (λ (p : 0 < status). absurd (omega arith)) (λ (q : last ≡ 0). inl q) g) (λ (l : first ≤ last). inr l) h
+
+request-from : (status first last : ℕ) → (status ≡ 0 → (last ≡ 0) ⊎ (first ≤ last)) → ((0 < status) ⊎ (last ≡ 0)) ⊎ (first ≤ last)
+request-from status first last r =
+    ⊎-elim (λ (e : status ≡ 0). ⊎-elim (λ (q : last ≡ 0). inl (inr q)) (λ (l : first ≤ last). inr l) (r e))
+    (λ (ne : status ≡ 0 → ⊥). inl (inl (omega arith)))
+    (same status 0)
+
+p002-says : (b : List ℕ) → Says (p002Ok b) (P002Rules b)
+unfolding p002Ok
+p002-says b =
+    says-as
+    (says-and
+    (says-and
+    (says-and
+    (says-and (says-and (says-and (says-lt (be 2 0 b) (10 ^ 4)) (says-eq (be 1 2 b) 1)) (says-lt 0 (be 8 3 b))) (says-lt (be 8 3 b) (10 ^ 18)))
+    (says-lt (be 8 11 b) (10 ^ 18)))
+    (says-or (says-le (be 1 19 b) 5) (says-eq (be 1 19 b) 99)))
+    (says-or (says-or (says-lt 0 (be 1 19 b)) (says-eq (be 8 11 b) 0)) (says-le (be 8 3 b) (be 8 11 b))))
+    (λ h.
+    record {
+      channel-no = h .0 .0 .0 .0 .0 .0;
+      resend-type = h .0 .0 .0 .0 .0 .1;
+      appl-beg-seq-num = h .0 .0 .0 .0 .1;
+      appl-beg-digits = h .0 .0 .0 .1;
+      appl-end-digits = h .0 .0 .1;
+      resend-status = h .0 .1;
+      request = request-to (be 1 19 b) (be 8 3 b) (be 8 11 b) (h .1);
+    })
+    (λ r. (
+      (((((r .channel-no, r .resend-type), r .appl-beg-seq-num), r .appl-beg-digits), r .appl-end-digits), r .resend-status),
+      request-from (be 1 19 b) (be 8 3 b) (be 8 11 b) (r .request),
+    ))
+
+m201-says : (b : List ℕ) → Says (m201Ok b) (M201Rules b)
+unfolding m201Ok
+m201-says b =
+    says-as
+    (says-and
+    (says-and
+    (says-and
+    (says-and
+    (says-and (says-and (says-and (says-eq (be 1 0 b) 13) (says-lt (be 2 1 b) (10 ^ 4))) (says-lt 0 (be 8 3 b))) (says-lt (be 8 3 b) (10 ^ 18)))
+    (says-lt (be 4 24 b) (10 ^ 9)))
+    (says-or (says-or (says-eq (be 1 28 b) 0x30) (says-eq (be 1 28 b) 0x34)) (says-eq (be 1 28 b) 0x46)))
+    (says-lt (be 8 29 b) (10 ^ 13)))
+    (says-lt (be 8 37 b) (10 ^ 15)))
+    (λ h.
+    record {
+      security-type = h .0 .0 .0 .0 .0 .0 .0;
+      channel-no = h .0 .0 .0 .0 .0 .0 .1;
+      appl-seq-num = h .0 .0 .0 .0 .0 .1;
+      appl-seq-digits = h .0 .0 .0 .0 .1;
+      transact-time = h .0 .0 .0 .1;
+      exec-type = h .0 .0 .1;
+      price = h .0 .1;
+      order-qty = h .1;
+    })
+    (λ r.
+    (((((((r .security-type, r .channel-no), r .appl-seq-num), r .appl-seq-digits), r .transact-time), r .exec-type), r .price), r .order-qty))
+
+-- M102
+
+abbrev Streams : ℕ → ℕ → Type 0
+Streams t s =
+    ((((((((t ≡ 1) × (0x4D44303031 ≤ s)) × (s ≤ 0x4D44303034))
+    ⊎ ((t ≡ 2) × (s ≡ 0x4D44333031)))
+    ⊎ ((t ≡ 3) × ((s ≡ 0x4D44313031) ⊎ (s ≡ 0x4D44313032))))
+    ⊎ ((t ≡ 12) × (s ≡ 0x4D44323031)))
+    ⊎ ((t ≡ 13) × (s ≡ 0x4D44323130)))
+    ⊎ ((t ≡ 14) × (s ≡ 0x4D44453031)))
+
+pair-3 : (t s : ℕ) → t ≡ 3 → (s ≡ 0x4D44313031) ⊎ (s ≡ 0x4D44313032) → Pair t s
+pair-3 t s h (inl e) = pair-3-MD101 h e
+pair-3 t s h (inr e) = pair-3-MD102 h e
+
+pair-to : (t s : ℕ) → Streams t s → Pair t s
+pair-to t s (inl (inl (inl (inl (inl h))))) = pair-1 (h .0 .0) (h .0 .1) (h .1)
+pair-to t s (inl (inl (inl (inl (inr h))))) = pair-2 (h .0) (h .1)
+pair-to t s (inl (inl (inl (inr h)))) = pair-3 t s (h .0) (h .1)
+pair-to t s (inl (inl (inr h))) = pair-12 (h .0) (h .1)
+pair-to t s (inl (inr h)) = pair-13 (h .0) (h .1)
+pair-to t s (inr h) = pair-14 (h .0) (h .1)
+
+pair-from : (t s : ℕ) → Pair t s → Streams t s
+pair-from t s (pair-1 h a z) = inl (inl (inl (inl (inl ((h, a), z)))))
+pair-from t s (pair-2 h e) = inl (inl (inl (inl (inr (h, e)))))
+pair-from t s (pair-3-MD101 h e) = inl (inl (inl (inr (h, inl e))))
+pair-from t s (pair-3-MD102 h e) = inl (inl (inl (inr (h, inr e))))
+pair-from t s (pair-12 h e) = inl (inl (inr (h, e)))
+pair-from t s (pair-13 h e) = inl (inr (h, e))
+pair-from t s (pair-14 h e) = inr (h, e)
+
+pub pair-says : (t s : ℕ) → Says (pairOk t s) (Pair t s)
+pair-says t s =
+    says-as
+    (says-or
+    (says-or
+    (says-or
+    (says-or
+    (says-or
+    (says-and (says-and (says-eq t 1) (says-le 0x4D44303031 s)) (says-le s 0x4D44303034))
+    (says-and (says-eq t 2) (says-eq s 0x4D44333031)))
+    (says-and (says-eq t 3) (says-or (says-eq s 0x4D44313031) (says-eq s 0x4D44313032))))
+    (says-and (says-eq t 12) (says-eq s 0x4D44323031)))
+    (says-and (says-eq t 13) (says-eq s 0x4D44323130)))
+    (says-and (says-eq t 14) (says-eq s 0x4D44453031)))
+    (pair-to t s)
+    (pair-from t s)
+
+-- the size of a stream's entries
+pub size-is : (s : ℕ) → EntrySize s (entrySize s)
+unfolding entrySize
+size-is s =
+    ⊎-elim (λ (e : s ≡ 0x4D44303031). short e (simp (eq-eqb s 0x4D44303031 e)))
+    (λ (ne : s ≡ 0x4D44303031 → ⊥). long ne (simp (ne-eqb s 0x4D44303031 ne)))
+    (same s 0x4D44303031)
+
+pub size-one : (s v w : ℕ) → EntrySize s v → EntrySize s w → v ≡ w
+size-one s v w (short a x) (short c y) = x ∙ sym y
+size-one s v w (short a x) (long c y) = absurd (c a)
+size-one s v w (long a x) (short c y) = absurd (a c)
+size-one s v w (long a x) (long c y) = x ∙ sym y
+
+-- an entry is short exactly for MD001
+short-to : (s w : ℕ) (P : Type 0) → EntrySize s w → (w ≡ 10) ⊎ P → (s ≡ 0x4D44303031 → ⊥) → P
+short-to s w P z (inr p) ne = p
+short-to s w P (short e x) (inl q) ne = absurd (ne e)
+short-to s w P (long e x) (inl q) ne = absurd (omega arith)
+
+short-from : (s w : ℕ) (P : Type 0) → EntrySize s w → ((s ≡ 0x4D44303031 → ⊥) → P) → (w ≡ 10) ⊎ P
+short-from s w P (short e x) f = inl x
+short-from s w P (long e x) f = inr (f e)
+
+entry-says : (s w at : ℕ) (b : List ℕ) → EntrySize s w → Says (entryOk w at b) (EntryRules s at b)
+unfolding entryOk
+entry-says s w at b z =
+    says-as
+    (says-and (says-lt (be 8 (at + 2) b) (10 ^ 13)) (says-or (says-eq w 10) (says-and (says-lt (be 8 (at + 10) b) (10 ^ 12)) (says-lt (be 1 (at + 18) b) (10 ^ 2)))))
+    (λ h. record { price = h .0; size = λ ne. short-to s w _ z (h .1) ne .0; position = λ ne. short-to s w _ z (h .1) ne .1 })
+    (λ r. (r .price, short-from s w _ z (λ ne. (r .size ne, r .position ne))))
+
+-- each of the first n, where the last is the n-th
+last-or : (P : ℕ → Type 0) (n : ℕ) → ((i : ℕ) → i < n → P i) × P n → (i : ℕ) → i < suc n → P i
+last-or P n h i l = ⊎-elim (λ (e : i ≡ n). rw e (h .1)) (λ (k : i < n). h .0 i k) (eq-or-lt-of-le (le-of-suc-le-suc l))
+
+entries-says : (n s w : ℕ) (b : List ℕ) → EntrySize s w → Says (entriesOk n w b) ((i : ℕ) → i < n → EntryRules s (73 + i * w) b)
+unfolding entriesOk
+entries-says zero s w b z = (λ h i l. absurd (not-suc-le-zero l), λ h. refl)
+entries-says (suc n) s w b z =
+    says-as (says-and (entries-says n s w b z) (entry-says s w (73 + n * w) b z))
+    (last-or (λ (i : ℕ). EntryRules s (73 + i * w) b) n)
+    (λ f. (λ i l. f i (omega arith), f n (omega arith)))
+
+m102-says : (b : List ℕ) → Says (m102Ok b) ((w : ℕ) × M102Rules w b)
+unfolding m102Ok m102ValuesOk
+m102-says b =
+    let w : ℕ = entrySize (be 5 10 b) in
+    let z : EntrySize (be 5 10 b) w = size-is (be 5 10 b) in
+    says-as
+    (says-and
+    (says-and
+    (says-and (pair-says (be 1 0 b) (be 5 10 b))
+    (says-and
+    (says-and
+    (says-and
+    (says-and
+    (says-and (says-and (says-and (says-le 1 (be 1 1 b)) (says-le (be 1 1 b) 3)) (says-lt (be 4 2 b) (10 ^ 8))) (says-lt (be 4 6 b) (10 ^ 9)))
+    (says-lt (be 8 31 b) (10 ^ 13)))
+    (says-lt (be 8 39 b) (10 ^ 16)))
+    (says-lt (be 8 47 b) (10 ^ 16)))
+    (says-lt (be 8 55 b) (10 ^ 16))))
+    (says-eq (length b) (73 + be 2 71 b * w)))
+    (entries-says (be 2 71 b) (be 5 10 b) w b z))
+    (λ h. (
+      w,
+      record {
+        trad-ses-mode-low = h .0 .0 .1 .0 .0 .0 .0 .0 .0 .0;
+        trad-ses-mode = h .0 .0 .1 .0 .0 .0 .0 .0 .0 .1;
+        pair = h .0 .0 .0;
+        trade-date = h .0 .0 .1 .0 .0 .0 .0 .0 .1;
+        last-update-time = h .0 .0 .1 .0 .0 .0 .0 .1;
+        pre-close-px = h .0 .0 .1 .0 .0 .0 .1;
+        total-volume-traded = h .0 .0 .1 .0 .0 .1;
+        num-trades = h .0 .0 .1 .0 .1;
+        total-value-traded = h .0 .0 .1 .1;
+        entry-size = z;
+        whole-entries = h .0 .1;
+        entries = h .1;
+      },
+    ))
+    (λ q.
+    let r = rw (size-one (be 5 10 b) (q .0) w (q .1 .entry-size) z) at (q .1) in (
+      (
+        (
+          r .pair,
+          (((((((r .trad-ses-mode-low, r .trad-ses-mode), r .trade-date), r .last-update-time), r .pre-close-px), r .total-volume-traded), r .num-trades), r .total-value-traded),
+        ),
+        r .whole-entries,
+      ),
+      r .entries,
+    ))
+
+pub fields-say : (k : Kind) (b : List ℕ) → Says (fieldsOk k b) (FieldRules k b)
+unfolding fieldsOk
+fields-say S001 b = s001-says b
+fields-say S002 b = s002-says b
+fields-say S003 b = (λ h. record {}, λ h. refl)
+fields-say P001 b = p001-says b
+fields-say P002 b = p002-says b
+fields-say M101 b = (λ h. record {}, λ h. refl)
+fields-say M102 b = m102-says b
+fields-say M201 b = m201-says b
+fields-say Unknown b = (λ h. let z : _≡_ {A = ℕ} 0 1 = cc in absurd (omega arith), λ h. absurd h)
+
+-- TYPES
+
+-- the type of a number is the one whose row it is, and none has two
+pub type-is : (k : Kind) (t : ℕ) → TypeRule k t → kindOf t ≡ k
+unfolding kindOf
+type-is S001 t e = rw e
+type-is S002 t e = rw e
+type-is S003 t e = rw e
+type-is P001 t e = rw e
+type-is P002 t e = rw e
+type-is M101 t e = rw e
+type-is M102 t e = rw e
+type-is M201 t e = rw e
+type-is Unknown t e = absurd e
+
+pub type-known : (k : Kind) (t : ℕ) → TypeRule k t → known k ≡ true
+type-known S001 t e = refl
+type-known S002 t e = refl
+type-known S003 t e = refl
+type-known P001 t e = refl
+type-known P002 t e = refl
+type-known M101 t e = refl
+type-known M102 t e = refl
+type-known M201 t e = refl
+type-known Unknown t e = absurd e
+
+-- a row of the table is met, or the rows below it decide
+row-or : (P : Kind → Type 0) (t x : ℕ) (k rest : Kind) → (t ≡ x → P k) → P rest → P (pick (eqb t x) k rest)
+row-or P t x k rest yes-row below =
+    ⊎-elim (λ (h : eqb t x ≡ true). rw h (yes-row (eqb-true t x h))) (λ (h : eqb t x ≡ false). rw h below) (two (eqb t x))
+
+abbrev pub Rowed : ℕ → Kind → Type 0
+Rowed t k = known k ≡ true → TypeRule k t
+
+-- the type of a number, if it is in the table, has the number's row
+pub rowed : (t : ℕ) → Rowed t (kindOf t)
+unfolding kindOf
+rowed t =
+    row-or (Rowed t) t 0x53303031 S001 _ (λ e h. e)
+    (row-or (Rowed t) t 0x53303032 S002 _ (λ e h. e)
+    (row-or (Rowed t) t 0x53303033 S003 _ (λ e h. e)
+    (row-or (Rowed t) t 0x50303031 P001 _ (λ e h. e)
+    (row-or (Rowed t) t 0x50303032 P002 _ (λ e h. e)
+    (row-or (Rowed t) t 0x4D313031 M101 _ (λ e h. e)
+    (row-or (Rowed t) t 0x4D313032 M102 _ (λ e h. e)
+    (row-or (Rowed t) t 0x4D323031 M201 _ (λ e h. e)
+    (λ h. let z : _≡_ {A = ℕ} 0 1 = cc in absurd (omega arith)))))))))
+
+-- a type is in the table exactly where some row has it
+pub type-says : (t : ℕ) → Says (known (kindOf t)) ((k : Kind) × TypeRule k t)
+type-says t = (λ h. (kindOf t, rowed t h), λ q. rw (type-is (q .0) t (q .1)) (type-known (q .0) t (q .1)))
+
+-- NOT SO: a test fails exactly where its fact does not hold
+
+pub denied : {b : Bool} {P : Type 0} → Says b P → (P → ⊥) → b ≡ false
+denied {b} s n = ⊎-elim (λ (t : b ≡ true). absurd (n (s .0 t))) (λ (f : b ≡ false). f) (two b)
+
+pub unsaid : {b : Bool} {P : Type 0} → Says b P → b ≡ false → P → ⊥
+unsaid s f p = clash (s .1 p) f
