@@ -1,0 +1,26 @@
+-- `blank`: each field is the one that the definition has. Assumes nothing.
+use borrow.Author.Needs.{needs}
+use Rattle.frame.proofs.blank.Statement.{statement}
+use Rattle.frame.proofs.blank.Tie as tie
+use Rattle.frame.proofs.blank.Reads as reads
+use Rattle.frame.proofs.blank.Lts as lts
+use Rattle.terms.proofs.ChannelNumber.new.Reads as ChannelNumber-new-reads
+use Rattle.terms.proofs.TickNumber.new.Reads as TickNumber-new-reads
+
+new-requires : tie.Need-new-requires
+new-requires c κs = search needs
+
+new-requires-2 : tie.Need-new-requires-2
+new-requires-2 c κs = search needs
+
+new-requires-3 : tie.Need-new-requires-3
+new-requires-3 c κs = search needs
+
+new-requires-4 : tie.Need-new-requires-4
+new-requires-4 c κs = search needs
+
+returns : tie.Need-returns
+returns c = cc
+
+pub blank-spec : {M : Type 1} → statement M
+blank-spec = tie.close (tie.spec new-requires new-requires-2 new-requires-3 new-requires-4 returns)

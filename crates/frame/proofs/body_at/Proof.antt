@@ -1,0 +1,94 @@
+-- `body_at`: the paper of a frame that reads tells its length, and that its body lies within the bytes. Assumes nothing.
+use native.Mathlib.Omega.{arith}
+use Rattle.frame.specs.Places.{part-body, body-of, body-none, inside-at}
+use Rattle.frame.specs.Outcomes.{Good, good, read-done, read-length}
+use Rattle.frame.specs.Papers.{readPaper}
+use Rattle.frame.specs.Frame.{bodyLength, readOf}
+use Rattle.terms.specs.Refusals.{refusal-pos}
+use Rattle.terms.specs.Paper.{Paper, answer}
+use lib.ListN.{length, drop}
+use mathlib.Core.List.{List, [], _∷_}
+use Prim.Native.Nat.{ℕ, _+_, _≤_}
+use mathlib.Core.Path.{_≡_, refl, sym, ap, _∙_}
+use borrow.Author.Needs.{needs}
+use Rattle.frame.proofs.body_at.Statement.{statement}
+use Rattle.frame.proofs.body_at.Tie as tie
+use Rattle.frame.proofs.body_at.Reads as reads
+use Rattle.frame.proofs.body_at.Lts as lts
+use Rattle.frame.proofs.read_at.Reads as read-at-reads
+
+abbrev start : tie.After-read-at → tie.Start
+start c = c .before .before
+
+abbrev text : tie.After-read-at → List ℕ
+text c = drop (start c .args .at) (start c .args .bytes .now)
+
+-- in the arm of a frame: its paper, that it reads, and its length
+paper : (c : tie.After-body-len) → answer 0 (c .body-len .given .0 .0 ∷ c .body-len .given .0 .1 .0 ∷ c .body-len .given .0 .1 .1 .0 .0 ∷ c .body-len .given .0 .1 .1 .1 .0 ∷ []) ≡ readOf (text (c .before .before))
+paper c = sym (ap readPaper (c .body-len .given .1)) ∙ c .before .before .read-at .ensures
+
+done : (c : tie.After-body-len) → readOf (text (c .before .before)) .number ≡ 0
+done c = read-done _ _ _ _ _ (paper c)
+
+len-is : (c : tie.After-body-len) → c .body-len .given .0 .1 .1 .1 .0 ≡ bodyLength (text (c .before .before))
+len-is c = read-length _ _ _ _ _ (paper c)
+
+inside : (c : tie.After-body-len) → start (c .before .before) .args .at + (28 + c .body-len .given .0 .1 .1 .1 .0) ≤ length (start (c .before .before) .args .bytes .now)
+inside c = let s = start (c .before .before) in inside-at (s .args .at) (s .args .bytes .now) (c .body-len .given .0 .1 .1 .1 .0) (len-is c) (good _ (done c) .whole .there)
+
+read-at-requires : tie.Need-read-at-requires
+read-at-requires c κs = search needs
+
+enum-told : tie.Need-enum-told
+enum-told c = search needs
+
+sub-result : tie.Need-sub-result
+sub-result c = search needs
+
+part-result-start : tie.Need-part-result-start
+part-result-start c = search needs
+
+part-result-end : tie.Need-part-result-end
+part-result-end c = search needs
+
+enum-known-body-len : tie.Need-enum-known-body-len
+enum-known-body-len c = search needs
+
+add-first : tie.Need-add-first
+add-first c = omega (arith, inside (c .before))
+
+add-behind : tie.Need-add-behind
+add-behind c = omega (arith, inside (c .before))
+
+sub-result-2 : tie.Need-sub-result-2
+sub-result-2 c = search needs
+
+part-result-start-2 : tie.Need-part-result-start-2
+part-result-start-2 c = search needs
+
+part-result-end-2 : tie.Need-part-result-end-2
+part-result-end-2 c = omega (arith, inside (c .before))
+
+returns : tie.Need-returns
+returns c = sym (body-none _ (λ (z : readOf (text (c .before .before .before)) .number ≡ 0). refusal-pos (c .before .enum-told .given .0 .0) (ap (λ (p : Paper). p .number) (sym (ap readPaper (c .before .enum-told .given .1)) ∙ c .before .before .before .read-at .ensures) ∙ z)))
+
+returns-2 : tie.Need-returns-2
+returns-2 c = let s = start (c .before .before .before .before) in part-body (s .args .at) (s .args .bytes .now) _ (len-is (c .before .before)) ∙ sym (body-of _ (done (c .before .before)))
+
+pub body-at-spec : {M : Type 1} → statement M
+body-at-spec =
+    tie.close
+    (tie.spec
+    read-at-requires
+    enum-told
+    sub-result
+    part-result-start
+    part-result-end
+    enum-known-body-len
+    add-first
+    add-behind
+    sub-result-2
+    part-result-start-2
+    part-result-end-2
+    returns
+    returns-2)

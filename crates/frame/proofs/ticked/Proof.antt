@@ -1,0 +1,43 @@
+-- `ticked`: each field is the one that the definition has. Assumes nothing.
+use borrow.Author.Needs.{needs}
+use Rattle.frame.proofs.ticked.Statement.{statement}
+use Rattle.frame.proofs.ticked.Tie as tie
+use Rattle.frame.proofs.ticked.Reads as reads
+use Rattle.frame.proofs.ticked.Lts as lts
+use Rattle.octets.proofs.u16_at.Reads as u16-at-reads
+use Rattle.octets.proofs.u64_at.Reads as u64-at-reads
+use Rattle.terms.proofs.ChannelNumber.new.Reads as ChannelNumber-new-reads
+use Rattle.terms.proofs.TickNumber.new.Reads as TickNumber-new-reads
+
+u16-at-requires : tie.Need-u16-at-requires
+u16-at-requires c κs = search needs
+
+new-requires : tie.Need-new-requires
+new-requires c κs = search needs
+
+u64-at-requires : tie.Need-u64-at-requires
+u64-at-requires c κs = search needs
+
+new-requires-2 : tie.Need-new-requires-2
+new-requires-2 c κs = search needs
+
+new-requires-3 : tie.Need-new-requires-3
+new-requires-3 c κs = search needs
+
+new-requires-4 : tie.Need-new-requires-4
+new-requires-4 c κs = search needs
+
+returns : tie.Need-returns
+returns c = cc
+
+pub ticked-spec : {M : Type 1} → statement M
+ticked-spec =
+    tie.close
+    (tie.spec
+    u16-at-requires
+    new-requires
+    u64-at-requires
+    new-requires-2
+    new-requires-3
+    new-requires-4
+    returns)

@@ -1,0 +1,25 @@
+-- What an accepted frame's body tells the layers above: its counters, and a resend's status. Nothing private.
+use Prim.Native.Nat.{ℕ}
+use mathlib.Core.List.{List}
+use Rattle.octets.specs.Octets.{be}
+use Rattle.terms.specs.Counters.{tickOf, channelOf}
+use Rattle.rules.specs.declared.Kind.{Kind}
+use Rattle.rules.specs.declared.Kind.the-variants.{S001, S002, S003, P001, P002, M101, M102, M201, Unknown}
+use Rattle.frame.specs.declared.View.{View}
+
+-- kind, channel, tick number, first and last resend number, resend status
+abbrev pub viewed : Kind → ℕ → ℕ → ℕ → ℕ → ℕ → View
+viewed k channel tick first last status =
+    record { kind = k; channel = channelOf channel; tick = tickOf tick; first = tickOf first; last = tickOf last; status = status }
+
+-- "The tick number is that of M201, ApplLastSeqNum for P001, ApplBegSeqNum for P002, else 0. Channel is 0 for types without one."
+unfoldable pub viewOf : Kind → List ℕ → View
+viewOf S001 b = viewed S001 0 0 0 0 0
+viewOf S002 b = viewed S002 0 0 0 0 0
+viewOf S003 b = viewed S003 0 0 0 0 0
+viewOf P001 b = viewed P001 (be 2 1 b) (be 8 3 b) 0 0 0
+viewOf P002 b = viewed P002 (be 2 0 b) (be 8 3 b) (be 8 3 b) (be 8 11 b) (be 1 19 b)
+viewOf M101 b = viewed M101 0 0 0 0 0
+viewOf M102 b = viewed M102 0 0 0 0 0
+viewOf M201 b = viewed M201 (be 2 1 b) (be 8 3 b) 0 0 0
+viewOf Unknown b = viewed Unknown 0 0 0 0 0
