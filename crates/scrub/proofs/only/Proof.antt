@@ -1,0 +1,27 @@
+-- `only`: span 0, or behind it. Assumes nothing.
+use Rattle.scrub.specs.Private.{spaces}
+use mathlib.Core.List.{[], _∷_}
+use native.Mathlib.Omega.{arith}
+use Rattle.scrub.specs.Spans.{span-first, span-past}
+use mathlib.Core.Path.{_≡_, refl, sym, ap, _∙_}
+use borrow.Author.Needs.{needs}
+use Rattle.scrub.proofs.only.Statement.{statement}
+use Rattle.scrub.proofs.only.Tie as tie
+use Rattle.scrub.proofs.only.Reads as reads
+use Rattle.scrub.proofs.only.Lts as lts
+use Rattle.scrub.proofs.spaces_at.Reads as spaces-at-reads
+
+spaces-at-requires : tie.Need-spaces-at-requires
+spaces-at-requires c κs = search needs
+
+returns : tie.Need-returns
+returns c = let a = c .before .before .args in c .spaces-at .ensures ∙ span-first (a .i) (spaces (a .place) (a .len)) [] (c .before .if1 .taken)
+
+spaces-at-requires-2 : tie.Need-spaces-at-requires-2
+spaces-at-requires-2 c κs = search needs
+
+returns-2 : tie.Need-returns-2
+returns-2 c = let a = c .before .before .args in c .spaces-at2 .ensures ∙ span-past (a .i) (spaces (a .place) (a .len) ∷ []) (omega arith)
+
+pub only-spec : {M : Type 1} → statement M
+only-spec = tie.close (tie.spec spaces-at-requires returns spaces-at-requires-2 returns-2)

@@ -1,0 +1,76 @@
+-- `paint_all`. The invariant: the body is painted with the first i spans, and the rest of the buffer is as it was. The
+-- measure is what is left of the spans. Assumes nothing.
+use native.Mathlib.Omega.{arith}
+use borrow.Author.Needs.{needs}
+use Rattle.scrub.specs.Spans.{start, now-long, span-fits, one-more, all-spans}
+use Rattle.scrub.specs.Within.{bodyIn}
+use Rattle.scrub.specs.Scrub.{painted}
+use Rattle.scrub.specs.Private.{privateOf}
+use Rattle.octets.specs.Octets.{laid}
+use lib.ListN.{length, take}
+use mathlib.Core.List.{List}
+use Prim.Native.Nat.{ℕ, _+_, _-_, _≤_}
+use mathlib.Core.Path.{_≡_, refl, sym, ap, _∙_}
+use Rattle.scrub.proofs.paint_all.Statement.{statement}
+use Rattle.scrub.proofs.paint_all.Tie as tie
+use Rattle.scrub.proofs.paint_all.Reads as reads
+use Rattle.scrub.proofs.paint_all.Lts as lts
+use Rattle.scrub.proofs.paint_span.Reads as paint-span-reads
+
+abbrev Inv-loop : tie.InvT-loop
+Inv-loop buf₀ kind n i₀ buf i = (i ≤ 2) × (buf ≡ laid 24 (painted (take i (privateOf kind (bodyIn n buf₀))) (bodyIn n buf₀)) buf₀)
+
+abbrev μ-loop : tie.MeasureT-loop
+μ-loop buf₀ kind n i₀ buf i = 2 - i
+
+loop-holds : tie.Need-loop-holds Inv-loop μ-loop
+loop-holds c = let s = c .before in (omega arith, sym (start (s .args .kind) (s .args .n) (s .args .buf .now) (s .pre .0) (s .pre .1)))
+
+paint-span-requires : tie.Need-paint-span-requires Inv-loop μ-loop
+paint-span-requires c κs =
+    let s = c .before .before .before .before in
+    let l = c .before .before .loop in (
+      omega (arith, now-long (s .args .kind) (s .args .n) (s .args .buf .now) (s .pre .0) (s .pre .1) (l .i) (l .buf) (l .inv .1)),
+      span-fits (s .args .kind) (s .args .n) (s .args .buf .now) (s .pre .0) (s .pre .1) (l .i) (l .buf) (l .inv .1),
+    )
+
+add-i : tie.Need-add-i Inv-loop μ-loop
+add-i c = search needs
+
+loop-less : tie.Need-loop-less Inv-loop μ-loop
+loop-less c = search needs
+
+loop-again : tie.Need-loop-again Inv-loop μ-loop
+loop-again c =
+    let s = c .before .before .before .before .before .before .before in
+    let l = c .before .before .before .before .before .loop in
+    (omega arith, c .before .before .paint-span .ensures ∙ one-more (s .args .kind) (s .args .n) (s .args .buf .now) (s .pre .0) (s .pre .1) (l .i) (l .buf) (l .inv .1))
+
+same-length : tie.Need-same-length Inv-loop μ-loop
+same-length c =
+    let s = c .before .before .before in
+    let l = c .before .loop in
+    now-long (s .args .kind) (s .args .n) (s .args .buf .now) (s .pre .0) (s .pre .1) (l .i) (l .buf) (l .inv .1)
+
+returns : tie.Need-returns Inv-loop μ-loop
+returns c =
+    let s = c .before .before .before in
+    let l = c .before .loop in
+    let e : l .i ≡ 2 = omega arith in
+    l .inv .1
+    ∙ ap (λ (k : ℕ). laid 24 (painted (take k (privateOf (s .args .kind) (bodyIn (s .args .n) (s .args .buf .now)))) (bodyIn (s .args .n) (s .args .buf .now))) (s .args .buf .now)) e
+    ∙ all-spans (s .args .kind) (s .args .n) (s .args .buf .now) (s .pre .0) (s .pre .1)
+
+pub paint-all-spec : {M : Type 1} → statement M
+paint-all-spec =
+    tie.close
+    (tie.spec
+    Inv-loop
+    μ-loop
+    loop-holds
+    paint-span-requires
+    add-i
+    loop-less
+    loop-again
+    same-length
+    returns)

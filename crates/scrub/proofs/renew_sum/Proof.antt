@@ -1,0 +1,39 @@
+-- `renew_sum`: there is room for the four bytes. Assumes nothing.
+use native.Mathlib.Omega.{arith}
+use Rattle.scrub.specs.Scrub.{summed}
+use Rattle.octets.specs.Papers.{laid-there}
+use Rattle.octets.specs.Numerals.{length-digits}
+use borrow.Author.Tests.{le-leb}
+use lib.ListN.{length}
+use Prim.Native.Nat.{_+_}
+use mathlib.Core.Path.{_≡_, refl, sym, ap, _∙_}
+use borrow.Author.Needs.{needs}
+use Rattle.scrub.proofs.renew_sum.Statement.{statement}
+use Rattle.scrub.proofs.renew_sum.Tie as tie
+use Rattle.scrub.proofs.renew_sum.Reads as reads
+use Rattle.scrub.proofs.renew_sum.Lts as lts
+use Rattle.octets.proofs.put.Reads as put-reads
+use Rattle.octets.proofs.sum.Reads as sum-reads
+
+sum-requires : tie.Need-sum-requires
+sum-requires c κs = search needs
+
+cast-put : tie.Need-cast-put
+cast-put c = search needs
+
+put-requires : tie.Need-put-requires
+put-requires c κs = search needs
+
+same-length : tie.Need-same-length
+same-length c = search needs
+
+returns : tie.Need-returns
+unfolding summed
+returns c =
+    let a = c .before .before .before .before .before .before .before .args in
+    c .before .before .put .ensures .1
+    ∙ laid-there (a .n) 4 _ _ (length-digits 256 4 _) (le-leb (a .n + 4) (length (a .buf .now)) (omega arith))
+    ∙ rw (c .before .before .before .before .sum .ensures)
+
+pub renew-sum-spec : {M : Type 1} → statement M
+renew-sum-spec = tie.close (tie.spec sum-requires cast-put put-requires same-length returns)

@@ -1,0 +1,117 @@
+-- `scrub`: reading's refusal is passed on; of a frame that reads, its paper tells the type and the length, and that the
+-- body lies within the buffer and suits the type. Assumes nothing.
+use Rattle.scrub.specs.Scrub.{summed}
+use native.Mathlib.Omega.{arith}
+use Rattle.scrub.specs.Laws.{scrub-as, answer-as, answer-refused, refused-same}
+use Rattle.frame.specs.Measures.{fits}
+use Rattle.frame.specs.Outcomes.{good, read-done, read-values, read-length}
+use Rattle.frame.specs.Papers.{readPaper}
+use Rattle.frame.specs.Frame.{msgType, bodyLength, readOf}
+use Rattle.rules.specs.Table.{kindOf, kind-is, suits}
+use Rattle.terms.specs.Refusals.{numberOf, refusal-pos}
+use Rattle.terms.specs.Paper.{Paper, answer, refusal}
+use lib.ListN.{length, getD}
+use mathlib.Core.List.{List, [], _∷_}
+use mathlib.Core.Bool.{true}
+use Prim.Native.Nat.{ℕ, _+_, _≤_}
+use mathlib.Core.Path.{_≡_, refl, sym, ap, _∙_}
+use borrow.Author.Needs.{needs}
+use Rattle.scrub.proofs.scrub.Statement.{statement}
+use Rattle.scrub.proofs.scrub.Tie as tie
+use Rattle.scrub.proofs.scrub.Reads as reads
+use Rattle.scrub.proofs.scrub.Lts as lts
+use Rattle.frame.proofs.read_at.Reads as read-at-reads
+use Rattle.rules.proofs.kind_of.Reads as kind-of-reads
+use Rattle.scrub.proofs.paint_all.Reads as paint-all-reads
+use Rattle.scrub.proofs.renew_sum.Reads as renew-sum-reads
+
+abbrev text : tie.After-read-at → List ℕ
+text c = c .before .before .before .args .buf .now
+
+-- reading's refusal
+refused : (c : tie.After-why) → refusal (numberOf (c .why .given .0 .0)) ≡ readOf (text (c .before .before))
+refused c = sym (ap readPaper (c .why .given .1)) ∙ c .before .before .read-at .ensures
+
+not-done : (c : tie.After-why) → readOf (text (c .before .before)) .number ≡ 0 → ⊥
+not-done c z = refusal-pos (c .why .given .0 .0) (ap (λ (p : Paper). p .number) (refused c) ∙ z)
+
+-- the paper of a frame that reads: its type and its length
+abbrev len : tie.After-msg-type → ℕ
+len c = c .msg-type .given .0 .1 .1 .1 .0
+
+paper : (c : tie.After-msg-type) → answer 0 (c .msg-type .given .0 .0 ∷ c .msg-type .given .0 .1 .0 ∷ c .msg-type .given .0 .1 .1 .0 .0 ∷ len c ∷ []) ≡ readOf (text (c .before .before))
+paper c = sym (ap readPaper (c .msg-type .given .1)) ∙ c .before .before .read-at .ensures
+
+done : (c : tie.After-msg-type) → readOf (text (c .before .before)) .number ≡ 0
+done c = read-done _ _ _ _ _ (paper c)
+
+len-is : (c : tie.After-msg-type) → len c ≡ bodyLength (text (c .before .before))
+len-is c = read-length _ _ _ _ _ (paper c)
+
+kind : (c : tie.After-kind-of) → c .kind-of .result ≡ kindOf (msgType (text (c .before .before .before .before)))
+kind c =
+    kind-is _ _ (c .kind-of .ensures)
+    ∙ ap (λ (p : Paper). kindOf (getD (p .values) 0 0)) (read-values _ _ _ _ _ (paper (c .before .before)))
+
+inside : (c : tie.After-msg-type) → 28 + len c ≤ length (text (c .before .before))
+inside c = rw (len-is c) (good _ (done c) .whole .there)
+
+suited : (c : tie.After-kind-of) → suits (c .kind-of .result) (len (c .before .before)) ≡ true
+suited c = rw (kind c, len-is (c .before .before)) (fits _ _ (good _ (done (c .before .before)) .whole .measured) .suit)
+
+read-at-requires : tie.Need-read-at-requires
+read-at-requires c κs = search needs
+
+enum-known-why : tie.Need-enum-known-why
+enum-known-why c = search needs
+
+enum-known-msg-type : tie.Need-enum-known-msg-type
+enum-known-msg-type c = search needs
+
+kind-of-requires : tie.Need-kind-of-requires
+kind-of-requires c κs = search needs
+
+paint-all-requires : tie.Need-paint-all-requires
+paint-all-requires c κs = (omega (arith, inside (c .before .before .before)), suited (c .before))
+
+add-renew-sum : tie.Need-add-renew-sum
+add-renew-sum c = omega (arith, inside (c .before .before .before .before .before .before .before))
+
+renew-sum-requires : tie.Need-renew-sum-requires
+renew-sum-requires c κs = omega (arith, inside (c .before .before .before .before .before .before .before))
+
+add-t15 : tie.Need-add-t15
+add-t15 c = omega (arith, inside (c .before .before .before .before .before .before .before .before .before .before))
+
+same-length : tie.Need-same-length
+same-length c = search needs
+
+returns : tie.Need-returns
+returns c = (refused (c .before) ∙ answer-refused _ (not-done (c .before)), sym (refused-same _ (not-done (c .before))))
+
+same-length-2 : tie.Need-same-length-2
+same-length-2 c = search needs
+
+returns-2 : tie.Need-returns-2
+returns-2 c =
+    let m = c .before .before .before .before .before .before .before .before .before .before in (
+      answer-as _ (done m) _ (len-is m),
+      c .before .before .renew-sum .ensures ∙ ap (summed (24 + len m)) (c .before .before .before .before .before .before .paint-all .ensures) ∙ scrub-as _ (done m) _ _ (kind (c .before .before .before .before .before .before .before .before)) (len-is m),
+    )
+
+pub scrub-spec : {M : Type 1} → statement M
+scrub-spec =
+    tie.close
+    (tie.spec
+    read-at-requires
+    enum-known-why
+    enum-known-msg-type
+    kind-of-requires
+    paint-all-requires
+    add-renew-sum
+    renew-sum-requires
+    add-t15
+    same-length
+    returns
+    same-length-2
+    returns-2)

@@ -1,0 +1,8 @@
+pub mod Private
+pub mod Scrub
+pub mod Within
+pub mod Paint
+pub mod PrivateLaws
+pub mod Overlap
+pub mod Spans
+pub mod Laws

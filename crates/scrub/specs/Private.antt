@@ -1,0 +1,29 @@
+-- Which bytes of a body are private: ONE definition, from which the promise, the theorems and docs/PRIVATE.md all speak.
+-- Document 01, "Scrubber".
+use Prim.Native.Nat.{ℕ, _-_}
+use mathlib.Core.List.{List, [], _∷_}
+use lib.ListN.{length, getD}
+use Rattle.rules.specs.declared.Kind.{Kind}
+use Rattle.rules.specs.declared.Kind.the-variants.{S001, S002, S003, P001, P002, M101, M102, M201, Unknown}
+use Rattle.scrub.specs.declared.Span.{Span}
+
+-- len bytes from the offset place on, each replaced by a space (0x20)
+abbrev pub spaces : ℕ → ℕ → Span
+spaces place len = record { place = place; len = len; fill = 0x20 }
+
+-- "spaces (0x20) replace both CompIDs of S001, Text of S002 and RejectText of P002; everything after the 45 fixed bytes of
+-- an M201 body becomes spaces"
+abbrev pub privateOf : Kind → List ℕ → List Span
+privateOf S001 b = spaces 0 32 ∷ spaces 32 32 ∷ []  -- SenderCompID, TargetCompID
+privateOf S002 b = spaces 4 256 ∷ []  -- Text
+privateOf S003 b = []
+privateOf P001 b = []
+privateOf P002 b = spaces 20 32 ∷ []  -- RejectText
+privateOf M101 b = []
+privateOf M102 b = []
+privateOf M201 b = spaces 45 (length b - 45) ∷ []  -- the extension
+privateOf Unknown b = []
+
+-- span number i; from the last on, an empty one
+abbrev pub spanAt : ℕ → List Span → Span
+spanAt i spans = getD spans i (spaces 0 0)

@@ -1,0 +1,146 @@
+// The scrubber: the private fields of a frame painted over where it stands, and its checksum set anew.
+ghost use mathlib.Core.Path.{_≡_};
+ghost use mathlib.Core.Bool.{true};
+ghost use mathlib.Core.List.{[], _∷_};
+ghost use Prim.Native.Nat.{_+_, _-_, _≤_};
+ghost use lib.ListN.{length, take, drop, replicate};
+ghost use Rattle.octets.specs.Octets.{laid};
+ghost use Rattle.octets.specs.Papers.{writtenPaper};
+ghost use Rattle.scrub.specs.Private.{spaces, privateOf, spanAt};
+ghost use Rattle.rules.specs.Table.{suits};
+ghost use Rattle.scrub.specs.Scrub.{painted, summed, scrubAnswer, scrubbed};
+ghost use Rattle.scrub.specs.Within.{bodyIn, spanIn, spanPainted};
+use frame::Read;
+use octets::Written;
+use rules::Kind;
+
+// A private part of a body: where it starts, how many bytes it has, and the byte that replaces each of them.
+pub struct Span {
+    pub place: usize,
+    pub len: usize,
+    pub fill: u8,
+}
+
+// As many spans as a type has at most.
+const SPANS: usize = 2;
+
+fn spaces_at(place: usize, len: usize) -> Span
+    ensures { λ r. ⌜ r ≡ spaces place len ⌝ }
+{
+    Span {
+        place,
+        len,
+        fill: 0x20,
+    }
+}
+
+// The only span of a type, or none behind it.
+fn only(i: usize, place: usize, len: usize) -> Span
+    ensures { λ r. ⌜ r ≡ spanAt i (spaces place len ∷ []) ⌝ }
+{
+    if i == 0 {
+        return spaces_at(place, len);
+    }
+    spaces_at(0, 0)
+}
+
+fn comp_id(i: usize) -> Span
+    ensures { λ r. ⌜ r ≡ spanAt i (spaces 0 32 ∷ spaces 32 32 ∷ []) ⌝ }
+{
+    if i == 0 {
+        return spaces_at(0, 32);
+    }
+    if i == 1 {
+        return spaces_at(32, 32);
+    }
+    spaces_at(0, 0)
+}
+
+// Everything behind the 45 fixed bytes of an M201 body of n bytes.
+fn tail(i: usize, n: usize) -> Span
+    ensures { λ r. ⌜ r ≡ spanAt i (spaces 45 (n - 45) ∷ []) ⌝ }
+{
+    if n < 45 {
+        return only(i, 45, 0);
+    }
+    only(i, 45, n - 45)
+}
+
+// Private span number i of a body, counted from 0; from the last on, an empty one.
+pub fn private_span(kind: Kind, body: &[u8], i: usize) -> Span
+    ensures { λ r. ⌜ r ≡ spanAt i (privateOf kind (now (body .entry))) ⌝ }
+{
+    match kind {
+        Kind::S001 => comp_id(i),
+        Kind::S002 => only(i, 4, 256),
+        Kind::S003 => spaces_at(0, 0),
+        Kind::P001 => spaces_at(0, 0),
+        Kind::P002 => only(i, 20, 32),
+        Kind::M101 => spaces_at(0, 0),
+        Kind::M102 => spaces_at(0, 0),
+        Kind::M201 => tail(i, body.len()),
+        Kind::Unknown => spaces_at(0, 0),
+    }
+}
+
+// Paints the bytes from a up to e: that part of the lent frame is passed on and filled.
+fn paint(buf: &mut [u8], a: usize, e: usize, fill: u8)
+    requires { ⌜ (a ≤ e) × (e ≤ length (now buf)) ⌝ }
+    ensures { λ _. ⌜ now (buf .exit) ≡ laid a (replicate (e - a) fill) (now (buf .entry)) ⌝ }
+{
+    octets::fill(&mut buf[a..e], fill);
+}
+
+// Paints span number i of the body of n bytes that lies behind the 24 header bytes of buf.
+fn paint_span(buf: &mut [u8], kind: Kind, n: usize, i: usize)
+    requires { ⌜ (24 + n ≤ length (now buf)) × (spanIn kind n i (now buf) .place + spanIn kind n i (now buf) .len ≤ n) ⌝ }
+    ensures { λ _. ⌜ now (buf .exit) ≡ spanPainted (spanIn kind n i (now (buf .entry))) (now (buf .entry)) ⌝ }
+{
+    let end = 24 + n;
+    let s = private_span(kind, &buf[24..end], i);
+    let a = 24 + s.place;
+    let e = a + s.len;
+    paint(buf, a, e, s.fill);
+}
+
+// Paints all spans of that body.
+fn paint_all(buf: &mut [u8], kind: Kind, n: usize)
+    requires { ⌜ (24 + n ≤ length (now buf)) × (suits kind n ≡ true) ⌝ }
+    ensures { λ _. ⌜ now (buf .exit) ≡ laid 24 (painted (privateOf kind (bodyIn n (now (buf .entry)))) (bodyIn n (now (buf .entry)))) (now (buf .entry)) ⌝ }
+{
+    let mut i: usize = 0;
+    while i < SPANS {
+        paint_span(buf, kind, n, i);
+        i += 1;
+    }
+}
+
+// Stores the sum of the first n bytes in the four behind them.
+fn renew_sum(buf: &mut [u8], n: usize)
+    requires { ⌜ n + 4 ≤ length (now buf) ⌝ }
+    ensures { λ _. ⌜ now (buf .exit) ≡ summed n (now (buf .entry)) ⌝ }
+{
+    let v = octets::sum(buf, 0, n);
+    octets::put(buf, n, 4, v as u64);
+}
+
+// Scrubs the frame at the front of buf where it stands, and answers how many bytes it has. A refusal of reading is passed
+// on, and the buffer keeps its bytes; so do the bytes behind the frame.
+pub fn scrub(buf: &mut [u8]) -> Written
+    ensures { λ r. ⌜ (writtenPaper r ≡ scrubAnswer (now (buf .entry))) × (now (buf .exit) ≡ scrubbed (now (buf .entry))) ⌝ }
+{
+    match frame::read_at(buf, 0) {
+        Read::Refused(why) => Written::Refused(why),
+        Read::Frame {
+            msg_type,
+            sending_time: _,
+            seq: _,
+            body_len,
+        } => {
+            let kind = rules::kind_of(msg_type);
+            paint_all(buf, kind, body_len);
+            renew_sum(buf, 24 + body_len);
+            Written::Bytes(28 + body_len)
+        }
+    }
+}
