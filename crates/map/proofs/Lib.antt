@@ -1,0 +1,5 @@
+pub mod Digits
+pub mod Laws
+pub mod OneAnswer
+pub mod Ones
+pub mod Words
