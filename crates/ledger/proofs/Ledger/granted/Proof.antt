@@ -1,0 +1,78 @@
+-- The count is the least of the three; first and last stand on the floor. Assumes nothing.
+use mathlib.Core.Path.{_≡_, ap, _∙_, ap₂}
+use mathlib.Core.List.{[], _∷_}
+use Prim.Native.Nat.{ℕ, _+_}
+use borrow.Author.Needs.{needs}
+use Rattle.terms.specs.declared.TickNumber.{TickNumber}
+use Rattle.terms.specs.Counters.{tickOf}
+use Rattle.terms.specs.Paper.{answer}
+use Rattle.ledger.specs.State.{range, bookOf, ledgerOf}
+use Rattle.ledger.specs.Calls.{waiting, asked}
+use Rattle.ledger.proofs.Ledger.granted.Statement.{statement}
+use Rattle.ledger.proofs.Ledger.granted.Tie as tie
+
+value-requires : tie.Need-value-requires
+value-requires c κs = search needs
+
+value-requires-2 : tie.Need-value-requires-2
+value-requires-2 c κs = search needs
+
+sub-known : tie.Need-sub-known
+sub-known c = search needs
+
+first-held-requires : tie.Need-first-held-requires
+first-held-requires c κs = search needs
+
+smaller-requires : tie.Need-smaller-requires
+smaller-requires c κs = search needs
+
+smaller-requires-2 : tie.Need-smaller-requires-2
+smaller-requires-2 c κs = search needs
+
+add-new : tie.Need-add-new
+add-new c = search needs
+
+new-requires : tie.Need-new-requires
+new-requires c κs = search needs
+
+add-new-2 : tie.Need-add-new-2
+add-new-2 c = search needs
+
+new-requires-2 : tie.Need-new-requires-2
+new-requires-2 c κs = search needs
+
+waiting-requires : tie.Need-waiting-requires
+waiting-requires c κs = search needs
+
+first-is : (c : tie.After-new) → c .new .result ≡ tickOf (c .before .before .before .before .before .before .before .args .self .floor .0 + 1)
+first-is c = c .new .ensures ∙ ap (λ (x : ℕ). tickOf (x + 1)) (c .before .before .before .before .before .before .value .ensures)
+
+-- the count is the one of the definition
+last-is : (c : tie.After-new2) → c .new2 .result ≡ tickOf (c .before .before .before .before .before .before .before .before .args .self .floor .0 + asked (bookOf (c .before .before .before .before .before .before .before .before .args .self)))
+unfolding asked bookOf
+last-is c = c .new2 .ensures ∙ ap tickOf (cc)
+
+returns : tie.Need-returns
+returns c =
+    let s = c .before .before .before .before .before .before .before .before .before in
+    let b = bookOf (s .args .self) in (
+      ap₂ (λ (x y : TickNumber). answer 0 (x .0 ∷ y .0 ∷ [])) (first-is (c .before .before)) (last-is (c .before)),
+      c .waiting .ensures ∙ ap₂ (λ (x y : TickNumber). ledgerOf (waiting b (range (x .0) (y .0)))) (first-is (c .before .before)) (last-is (c .before)),
+    )
+
+pub granted-spec : {M : Type 1} → statement M
+granted-spec =
+    tie.close
+    (tie.spec
+    value-requires
+    value-requires-2
+    sub-known
+    first-held-requires
+    smaller-requires
+    smaller-requires-2
+    add-new
+    new-requires
+    add-new-2
+    new-requires-2
+    waiting-requires
+    returns)

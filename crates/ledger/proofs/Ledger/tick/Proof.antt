@@ -1,0 +1,99 @@
+-- The verdict has the call's number. Where it is 0, the checks before it give what a taken tick requires. Assumes nothing.
+use mathlib.Core.Path.{_≡_, sym, ap, _∙_}
+use mathlib.Core.List.{[], _∷_}
+use Prim.Native.Nat.{ℕ, _+_, _≤_, _<_}
+use native.Mathlib.Omega.{arith}
+use borrow.Author.Needs.{needs}
+use lib.Dec.{eqb}
+use Rattle.terms.specs.Paper.{answer, pick}
+use Rattle.terms.specs.Refusals.{numberOf}
+use Rattle.ledger.specs.State.{Book, largest, bookOf, ledgerOf}
+use Rattle.ledger.specs.Calls.{Call, ownNumber, numberTo, valuesOf, done, raised, taken, passes, Tick}
+use Rattle.ledger.specs.Papers.{verdictNumber}
+use Rattle.ledger.proofs.Seam.{judged, done-answer, done-next, refused-answer, refused-next}
+use Rattle.ledger.proofs.Rules.{above-floor}
+use Rattle.ledger.proofs.Numbers.{tick-done}
+use Rattle.ledger.proofs.Ledger.tick.Statement.{statement}
+use Rattle.ledger.proofs.Ledger.tick.Tie as tie
+
+-- the call and its book, seen from behind the checks
+abbrev start : tie.After-checked → tie.Start
+start c = c .before .before .before
+
+abbrev call : tie.After-checked → Call
+call c = Tick (start c .args .channel .0) (start c .args .number .0)
+
+abbrev book : tie.After-checked → Book
+book c = bookOf (start c .args .self)
+
+-- the verdict has the number of the call
+number : (c : tie.After-checked) → verdictNumber (c .checked .result) ≡ numberTo (book c) (call c)
+unfolding ownNumber
+number c =
+    judged (book c) (call c) (c .checked .result) (c .before .«tick-verdict» .result) (c .checked .ensures)
+    (c .before .«tick-verdict» .ensures ∙ ap (λ (x : ℕ). ownNumber (book c) (Tick 0 x)) (c .before .before .value .ensures))
+
+value-requires : tie.Need-value-requires
+value-requires c κs = search needs
+
+tick-verdict-requires : tie.Need-tick-verdict-requires
+tick-verdict-requires c κs = search needs
+
+checked-requires : tie.Need-checked-requires
+checked-requires c κs = search needs
+
+enum-known-verdict : tie.Need-enum-known-verdict
+enum-known-verdict c = search needs
+
+tick-refused-requires : tie.Need-tick-refused-requires
+tick-refused-requires c κs = search needs
+
+enum-told : tie.Need-enum-told
+enum-told c = search needs
+
+taken-requires : tie.Need-taken-requires
+unfolding bookOf
+taken-requires c κs =
+    let k = c .before .before in
+    let s = start k .args in
+    let e : 0 ≡ numberTo (book k) (call k) = sym (ap verdictNumber (c .enum-told .given .1)) ∙ number k in
+    let d = tick-done (book k) (s .channel .0) (s .number .0) (sym e) in
+    let v : k .before .before .value .result ≡ s .number .0 = k .before .before .value .ensures in
+    let lo : s .self .floor .0 < s .number .0 = above-floor (book k) (s .number .0) (d .anew) in
+    let hi : s .number .0 ≤ s .self .floor .0 + 256 = d .near in
+    let top : s .number .0 ≤ largest = d .digits in
+    (omega arith, omega arith, omega arith)
+
+returns : tie.Need-returns
+returns c =
+    let k = c .before .before .before .before in
+    let why = c .before .before .verdict .given .0 .0 in
+    let e : numberOf why ≡ numberTo (book k) (call k) = sym (ap verdictNumber (c .before .before .verdict .given .1)) ∙ number k in
+    let v : k .before .before .value .result ≡ start k .args .number .0 = k .before .before .value .ensures in (
+      c .«tick-refused» .ensures .0 ∙ refused-answer (book k) (call k) why e,
+      c .«tick-refused» .ensures .1 ∙ ap (λ (x : ℕ). ledgerOf (pick (eqb (numberOf why) 12) (raised (book k) x) (book k))) v ∙ ap ledgerOf (refused-next (book k) (call k) why e),
+    )
+
+returns-2 : tie.Need-returns-2
+unfolding valuesOf done bookOf
+returns-2 c =
+    let k = c .before .before .before in
+    let e : 0 ≡ numberTo (book k) (call k) = sym (ap verdictNumber (c .before .enum-told .given .1)) ∙ number k in
+    let v : k .before .before .value .result ≡ start k .args .number .0 = k .before .before .value .ensures in (
+      c .taken .ensures .0 ∙ ap (λ (x : ℕ). answer 0 ((start k .args .self .floor .0 + 1) ∷ passes (book k) x ∷ [])) v ∙ done-answer (book k) (call k) e,
+      c .taken .ensures .1 ∙ ap (λ (x : ℕ). ledgerOf (taken (book k) x)) v ∙ ap ledgerOf (done-next (book k) (call k) e),
+    )
+
+pub tick-spec : {M : Type 1} → statement M
+tick-spec =
+    tie.close
+    (tie.spec
+    value-requires
+    tick-verdict-requires
+    checked-requires
+    enum-known-verdict
+    tick-refused-requires
+    enum-told
+    taken-requires
+    returns
+    returns-2)

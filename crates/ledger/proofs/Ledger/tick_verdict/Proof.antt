@@ -1,0 +1,84 @@
+-- Each return is one check: 10, 10, 11, 11, 12, none. Above the floor, received is held. Assumes nothing.
+use mathlib.Core.Path.{_≡_}
+use mathlib.Core.Bool.{true, false}
+use Prim.Native.Nat.{_+_, _-_, _≤_, _<_}
+use native.Mathlib.Omega.{arith}
+use borrow.Author.Tests.{lt-ltb, le-ltb, le-leb, lt-leb}
+use borrow.Author.Needs.{needs}
+use Rattle.map.specs.Bits.{bitsIn, isSet}
+use Rattle.ledger.specs.State.{bookOf, has}
+use Rattle.ledger.specs.Calls.{ownNumber}
+use Rattle.ledger.proofs.Ledger.tick_verdict.Statement.{statement}
+use Rattle.ledger.proofs.Ledger.tick_verdict.Tie as tie
+
+value-requires : tie.Need-value-requires
+value-requires c κs = search needs
+
+returns : tie.Need-returns
+unfolding ownNumber
+returns c = simp (lt-leb _ _ (c .if1 .taken))
+
+returns-2 : tie.Need-returns-2
+unfolding ownNumber
+returns-2 c = simp (le-leb _ _ (c .before .if1 .left), lt-leb _ _ (c .if2 .taken))
+
+returns-3 : tie.Need-returns-3
+unfolding ownNumber has bookOf
+returns-3 c =
+    let s = c .before .before .before .before .before in
+    let h : s .args .n ≤ s .args .self .floor .0 = omega arith in
+    simp (le-leb _ _ (c .before .before .if1 .left), le-leb _ _ (c .before .if2 .left), le-leb _ _ h)
+
+sub-holds : tie.Need-sub-holds
+sub-holds c = search needs
+
+sub-holds-2 : tie.Need-sub-holds-2
+sub-holds-2 c = search needs
+
+holds-requires : tie.Need-holds-requires
+holds-requires c κs = search needs
+
+returns-4 : tie.Need-returns-4
+unfolding ownNumber has bookOf
+returns-4 c =
+    let s = c .before .before .before .before .before .before .before in
+    let h : s .args .self .floor .0 < s .args .n = omega arith in
+    let e : isSet (bitsIn (s .args .self .map)) (s .args .n - s .args .self .floor .0 - 1) ≡ true = cc in
+    simp (le-leb _ _ (c .before .before .before .before .if1 .left), le-leb _ _ (c .before .before .before .if2 .left), lt-leb _ _ h, e)
+
+sub-if5 : tie.Need-sub-if5
+sub-if5 c = search needs
+
+returns-5 : tie.Need-returns-5
+unfolding ownNumber has bookOf
+returns-5 c =
+    let s = c .before .before .before .before .before .before .before .before in
+    let h : s .args .self .floor .0 < s .args .n = omega arith in
+    let e : isSet (bitsIn (s .args .self .map)) (s .args .n - s .args .self .floor .0 - 1) ≡ false = cc in
+    let g : s .args .self .floor .0 + 256 < s .args .n = omega arith in
+    simp (le-leb _ _ (c .before .before .before .before .before .if1 .left), le-leb _ _ (c .before .before .before .before .if2 .left), lt-leb _ _ h, e, lt-ltb _ _ g)
+
+returns-6 : tie.Need-returns-6
+unfolding ownNumber has bookOf
+returns-6 c =
+    let s = c .before .before .before .before .before .before .before .before in
+    let h : s .args .self .floor .0 < s .args .n = omega arith in
+    let e : isSet (bitsIn (s .args .self .map)) (s .args .n - s .args .self .floor .0 - 1) ≡ false = cc in
+    let g : s .args .n ≤ s .args .self .floor .0 + 256 = omega arith in
+    simp (le-leb _ _ (c .before .before .before .before .before .if1 .left), le-leb _ _ (c .before .before .before .before .if2 .left), lt-leb _ _ h, e, le-ltb _ _ g)
+
+pub tick-verdict-spec : {M : Type 1} → statement M
+tick-verdict-spec =
+    tie.close
+    (tie.spec
+    value-requires
+    returns
+    returns-2
+    returns-3
+    sub-holds
+    sub-holds-2
+    holds-requires
+    returns-4
+    sub-if5
+    returns-5
+    returns-6)

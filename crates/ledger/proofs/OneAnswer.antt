@@ -1,0 +1,81 @@
+-- For each public function: two answers that its promise allows are equal. An answer is told from its paper. Assumes nothing.
+use mathlib.Core.Path.{_≡_, sym, ap, ap₂, _∙_}
+use Prim.Native.Nat.{ℕ}
+use Rattle.terms.specs.OneAnswer.{OneAnswer}
+use Rattle.terms.specs.Paper.{Paper}
+use Rattle.ledger.specs.Papers.{paperOf, countPaper, tick-paper-one, request-paper-one, reply-paper-one, paper-one, count-paper-one}
+use Rattle.ledger.specs.declared.Ledger.{Ledger}
+use Rattle.ledger.specs.declared.Noted.{Noted}
+use Rattle.ledger.specs.declared.Counted.{Counted}
+use Rattle.ledger.specs.declared.TickAnswer.{TickAnswer}
+use Rattle.ledger.specs.declared.RequestAnswer.{RequestAnswer}
+use Rattle.ledger.specs.declared.ReplyAnswer.{ReplyAnswer}
+use Rattle.ledger.specs.declared.Answer.{Answer}
+use Rattle.ledger.proofs.Ledger.opened.Reads as opened
+use Rattle.ledger.proofs.Ledger.opened.Kinds as opened-kinds
+use Rattle.ledger.proofs.Ledger.tick.Reads as tick
+use Rattle.ledger.proofs.Ledger.tick.Kinds as tick-kinds
+use Rattle.ledger.proofs.Ledger.announce.Reads as announce
+use Rattle.ledger.proofs.Ledger.announce.Kinds as announce-kinds
+use Rattle.ledger.proofs.Ledger.request.Reads as request
+use Rattle.ledger.proofs.Ledger.request.Kinds as request-kinds
+use Rattle.ledger.proofs.Ledger.reply.Reads as reply
+use Rattle.ledger.proofs.Ledger.reply.Kinds as reply-kinds
+use Rattle.ledger.proofs.Ledger.missing.Reads as missing
+use Rattle.ledger.proofs.Ledger.missing.Kinds as missing-kinds
+use Rattle.ledger.proofs.Ledger.held.Reads as held
+use Rattle.ledger.proofs.Ledger.held.Kinds as held-kinds
+use Rattle.ledger.proofs.Ledger.channel.Reads as channel
+use Rattle.ledger.proofs.Ledger.channel.Kinds as channel-kinds
+use Rattle.ledger.proofs.Ledger.floor.Reads as floor
+use Rattle.ledger.proofs.Ledger.floor.Kinds as floor-kinds
+use Rattle.ledger.proofs.Ledger.top.Reads as top
+use Rattle.ledger.proofs.Ledger.top.Kinds as top-kinds
+use Rattle.ledger.proofs.Ledger.pending.Reads as pending
+use Rattle.ledger.proofs.Ledger.pending.Kinds as pending-kinds
+
+noted-one : (x y : Noted) {p : Paper} {n : Ledger} → (paperOf (x .answer) ≡ p) × (x .next ≡ n) → (paperOf (y .answer) ≡ p) × (y .next ≡ n) → x ≡ y
+noted-one x y p q =
+    ap₂ (λ (n : Ledger) (a : Answer). record { next = n; answer = a }) (p .1 ∙ sym (q .1)) (paper-one (x .answer) (y .answer) (p .0 ∙ sym (q .0)))
+
+counted-one : (x y : Counted) {p : Paper} {n : Ledger} → (countPaper (x .answer) (x .count) ≡ p) × (x .next ≡ n) → (countPaper (y .answer) (y .count) ≡ p) × (y .next ≡ n) → x ≡ y
+counted-one x y p q =
+    let e = count-paper-one (x .answer) (y .answer) (x .count) (y .count) (p .0 ∙ sym (q .0)) in
+    ap₂ (λ (n : Ledger) (k : ℕ). record { next = n; count = k; answer = x .answer }) (p .1 ∙ sym (q .1)) (e .1)
+    ∙ ap (λ (a : Answer). record { next = y .next; count = y .count; answer = a }) (e .0)
+
+pub Ledger-opened-one-answer : OneAnswer _ opened-kinds.ps opened-kinds.r opened.Post
+Ledger-opened-one-answer κs a x y s t p q = noted-one x y p q
+
+pub Ledger-tick-one-answer : OneAnswer _ tick-kinds.ps tick-kinds.r tick.Post
+Ledger-tick-one-answer κs a x y s t p q =
+    ap₂ (λ (n : Ledger) (a : TickAnswer). record { next = n; answer = a }) (p .1 ∙ sym (q .1)) (tick-paper-one (x .answer) (y .answer) (p .0 ∙ sym (q .0)))
+
+pub Ledger-announce-one-answer : OneAnswer _ announce-kinds.ps announce-kinds.r announce.Post
+Ledger-announce-one-answer κs a x y s t p q = noted-one x y p q
+
+pub Ledger-request-one-answer : OneAnswer _ request-kinds.ps request-kinds.r request.Post
+Ledger-request-one-answer κs a x y s t p q =
+    ap₂ (λ (n : Ledger) (a : RequestAnswer). record { next = n; answer = a }) (p .1 ∙ sym (q .1)) (request-paper-one (x .answer) (y .answer) (p .0 ∙ sym (q .0)))
+
+pub Ledger-reply-one-answer : OneAnswer _ reply-kinds.ps reply-kinds.r reply.Post
+Ledger-reply-one-answer κs a x y s t p q =
+    ap₂ (λ (n : Ledger) (a : ReplyAnswer). record { next = n; answer = a }) (p .1 ∙ sym (q .1)) (reply-paper-one (x .answer) (y .answer) (p .0 ∙ sym (q .0)))
+
+pub Ledger-missing-one-answer : OneAnswer _ missing-kinds.ps missing-kinds.r missing.Post
+Ledger-missing-one-answer κs a x y s t p q = counted-one x y p q
+
+pub Ledger-held-one-answer : OneAnswer _ held-kinds.ps held-kinds.r held.Post
+Ledger-held-one-answer κs a x y s t p q = counted-one x y p q
+
+pub Ledger-channel-one-answer : OneAnswer _ channel-kinds.ps channel-kinds.r channel.Post
+Ledger-channel-one-answer κs a x y s t p q = p ∙ sym q
+
+pub Ledger-floor-one-answer : OneAnswer _ floor-kinds.ps floor-kinds.r floor.Post
+Ledger-floor-one-answer κs a x y s t p q = p ∙ sym q
+
+pub Ledger-top-one-answer : OneAnswer _ top-kinds.ps top-kinds.r top.Post
+Ledger-top-one-answer κs a x y s t p q = p ∙ sym q
+
+pub Ledger-pending-one-answer : OneAnswer _ pending-kinds.ps pending-kinds.r pending.Post
+Ledger-pending-one-answer κs a x y s t p q = p ∙ sym q

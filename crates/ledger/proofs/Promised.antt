@@ -1,0 +1,96 @@
+-- The code's promises are the steps that `trace` uses: a lemma for each call, over the promise that the checker makes of its `ensures`; and so
+-- what the code gives, call by call from opening on, is the row of books and answers that the theorems speak of. Assumes nothing.
+use mathlib.Core.Path.{_≡_, refl, sym, ap, ap₂, _∙_}
+use mathlib.Core.List.{[]}
+use mathlib.Core.Bool.{false}
+use Prim.Native.Nat.{ℕ, _≤_}
+use borrow.Fn.Kinds.{Dens, endedOf, resT}
+use borrow.Author.Tests.{le-ltb}
+use contract.Lifetimes.{Lfts}
+use denote.Triple.Clauses.{AtExit}
+use Rattle.terms.specs.Paper.{Paper, answer}
+use Rattle.map.specs.Bits.{Words}
+use Rattle.ledger.specs.State.{Book, bookOf, ledgerOf}
+use Rattle.ledger.specs.Calls.{Call, Tick, Announce, Request, Reply, Missing, Held, answerTo, nextOf, fresh, openOf}
+use Rattle.ledger.specs.Papers.{tickPaper, requestPaper, replyPaper, paperOf, countPaper}
+use Rattle.ledger.specs.Trace.{Calls, none, _▸_, after, History, start, _▸_⇒_, trace}
+use Rattle.ledger.specs.Words.{answered}
+use Rattle.ledger.specs.declared.Ledger.{Ledger}
+use Rattle.ledger.proofs.Answers.{keeps}
+use Rattle.ledger.proofs.Seam.{book-of, ledger-of}
+use Rattle.ledger.proofs.Agree.{agrees}
+use Rattle.ledger.proofs.Ledger.opened.Reads as opened
+use Rattle.ledger.proofs.Ledger.opened.Kinds as opened-kinds
+use Rattle.ledger.proofs.Ledger.tick.Reads as tick
+use Rattle.ledger.proofs.Ledger.tick.Kinds as tick-kinds
+use Rattle.ledger.proofs.Ledger.held.Reads as held
+use Rattle.ledger.proofs.Ledger.held.Kinds as held-kinds
+use Rattle.ledger.proofs.Ledger.missing.Reads as missing
+use Rattle.ledger.proofs.Ledger.missing.Kinds as missing-kinds
+use Rattle.ledger.proofs.Ledger.reply.Reads as reply
+use Rattle.ledger.proofs.Ledger.reply.Kinds as reply-kinds
+use Rattle.ledger.proofs.Ledger.request.Reads as request
+use Rattle.ledger.proofs.Ledger.request.Kinds as request-kinds
+use Rattle.ledger.proofs.Ledger.announce.Reads as announce
+use Rattle.ledger.proofs.Ledger.announce.Kinds as announce-kinds
+
+-- what a call on the ledger l promises of its answer and of the next ledger
+pub record Promise (l : Ledger) (call : Call) (next : Ledger) (paper : Paper) : Type 0 where
+  pub paper-is : paper ≡ answerTo (bookOf l) call
+  pub next-is : next ≡ ledgerOf (nextOf (bookOf l) call)
+
+pub tick-is-step : (κs : Lfts 0) (a : Dens κs tick-kinds.ps) (x : resT tick-kinds.r κs .Denot) (s : AtExit (endedOf 0 tick-kinds.ps tick-kinds.r) κs)
+    → tick.Post κs a x s → Promise (a .0) (Tick (a .1 .0 .0) (a .1 .1 .0 .0)) (x .next) (tickPaper (x .answer))
+tick-is-step κs a x s p = record { paper-is = p .0; next-is = p .1 }
+
+pub announce-is-step : (κs : Lfts 0) (a : Dens κs announce-kinds.ps) (x : resT announce-kinds.r κs .Denot) (s : AtExit (endedOf 0 announce-kinds.ps announce-kinds.r) κs)
+    → announce.Post κs a x s → Promise (a .0) (Announce (a .1 .0 .0) (a .1 .1 .0 .0)) (x .next) (paperOf (x .answer))
+announce-is-step κs a x s p = record { paper-is = p .0; next-is = p .1 }
+
+pub request-is-step : (κs : Lfts 0) (a : Dens κs request-kinds.ps) (x : resT request-kinds.r κs .Denot) (s : AtExit (endedOf 0 request-kinds.ps request-kinds.r) κs)
+    → request.Post κs a x s → Promise (a .0) (Request (a .1 .0 .0)) (x .next) (requestPaper (x .answer))
+request-is-step κs a x s p = record { paper-is = p .0; next-is = p .1 }
+
+pub reply-is-step : (κs : Lfts 0) (a : Dens κs reply-kinds.ps) (x : resT reply-kinds.r κs .Denot) (s : AtExit (endedOf 0 reply-kinds.ps reply-kinds.r) κs)
+    → reply.Post κs a x s → Promise (a .0) (Reply (a .1 .0 .0) (a .1 .1 .0 .0) (a .1 .1 .1 .0)) (x .next) (replyPaper (x .answer))
+reply-is-step κs a x s p = record { paper-is = p .0; next-is = p .1 }
+
+pub missing-is-step : (κs : Lfts 0) (a : Dens κs missing-kinds.ps) (x : resT missing-kinds.r κs .Denot) (s : AtExit (endedOf 0 missing-kinds.ps missing-kinds.r) κs)
+    → missing.Post κs a x s → Promise (a .0) Missing (x .next) (countPaper (x .answer) (x .count))
+missing-is-step κs a x s p = record { paper-is = p .0; next-is = p .1 }
+
+pub held-is-step : (κs : Lfts 0) (a : Dens κs held-kinds.ps) (x : resT held-kinds.r κs .Denot) (s : AtExit (endedOf 0 held-kinds.ps held-kinds.r) κs)
+    → held.Post κs a x s → Promise (a .0) Held (x .next) (countPaper (x .answer) (x .count))
+held-is-step κs a x s p = record { paper-is = p .0; next-is = p .1 }
+
+-- opening a channel gives the fresh ledger that every row of calls starts from, and 0
+pub opened-is-fresh : (κs : Lfts 0) (a : Dens κs opened-kinds.ps) (x : resT opened-kinds.r κs .Denot) (s : AtExit (endedOf 0 opened-kinds.ps opened-kinds.r) κs)
+    → a .0 .0 ≤ 9999 → opened.Post κs a x s → (paperOf (x .answer) ≡ answer 0 []) × (x .next ≡ ledgerOf (fresh (a .0 .0)))
+unfolding openOf
+opened-is-fresh κs a x s h p = (p .0 ∙ simp (le-ltb _ _ h), p .1 ∙ simp (le-ltb _ _ h))
+
+-- a refusal other than 12 gives back the very ledger that was passed in, sound or not
+pub refused-gives-back : (l next : Ledger) (call : Call) (paper : Paper) → Words (l .map .words) → Promise l call next paper
+    → answered paper 0 ≡ false → answered paper 12 ≡ false → next ≡ l
+refused-gives-back l next call paper w p e f =
+    let k = keeps (bookOf l) call in
+    p .next-is ∙ ap ledgerOf (k .same (ap (λ (a : Paper). answered a 0) (sym (p .paper-is)) ∙ e) (ap (λ (a : Paper). answered a 12) (sym (p .paper-is)) ∙ f)) ∙ ledger-of l w
+
+-- ---- a whole row of calls
+
+-- the ledger l and the history h come of calls of the code on a freshly opened channel, each meeting its promise
+pub data Ran (channel : ℕ) : Calls → Ledger → History → Type 0 where
+  opening : {l : Ledger} → l ≡ ledgerOf (fresh channel) → Ran channel none l start
+  one-more : {calls : Calls} {l next : Ledger} {h : History} {paper : Paper} (call : Call) → Ran channel calls l h → Promise l call next paper
+      → Ran channel (calls ▸ call) next (h ▸ call ⇒ paper)
+
+pub ran-is-trace : (channel : ℕ) → channel ≤ 9999 → {calls : Calls} {l : Ledger} {h : History} → Ran channel calls l h
+    → (l ≡ ledgerOf (after channel calls)) × (h ≡ trace channel calls)
+unfolding trace
+ran-is-trace channel small (opening e) = (e, refl)
+ran-is-trace channel small (one-more {calls} {l} {next} {h} {paper} call r p) =
+    let q = ran-is-trace channel small r in
+    let e : bookOf l ≡ after channel calls = ap bookOf (q .0) ∙ book-of (after channel calls) (agrees channel small calls .rules .places) in (
+      p .next-is ∙ ap (λ (b : Book). ledgerOf (nextOf b call)) e,
+      ap₂ (λ (x : History) (y : Paper). x ▸ call ⇒ y) (q .1) (p .paper-is ∙ ap (λ (b : Book). answerTo b call) e),
+    )

@@ -1,0 +1,535 @@
+// The gap ledger of one tick channel: which numbers were received, which are handed out, and what to ask for.
+// Every call takes the ledger, sound or not, and gives back the next one beside its answer.
+ghost use mathlib.Core.Path.{_≡_};
+ghost use mathlib.Core.Bool.{not};
+ghost use mathlib.Core.List.{[], _∷_};
+ghost use Prim.Native.Nat.{_+_, _-_, _≤_, _<_, min, max};
+ghost use lib.Dec.{eqb};
+ghost use Rattle.terms.specs.Paper.{answer, refusal, pick};
+ghost use Rattle.terms.specs.Refusals.{numberOf};
+ghost use Rattle.map.specs.Bits.{bitsIn};
+ghost use Rattle.ledger.specs.State.{range, largest, askedOf, bookOf, ledgerOf, rangeRules, mapRules, soundOf};
+ghost use Rattle.ledger.specs.Calls.{Tick, Announce, Request, Reply, Missing, Held, replyStatus, startsAt, ownNumber, checkedOf, passes, taken, raised, waiting, asked, answerTo, nextOf, openNumber, openOf, fresh};
+ghost use Rattle.ledger.specs.Papers.{tickPaper, requestPaper, replyPaper, paperOf, countPaper, verdictNumber};
+use map::Map;
+use terms::ChannelNumber;
+use terms::Refusal;
+use terms::TickNumber;
+
+// The request that is pending: from its grant until a reply answered 0.
+pub enum Pending {
+    Nothing,
+    Range { first: TickNumber, last: TickNumber },
+}
+
+// The fields are open, so that a host can hand in any state; a broken one is refused by 13.
+pub struct Ledger {
+    pub channel: ChannelNumber,
+    // All numbers up to it are received.
+    pub floor: TickNumber,
+    // The largest number offered and not refused by 18 or 10, or announced.
+    pub top: TickNumber,
+    // Place i stands for floor + 1 + i.
+    pub map: Map,
+    pub pending: Pending,
+}
+
+pub enum TickAnswer {
+    // The floor has newly passed `count` numbers from `first` on, perhaps none.
+    Passed { first: TickNumber, count: u64 },
+    Refused(Refusal),
+}
+
+pub struct Ticked {
+    pub next: Ledger,
+    pub answer: TickAnswer,
+}
+
+pub enum RequestAnswer {
+    Granted { first: TickNumber, last: TickNumber },
+    Refused(Refusal),
+}
+
+pub struct Requested {
+    pub next: Ledger,
+    pub answer: RequestAnswer,
+}
+
+pub enum ReplyAnswer {
+    Cleared,
+    Refused(Refusal),
+}
+
+pub struct Replied {
+    pub next: Ledger,
+    pub answer: ReplyAnswer,
+}
+
+pub enum Answer {
+    Done,
+    Refused(Refusal),
+}
+
+// What opening and announcing answer.
+pub struct Noted {
+    pub next: Ledger,
+    pub answer: Answer,
+}
+
+// A count, 0 beside a refusal.
+pub struct Counted {
+    pub next: Ledger,
+    pub count: u64,
+    pub answer: Answer,
+}
+
+// What the checks of a call come to.
+enum Verdict {
+    Fine,
+    Bad(Refusal),
+}
+
+// The largest number of 18 digits.
+const LARGEST: u64 = 999_999_999_999_999_999;
+
+// The largest channel of 4 digits.
+const LAST_CHANNEL: u16 = 9_999;
+
+fn larger(a: u64, b: u64) -> u64
+    ensures { λ r. ⌜ r ≡ max a b ⌝ }
+{
+    if a < b { b } else { a }
+}
+
+fn smaller(a: u64, b: u64) -> u64
+    ensures { λ r. ⌜ r ≡ min a b ⌝ }
+{
+    if a < b { a } else { b }
+}
+
+fn reply_status(s: u8) -> bool
+    ensures { λ r. ⌜ r ≡ replyStatus s ⌝ }
+{
+    if s == 99 {
+        return true;
+    }
+    if s < 1 {
+        return false;
+    }
+    s <= 5
+}
+
+// Whether a pending range keeps the state rules.
+fn right(first: u64, last: u64, floor: u64, top: u64) -> bool
+    ensures { λ r. ⌜ r ≡ rangeRules (range first last) floor top ⌝ }
+{
+    if first < 1 {
+        return false;
+    }
+    if floor < first - 1 {
+        return false;
+    }
+    if last < first {
+        return false;
+    }
+    if top < last {
+        return false;
+    }
+    last - first < 200
+}
+
+// Whether the map keeps the state rules, where `known` numbers lie above the floor and not above the top.
+fn map_sound(map: Map, known: u64) -> bool
+    ensures { λ r. ⌜ r ≡ mapRules (bitsIn map) known ⌝ }
+{
+    if map.holds(0) {
+        return false;
+    }
+    map.dropped(known).empty()
+}
+
+impl Pending {
+    // Whether the pending request keeps the state rules.
+    fn sound(self, floor: u64, top: u64) -> bool
+        ensures { λ r. ⌜ r ≡ rangeRules (askedOf self) floor top ⌝ }
+    {
+        match self {
+            Pending::Nothing => true,
+            Pending::Range { first, last } => right(first.value(), last.value(), floor, top),
+        }
+    }
+
+    // Whether a request is pending that starts at n.
+    fn starts_at(self, n: u64) -> bool
+        ensures { λ r. ⌜ r ≡ startsAt (askedOf self) n ⌝ }
+    {
+        match self {
+            Pending::Nothing => false,
+            Pending::Range { first, last: _ } => first.value() == n,
+        }
+    }
+}
+
+impl Ledger {
+    // Whether the state rules hold.
+    fn sound(self) -> bool
+        ensures { λ r. ⌜ r ≡ soundOf (bookOf self) ⌝ }
+    {
+        let channel = self.channel;
+        let floor = self.floor.value();
+        let top = self.top.value();
+        let map = self.map;
+        let pending = self.pending;
+        if LAST_CHANNEL < channel.value() {
+            return false;
+        }
+        if top < floor {
+            return false;
+        }
+        if LARGEST < top {
+            return false;
+        }
+        if !map_sound(map, top - floor) {
+            return false;
+        }
+        pending.sound(floor, top)
+    }
+
+    // 13, then 18, then what the call itself has found.
+    fn checked(self, channel: ChannelNumber, own: Verdict) -> Verdict
+        ensures { λ r. ⌜ verdictNumber r ≡ checkedOf (bookOf self) (not (eqb (channel .0) (bookOf self .channel))) (verdictNumber own) ⌝ }
+    {
+        let mine = self.channel;
+        if !self.sound() {
+            return Verdict::Bad(Refusal::State);
+        }
+        if channel.value() != mine.value() {
+            return Verdict::Bad(Refusal::Channel);
+        }
+        own
+    }
+
+    // A fresh ledger; for a channel above 9,999 one for channel 0, beside 10.
+    pub fn opened(channel: ChannelNumber) -> Noted
+        ensures { λ r. ⌜ (paperOf (r .answer) ≡ answer (openNumber (channel .0)) [])
+            × (r .next ≡ ledgerOf (openOf (channel .0))) ⌝ }
+    {
+        if channel.value() > LAST_CHANNEL {
+            return Noted {
+                next: Ledger::fresh(ChannelNumber::new(0)),
+                answer: Answer::Refused(Refusal::Range),
+            };
+        }
+        Noted {
+            next: Ledger::fresh(channel),
+            answer: Answer::Done,
+        }
+    }
+
+    // Floor 0, top 0, nothing held, nothing pending.
+    fn fresh(channel: ChannelNumber) -> Ledger
+        ensures { λ r. ⌜ r ≡ ledgerOf (fresh (channel .0)) ⌝ }
+    {
+        Ledger {
+            channel,
+            floor: TickNumber::new(0),
+            top: TickNumber::new(0),
+            map: Map::new(),
+            pending: Pending::Nothing,
+        }
+    }
+
+    // The top raised to n, if it was lower.
+    fn raised(mut self, n: u64) -> Ledger
+        ensures { λ r. ⌜ r ≡ ledgerOf (raised (bookOf self) n) ⌝ }
+    {
+        let top = self.top.value();
+        self.top = TickNumber::new(larger(top, n));
+        self
+    }
+
+    // The same ledger, with another request pending or none.
+    fn waiting(self, pending: Pending) -> Ledger
+        ensures { λ r. ⌜ r ≡ ledgerOf (waiting (bookOf self) (askedOf pending)) ⌝ }
+    {
+        let channel = self.channel;
+        let floor = self.floor;
+        let top = self.top;
+        let map = self.map;
+        Ledger {
+            channel,
+            floor,
+            top,
+            map,
+            pending,
+        }
+    }
+
+    // 10, 11, 12 of a tick.
+    fn tick_verdict(self, n: u64) -> Verdict
+        ensures { λ r. ⌜ verdictNumber r ≡ ownNumber (bookOf self) (Tick 0 n) ⌝ }
+    {
+        let floor = self.floor.value(); // all up to it are received
+        let map = self.map;
+        if n < 1 {
+            return Verdict::Bad(Refusal::Range);
+        }
+        if LARGEST < n {
+            return Verdict::Bad(Refusal::Range);
+        }
+        if n <= floor {
+            return Verdict::Bad(Refusal::Repeat);
+        }
+        if map.holds(n - floor - 1) {
+            return Verdict::Bad(Refusal::Repeat);
+        }
+        if 256 < n - floor {
+            return Verdict::Bad(Refusal::Far);
+        }
+        Verdict::Fine
+    }
+
+    // A tick that is taken: its place is marked, and the floor passes the run of held places above it.
+    fn taken(self, n: u64) -> Ticked
+        requires { ⌜ (self .floor .0 < n) × (n ≤ self .floor .0 + 256) × (n ≤ largest) ⌝ }
+        ensures { λ r. ⌜ (tickPaper (r .answer) ≡ answer 0 ((self .floor .0 + 1) ∷ passes (bookOf self) n ∷ []))
+            × (r .next ≡ ledgerOf (taken (bookOf self) n)) ⌝ }
+    {
+        let channel = self.channel;
+        let map = self.map;
+        let pending = self.pending;
+        let floor = self.floor.value();
+        let top = self.top.value();
+        let marked = map.with(n - floor - 1);
+        let count = marked.run();
+        Ticked {
+            next: Ledger {
+                channel,
+                floor: TickNumber::new(floor + count),
+                top: TickNumber::new(larger(top, n)),
+                map: marked.dropped(count),
+                pending,
+            },
+            answer: TickAnswer::Passed {
+                first: TickNumber::new(floor + 1),
+                count,
+            },
+        }
+    }
+
+    // A tick that is refused: 12 raises the top, any other refusal changes nothing.
+    fn tick_refused(self, n: u64, why: Refusal) -> Ticked
+        ensures { λ r. ⌜ (tickPaper (r .answer) ≡ refusal (numberOf why))
+            × (r .next ≡ ledgerOf (pick (eqb (numberOf why) 12) (raised (bookOf self) n) (bookOf self))) ⌝ }
+    {
+        if why.number() == 12 {
+            return Ticked {
+                next: self.raised(n),
+                answer: TickAnswer::Refused(why),
+            };
+        }
+        Ticked {
+            next: self,
+            answer: TickAnswer::Refused(why),
+        }
+    }
+
+    // The tick is marked received, and the floor moves to just below the first number not received. 13, 18, 10, 11, 12.
+    pub fn tick(self, channel: ChannelNumber, number: TickNumber) -> Ticked
+        ensures { λ r. ⌜ (tickPaper (r .answer) ≡ answerTo (bookOf self) (Tick (channel .0) (number .0)))
+            × (r .next ≡ ledgerOf (nextOf (bookOf self) (Tick (channel .0) (number .0)))) ⌝ }
+    {
+        let n = number.value();
+        let verdict = self.checked(channel, self.tick_verdict(n));
+        match verdict {
+            Verdict::Bad(why) => self.tick_refused(n, why),
+            Verdict::Fine => self.taken(n),
+        }
+    }
+
+    // 10 of an announcement.
+    fn announce_verdict(self, n: u64) -> Verdict
+        ensures { λ r. ⌜ verdictNumber r ≡ ownNumber (bookOf self) (Announce 0 n) ⌝ }
+    {
+        if n > LARGEST {
+            return Verdict::Bad(Refusal::Range);
+        }
+        Verdict::Fine
+    }
+
+    // The top becomes the larger of the two. 13, 18, 10.
+    pub fn announce(self, channel: ChannelNumber, last: TickNumber) -> Noted
+        ensures { λ r. ⌜ (paperOf (r .answer) ≡ answerTo (bookOf self) (Announce (channel .0) (last .0)))
+            × (r .next ≡ ledgerOf (nextOf (bookOf self) (Announce (channel .0) (last .0)))) ⌝ }
+    {
+        let n = last.value();
+        let verdict = self.checked(channel, self.announce_verdict(n));
+        match verdict {
+            Verdict::Bad(why) => Noted {
+                next: self,
+                answer: Answer::Refused(why),
+            },
+            Verdict::Fine => Noted {
+                next: self.raised(n),
+                answer: Answer::Done,
+            },
+        }
+    }
+
+    // 14, 15 of a request.
+    fn request_verdict(self) -> Verdict
+        ensures { λ r. ⌜ verdictNumber r ≡ ownNumber (bookOf self) (Request 0) ⌝ }
+    {
+        let floor = self.floor.value();
+        let top = self.top.value();
+        let pending = self.pending;
+        match pending {
+            Pending::Range { first: _, last: _ } => Verdict::Bad(Refusal::Busy),
+            Pending::Nothing => {
+                if top == floor {
+                    return Verdict::Bad(Refusal::Whole);
+                }
+                Verdict::Fine
+            }
+        }
+    }
+
+    // From floor + 1 up to the top, broken off before the first held number and at 200 numbers.
+    fn granted(self) -> Requested
+        requires { ⌜ (self .floor .0 ≤ self .top .0) × (self .top .0 ≤ largest) ⌝ }
+        ensures { λ r. ⌜ (requestPaper (r .answer) ≡ answer 0 ((self .floor .0 + 1) ∷ (self .floor .0 + asked (bookOf self)) ∷ []))
+            × (r .next ≡ ledgerOf (waiting (bookOf self) (range (self .floor .0 + 1) (self .floor .0 + asked (bookOf self))))) ⌝ }
+    {
+        let floor = self.floor.value();
+        let top = self.top.value();
+        let map = self.map;
+        let known = top - floor;
+        let clear = map.first_held();
+        let count = smaller(smaller(known, clear), 200);
+        let first = TickNumber::new(floor + 1);
+        let last = TickNumber::new(floor + count);
+        Requested {
+            next: self.waiting(Pending::Range { first, last }),
+            answer: RequestAnswer::Granted { first, last },
+        }
+    }
+
+    // The range to ask for, pending from now on. 13, 18, 14, 15.
+    pub fn request(self, channel: ChannelNumber) -> Requested
+        ensures { λ r. ⌜ (requestPaper (r .answer) ≡ answerTo (bookOf self) (Request (channel .0)))
+            × (r .next ≡ ledgerOf (nextOf (bookOf self) (Request (channel .0)))) ⌝ }
+    {
+        let verdict = self.checked(channel, self.request_verdict());
+        match verdict {
+            Verdict::Bad(why) => Requested {
+                next: self,
+                answer: RequestAnswer::Refused(why),
+            },
+            Verdict::Fine => self.granted(),
+        }
+    }
+
+    // 17, 16 of a reply.
+    fn reply_verdict(self, first: u64, status: u8) -> Verdict
+        ensures { λ r. ⌜ verdictNumber r ≡ ownNumber (bookOf self) (Reply 0 first status) ⌝ }
+    {
+        let pending = self.pending;
+        if !reply_status(status) {
+            return Verdict::Bad(Refusal::Status);
+        }
+        if !pending.starts_at(first) {
+            return Verdict::Bad(Refusal::Unasked);
+        }
+        Verdict::Fine
+    }
+
+    // The pending request is cleared; nothing is marked received, whatever the status says. 13, 18, 17, 16.
+    pub fn reply(self, channel: ChannelNumber, first: TickNumber, status: u8) -> Replied
+        ensures { λ r. ⌜ (replyPaper (r .answer) ≡ answerTo (bookOf self) (Reply (channel .0) (first .0) status))
+            × (r .next ≡ ledgerOf (nextOf (bookOf self) (Reply (channel .0) (first .0) status))) ⌝ }
+    {
+        let verdict = self.checked(channel, self.reply_verdict(first.value(), status));
+        match verdict {
+            Verdict::Bad(why) => Replied {
+                next: self,
+                answer: ReplyAnswer::Refused(why),
+            },
+            Verdict::Fine => Replied {
+                next: self.waiting(Pending::Nothing),
+                answer: ReplyAnswer::Cleared,
+            },
+        }
+    }
+
+    // A count of a broken state: 13, and 0 beside it.
+    fn uncounted(self) -> Counted
+        ensures { λ r. ⌜ (countPaper (r .answer) (r .count) ≡ answer 13 (0 ∷ []))
+            × (r .next ≡ ledgerOf (bookOf self)) ⌝ }
+    {
+        Counted {
+            next: self,
+            count: 0,
+            answer: Answer::Refused(Refusal::State),
+        }
+    }
+
+    // How many numbers up to the top are missing. 13.
+    pub fn missing(self) -> Counted
+        ensures { λ r. ⌜ (countPaper (r .answer) (r .count) ≡ answerTo (bookOf self) Missing)
+            × (r .next ≡ ledgerOf (nextOf (bookOf self) Missing)) ⌝ }
+    {
+        if !self.sound() {
+            return self.uncounted();
+        }
+        let floor = self.floor.value();
+        let top = self.top.value();
+        let map = self.map;
+        let held = map.held();
+        Counted {
+            next: self,
+            count: top - floor - held,
+            answer: Answer::Done,
+        }
+    }
+
+    // How many numbers above the floor are held. 13.
+    pub fn held(self) -> Counted
+        ensures { λ r. ⌜ (countPaper (r .answer) (r .count) ≡ answerTo (bookOf self) Held)
+            × (r .next ≡ ledgerOf (nextOf (bookOf self) Held)) ⌝ }
+    {
+        if !self.sound() {
+            return self.uncounted();
+        }
+        let map = self.map;
+        let held = map.held();
+        Counted {
+            next: self,
+            count: held,
+            answer: Answer::Done,
+        }
+    }
+
+    pub fn channel(self) -> ChannelNumber
+        ensures { λ r. ⌜ r ≡ self .channel ⌝ }
+    {
+        self.channel // of the ledger
+    }
+
+    pub fn floor(self) -> TickNumber
+        ensures { λ r. ⌜ r ≡ self .floor ⌝ }
+    {
+        self.floor // all up to it received
+    }
+
+    pub fn top(self) -> TickNumber
+        ensures { λ r. ⌜ r ≡ self .top ⌝ }
+    {
+        self.top // the largest known
+    }
+
+    pub fn pending(self) -> Pending
+        ensures { λ r. ⌜ r ≡ self .pending ⌝ }
+    {
+        self.pending // the range granted and not answered
+    }
+}
