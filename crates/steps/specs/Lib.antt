@@ -1,0 +1,5 @@
+pub mod Walk
+pub mod Account
+pub mod Literal
+pub mod Frames
+pub mod Seen
