@@ -125,3 +125,14 @@ below-drop b p s h i = rw (getD-drop p s i 0) (h (p + i))
 
 pub past : (s : List ℕ) (n : ℕ) → length s ≤ n → 0 ≡ getD s n 0
 past s n h = sym (List·getD-eq-default s 0 h)
+
+-- the high byte stands first, outright
+pub high-byte-first : be 4 0 (0x12 ∷ 0x34 ∷ 0x56 ∷ 0x78 ∷ []) ≡ 0x12345678
+unfolding numeral
+high-byte-first = refl
+
+-- past the end reads 0
+pub be-past : (n at : ℕ) (s : List ℕ) → length s ≤ at → be n at s ≡ 0
+unfolding numeral
+be-past zero at s h = refl
+be-past (suc n) at s h = rw (be-past n at s h, List·getD-eq-default s 0 {n = at + n} (omega arith))

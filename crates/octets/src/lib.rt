@@ -47,7 +47,7 @@ pub fn u8_at(s: &[u8], at: usize) -> u8
     number_at(s, at, 1) as u8
 }
 
-// The number in two bytes from a place on, high byte first; bytes past the end count as 0. So are the next three.
+// The number in two bytes from a place on, high byte first; bytes past the end count as 0. The next three are alike.
 pub fn u16_at(s: &[u8], at: usize) -> u16
     ensures { λ r. ⌜ r ≡ be 2 at (now (s .entry)) ⌝ }
 {

@@ -65,7 +65,7 @@ pub judged : (k : Kind) (time : ℕ) (b : List ℕ) → Judged k time b (judgeOf
 judged k time b =
     ⊎-elim (λ f. j-fine (judge-fine k time b f) f) (λ f. j-field (judge-field k time b f) f) (two (fieldsOk k b))
 
--- THE LAWS THAT LAYERS ABOVE USE: no check here asks for more bytes, or answers what another check answers
+-- THE LAWS THAT LAYERS ABOVE USE: no check here asks for more bytes
 
 not-1 : (k : Kind) (time : ℕ) (b : List ℕ) (m : ℕ) → Judged k time b m → m ≡ 1 → ⊥
 not-1 k time b m (j-field e f) h = omega arith

@@ -1,11 +1,11 @@
 -- Document 01's table and field rules, a row or a rule to a line, in its words and order.
--- `be w p b` is the number in the w bytes of the body b from the offset p on, high byte first; "n digits" is below 10 ^ n.
+-- `field K i b` is field number i of the body b, counted from 0 in the table's order (Widths.antt); "n digits" is below 10 ^ n.
 use Prim.Native.Nat.{ℕ, _+_, _*_, _<_, _≤_, _^_}
 use mathlib.Core.Path.{_≡_}
 use mathlib.Core.Logic.{_⊎_}
 use mathlib.Core.List.{List}
 use lib.ListN.{length}
-use Rattle.octets.specs.Octets.{be}
+use Rattle.rules.specs.Widths.{field, entryField, fixed}
 use Rattle.rules.specs.declared.Kind.{Kind}
 use Rattle.rules.specs.declared.Kind.the-variants.{S001, S002, S003, P001, P002, M101, M102, M201, Unknown}
 
@@ -23,41 +23,41 @@ TypeRule Unknown t = ⊥
 
 -- Length
 abbrev pub LengthRule : Kind → ℕ → Type 0
-LengthRule S001 n = n ≡ 74
-LengthRule S002 n = n ≡ 260
-LengthRule S003 n = n ≡ 0
-LengthRule P001 n = n ≡ 12
-LengthRule P002 n = n ≡ 52
+LengthRule S001 n = n ≡ fixed S001  -- 74
+LengthRule S002 n = n ≡ fixed S002  -- 260
+LengthRule S003 n = n ≡ fixed S003  -- 0
+LengthRule P001 n = n ≡ fixed P001  -- 12
+LengthRule P002 n = n ≡ fixed P002  -- 52
 LengthRule M101 n = n ≡ n  -- any: above 8,164 is 3 before it comes to this
-LengthRule M102 n = 73 ≤ n
-LengthRule M201 n = 45 ≤ n
+LengthRule M102 n = fixed M102 ≤ n  -- 73
+LengthRule M201 n = fixed M201 ≤ n  -- 45
 LengthRule Unknown n = ⊥
 
 -- "HeartBtInt is above 0."
 pub record S001Rules (b : List ℕ) : Type 0 where
-  pub heart-bt-int : 0 < be 2 64 b
+  pub heart-bt-int : 0 < field S001 2 b
 
 -- "SessionStatus is at most 9,999."
 pub record S002Rules (b : List ℕ) : Type 0 where
-  pub session-status : be 4 0 b ≤ 9999
+  pub session-status : field S002 0 b ≤ 9999
 
 -- "P001: SecurityType 13, EndOfChannel Y or N." ChannelNO 4 digits; ApplLastSeqNum at most 18.
 pub record P001Rules (b : List ℕ) : Type 0 where
-  pub security-type : be 1 0 b ≡ 13
-  pub channel-no : be 2 1 b < 10 ^ 4
-  pub appl-last-seq-num : be 8 3 b < 10 ^ 18
-  pub end-of-channel : (be 1 11 b ≡ 0x59) ⊎ (be 1 11 b ≡ 0x4E)
+  pub security-type : field P001 0 b ≡ 13
+  pub channel-no : field P001 1 b < 10 ^ 4
+  pub appl-last-seq-num : field P001 2 b < 10 ^ 18
+  pub end-of-channel : (field P001 3 b ≡ 0x59) ⊎ (field P001 3 b ≡ 0x4E)
 
 -- "P002: ResendType 1, ApplBegSeqNum above 0, ResendStatus 0 (a request), 1 to 5 or 99.
 -- In a request ApplEndSeqNum is 0 or not below ApplBegSeqNum." ChannelNO 4 digits; both resend numbers at most 18.
 pub record P002Rules (b : List ℕ) : Type 0 where
-  pub channel-no : be 2 0 b < 10 ^ 4
-  pub resend-type : be 1 2 b ≡ 1
-  pub appl-beg-seq-num : 0 < be 8 3 b
-  pub appl-beg-digits : be 8 3 b < 10 ^ 18
-  pub appl-end-digits : be 8 11 b < 10 ^ 18
-  pub resend-status : (be 1 19 b ≤ 5) ⊎ (be 1 19 b ≡ 99)
-  pub request : be 1 19 b ≡ 0 → (be 8 11 b ≡ 0) ⊎ (be 8 3 b ≤ be 8 11 b)
+  pub channel-no : field P002 0 b < 10 ^ 4
+  pub resend-type : field P002 1 b ≡ 1
+  pub appl-beg-seq-num : 0 < field P002 2 b
+  pub appl-beg-digits : field P002 2 b < 10 ^ 18
+  pub appl-end-digits : field P002 3 b < 10 ^ 18
+  pub resend-status : (field P002 4 b ≤ 5) ⊎ (field P002 4 b ≡ 99)
+  pub request : field P002 4 b ≡ 0 → (field P002 3 b ≡ 0) ⊎ (field P002 2 b ≤ field P002 3 b)
 
 -- "SecurityType and stream pair as 1 with MD001 to MD004, 2 with MD301, 3 with MD101 or MD102, 12 with MD201,
 -- 13 with MD210, 14 with MDE01." A stream is its five letters as one number.
@@ -77,37 +77,37 @@ pub data EntrySize (s w : ℕ) : Type 0 where
   long : (s ≡ 0x4D44303031 → ⊥) → w ≡ 19 → EntrySize s w
 
 pub record EntryRules (s at : ℕ) (b : List ℕ) : Type 0 where
-  pub price : be 8 (at + 2) b < 10 ^ 13
-  pub size : (s ≡ 0x4D44303031 → ⊥) → be 8 (at + 10) b < 10 ^ 12
-  pub position : (s ≡ 0x4D44303031 → ⊥) → be 1 (at + 18) b < 10 ^ 2
+  pub price : entryField 1 at b < 10 ^ 13
+  pub size : (s ≡ 0x4D44303031 → ⊥) → entryField 2 at b < 10 ^ 12
+  pub position : (s ≡ 0x4D44303031 → ⊥) → entryField 3 at b < 10 ^ 2
 
 -- "M102: TradSesMode 1 to 3; [..] The body is 73 bytes plus NoMDEntries whole entries."
 -- TradeDate 8 digits, LastUpdateTime 9, PreClosePx 13, the three totals 16. `w` is the size of an entry.
 pub record M102Rules (w : ℕ) (b : List ℕ) : Type 0 where
-  pub trad-ses-mode-low : 1 ≤ be 1 1 b
-  pub trad-ses-mode : be 1 1 b ≤ 3
-  pub pair : Pair (be 1 0 b) (be 5 10 b)
-  pub trade-date : be 4 2 b < 10 ^ 8
-  pub last-update-time : be 4 6 b < 10 ^ 9
-  pub pre-close-px : be 8 31 b < 10 ^ 13
-  pub total-volume-traded : be 8 39 b < 10 ^ 16
-  pub num-trades : be 8 47 b < 10 ^ 16
-  pub total-value-traded : be 8 55 b < 10 ^ 16
-  pub entry-size : EntrySize (be 5 10 b) w
-  pub whole-entries : length b ≡ 73 + be 2 71 b * w
-  pub entries : (i : ℕ) → i < be 2 71 b → EntryRules (be 5 10 b) (73 + i * w) b
+  pub trad-ses-mode-low : 1 ≤ field M102 1 b
+  pub trad-ses-mode : field M102 1 b ≤ 3
+  pub pair : Pair (field M102 0 b) (field M102 4 b)
+  pub trade-date : field M102 2 b < 10 ^ 8
+  pub last-update-time : field M102 3 b < 10 ^ 9
+  pub pre-close-px : field M102 7 b < 10 ^ 13
+  pub total-volume-traded : field M102 8 b < 10 ^ 16
+  pub num-trades : field M102 9 b < 10 ^ 16
+  pub total-value-traded : field M102 10 b < 10 ^ 16
+  pub entry-size : EntrySize (field M102 4 b) w
+  pub whole-entries : length b ≡ fixed M102 + field M102 12 b * w
+  pub entries : (i : ℕ) → i < field M102 12 b → EntryRules (field M102 4 b) (fixed M102 + i * w) b
 
 -- "M201: SecurityType 13, ExecType 0, 4 or F, ApplSeqNum above 0. The stream is not judged."
 -- ChannelNO 4 digits, ApplSeqNum at most 18, TransactTime 9, Price 13, OrderQty 15.
 pub record M201Rules (b : List ℕ) : Type 0 where
-  pub security-type : be 1 0 b ≡ 13
-  pub channel-no : be 2 1 b < 10 ^ 4
-  pub appl-seq-num : 0 < be 8 3 b
-  pub appl-seq-digits : be 8 3 b < 10 ^ 18
-  pub transact-time : be 4 24 b < 10 ^ 9
-  pub exec-type : ((be 1 28 b ≡ 0x30) ⊎ (be 1 28 b ≡ 0x34)) ⊎ (be 1 28 b ≡ 0x46)
-  pub price : be 8 29 b < 10 ^ 13
-  pub order-qty : be 8 37 b < 10 ^ 15
+  pub security-type : field M201 0 b ≡ 13
+  pub channel-no : field M201 1 b < 10 ^ 4
+  pub appl-seq-num : 0 < field M201 2 b
+  pub appl-seq-digits : field M201 2 b < 10 ^ 18
+  pub transact-time : field M201 5 b < 10 ^ 9
+  pub exec-type : ((field M201 6 b ≡ 0x30) ⊎ (field M201 6 b ≡ 0x34)) ⊎ (field M201 6 b ≡ 0x46)
+  pub price : field M201 7 b < 10 ^ 13
+  pub order-qty : field M201 8 b < 10 ^ 15
 
 -- "none" for S003; M101 is "carried as bytes, not judged"
 pub record NoRules : Type 0 where

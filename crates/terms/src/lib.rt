@@ -57,7 +57,8 @@ impl ChannelNumber {
     }
 }
 
-// Why something is refused: a case for each row of document 01's table but 0, under the name that the table gives it.
+// Why something is refused: a case for each row of document 01's table but 0, in its order. (Its rows "type" and "number"
+// are MsgType and Range here.)
 // (7 and 19 come with later requests.)
 pub enum Refusal {
     More,
