@@ -12,12 +12,13 @@ use Rattle.octets.specs.Numerals.{be-front, numeral-skip, numeral-behind, numer
 use Rattle.octets.specs.Sums.{sum8-below}
 use Rattle.rules.specs.Table.{kindOf}
 use Rattle.rules.specs.Outcomes.{measure-same, judge-same}
-use Rattle.frame.specs.Frame.{msgType, sendingTime, msgSeqNum, bodyLength, body, plain, checkSum, readOf, Whole}
+use Rattle.frame.specs.Frame.{msgType, sendingTime, msgSeqNum, bodyLength, body, plain, checkSum, readOf, bodyRead, Whole}
 use Rattle.frame.specs.Outcomes.{accepted, Good, good, good-reads}
 use Rattle.frame.specs.Measures.{fits}
-use Rattle.frame.specs.Places.{body-length}
-use Rattle.frame.specs.Write.{Message, message, messageOf, plainOf, frameOf, writeOf}
-use Rattle.frame.specs.WriteLaws.{Sound, write-done, plain-length, frame-length}
+use Rattle.frame.specs.Places.{body-length, body-of}
+use Rattle.frame.specs.Write.{Message, message, messageOf, plainOf, frameOf, writeOf, leftOf}
+use Rattle.octets.specs.Overlays.{laid-front, drop-laid, take-front}
+use Rattle.frame.specs.WriteLaws.{Sound, fit, left-laid, write-done, plain-length, frame-length}
 
 -- the numbers of a message fit their widths
 pub record Widths (m : Message) : Type 0 where
@@ -149,3 +150,33 @@ module _ (s : List ℕ) (b : Bytes s) (z : readOf s .number ≡ 0) where
 
   pub own-cut : readOf (take (28 + bodyLength s) s) ≡ readOf s
   own-cut = ap readOf (sym (append-nil (take (28 + bodyLength s) s))) ∙ own-bytes []
+
+-- AS THE CODE HAS IT: what `write` leaves, `read_at` and `body_at` read
+
+-- bytes beyond the written ones stay
+pub write-beyond : (m : Message) (out : List ℕ) → writeOf m (length out) .number ≡ 0 → drop (28 + length (m .content)) (leftOf m out) ≡ drop (28 + length (m .content)) out
+write-beyond m out z =
+    let l : length (frameOf m) ≡ 28 + length (m .content) = frame-length m in
+    let f : 0 + length (frameOf m) ≡ 28 + length (m .content) = omega arith in
+    let h : 0 + length (frameOf m) ≤ length out = omega (arith, fit m (length out) z .there) in
+    rw (left-laid m out z) (rw f at (drop-laid 0 (frameOf m) out h))
+
+-- reading the buffer that a message was written into gives the message, with its body
+module _ (m : Message) (out : List ℕ) (w : Widths m) (z : writeOf m (length out) .number ≡ 0) where
+  left-is : leftOf m out ≡ frameOf m ++ drop (length (frameOf m)) out
+  left-is = left-laid m out z ∙ laid-front (frameOf m) out
+
+  pub write-then-read : readOf (leftOf m out) ≡ answer 0 (m .type ∷ m .time ∷ m .seq ∷ length (m .content) ∷ [])
+  write-then-read = rw left-is (read-written m (drop (length (frameOf m)) out) w (fit m (length out) z .sound))
+
+  pub write-then-body : bodyRead (leftOf m out) ≡ m .content
+  write-then-body =
+      let e : messageOf (leftOf m out) ≡ m = rw left-is (message-written m (drop (length (frameOf m)) out) w (fit m (length out) z .sound)) in
+      body-of (leftOf m out) (ap (λ (p : Paper). p .number) write-then-read) ∙ ap (λ (x : Message). x .content) e
+
+-- writing what was read into a buffer leaves there the bytes that were read
+pub read-then-write : (s out : List ℕ) → Bytes s → readOf s .number ≡ 0 → 28 + bodyLength s ≤ length out → take (28 + bodyLength s) (leftOf (messageOf s) out) ≡ take (28 + bodyLength s) s
+read-then-write s out b z h =
+    let e : length (frameOf (messageOf s)) ≡ 28 + bodyLength s = frame-length (messageOf s) ∙ ap (λ (n : ℕ). 28 + n) (body-length s (good s z .whole .there)) in
+    rw (left-laid (messageOf s) out (ap (λ (p : Paper). p .number) (write-read s b z (length out) h)))
+    (take-front (28 + bodyLength s) (frameOf (messageOf s)) out e ∙ written-read s b z)

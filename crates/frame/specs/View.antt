@@ -1,7 +1,8 @@
--- What an accepted frame's body tells the layers above: its counters, and a resend's status. Nothing private.
+-- What an accepted frame's body tells the layers above: its counters, and a resend's status. `view-same` in scrub says that
+-- nothing of it is private. `field K i b` is field number i of the table.
 use Prim.Native.Nat.{ℕ}
 use mathlib.Core.List.{List}
-use Rattle.octets.specs.Octets.{be}
+use Rattle.rules.specs.Widths.{field}
 use Rattle.terms.specs.Counters.{tickOf, channelOf}
 use Rattle.rules.specs.declared.Kind.{Kind}
 use Rattle.rules.specs.declared.Kind.the-variants.{S001, S002, S003, P001, P002, M101, M102, M201, Unknown}
@@ -17,9 +18,9 @@ unfoldable pub viewOf : Kind → List ℕ → View
 viewOf S001 b = viewed S001 0 0 0 0 0
 viewOf S002 b = viewed S002 0 0 0 0 0
 viewOf S003 b = viewed S003 0 0 0 0 0
-viewOf P001 b = viewed P001 (be 2 1 b) (be 8 3 b) 0 0 0
-viewOf P002 b = viewed P002 (be 2 0 b) (be 8 3 b) (be 8 3 b) (be 8 11 b) (be 1 19 b)
+viewOf P001 b = viewed P001 (field P001 1 b) (field P001 2 b) 0 0 0
+viewOf P002 b = viewed P002 (field P002 0 b) (field P002 2 b) (field P002 2 b) (field P002 3 b) (field P002 4 b)
 viewOf M101 b = viewed M101 0 0 0 0 0
 viewOf M102 b = viewed M102 0 0 0 0 0
-viewOf M201 b = viewed M201 (be 2 1 b) (be 8 3 b) 0 0 0
+viewOf M201 b = viewed M201 (field M201 1 b) (field M201 2 b) 0 0 0
 viewOf Unknown b = viewed Unknown 0 0 0 0 0
