@@ -34,7 +34,8 @@ use Rattle.scrub.specs.Private.{privateOf}
 use Rattle.scrub.specs.Within.{bodyIn}
 use Rattle.scrub.specs.Scrub.{painted, spansOf, cleanBody, summed, scrubbed, scrubAnswer}
 use Rattle.scrub.specs.Paint.{Inside, Within, Agree, length-painted, painted-outside, painted-inside, painted-agrees, painted-same, laid-before, laid-in, laid-after}
-use Rattle.scrub.specs.PrivateLaws.{private-few, private-within, private-filled, private-same, judged-same}
+use Rattle.frame.specs.View.{viewOf}
+use Rattle.scrub.specs.PrivateLaws.{view-same, private-few, private-within, private-filled, private-same, judged-same}
 
 -- the message without what is private
 abbrev pub clean : List ℕ → Message
@@ -68,7 +69,7 @@ module _ (s : List ℕ) (z : readOf s .number ≡ 0) where
   clean-long = length-painted (spansOf s) (body s) spans-within ∙ long
 
   agrees : Agree (spansOf s) (body s) (cleanBody s)
-  agrees = rw (private-few (kindOf (msgType s)) (body s)) at (painted-agrees 2 (spansOf s) (body s) spans-within)
+  agrees = rw (private-few (kindOf (msgType s)) (body s)) at (painted-agrees 4 (spansOf s) (body s) spans-within)
 
   pub clean-sound : Sound (clean s)
   clean-sound =
@@ -86,7 +87,7 @@ module _ (s : List ℕ) (z : readOf s .number ≡ 0) where
   room-4 : 24 + bodyLength s + length (sumAnew s) ≤ length (laid 24 (cleanBody s) s)
   room-4 = rw (length-digits 256 4 (sum8 (take (24 + bodyLength s) (laid 24 (cleanBody s) s))), length-laid 24 (cleanBody s) s room) (omega (arith, there))
 
-  -- T1: the length is kept
+  -- the length is kept
   pub scrub-length : length (scrubbed s) ≡ length s
   unfolding summed
   scrub-length =
@@ -98,7 +99,7 @@ module _ (s : List ℕ) (z : readOf s .number ≡ 0) where
   abbrev pub Changed : ℕ → Type 0
   Changed i = ((24 ≤ i) × Inside (spansOf s) (i - 24)) ⊎ ((24 + bodyLength s ≤ i) × (i < 28 + bodyLength s))
 
-  -- T2: every other byte is kept
+  -- every other byte is kept
   at-body : (i : ℕ) → (Changed i → ⊥) → getD (laid 24 (cleanBody s) s) i 0 ≡ getD s i 0
   at-body i out =
       ⊎-elim (λ (l : i < 24). laid-before 24 (cleanBody s) s room i l)
@@ -129,7 +130,7 @@ module _ (s : List ℕ) (z : readOf s .number ≡ 0) where
       (less i (24 + bodyLength s))
       ∙ at-body i out
 
-  -- T3: each private byte is its fill
+  -- each private byte is its fill
   pub scrub-fills : (i : ℕ) → i < bodyLength s → Inside (spansOf s) i → getD (scrubbed s) (24 + i) 0 ≡ 0x20
   unfolding summed
   scrub-fills i l h =
@@ -178,7 +179,7 @@ module _ (s : List ℕ) (z : readOf s .number ≡ 0) where
     unfolding rest
     scrub-rest = scrub-frame ∙ laid-front (frameOf (clean s)) s
 
-    -- T4: it reads, with the same answer: type, time, number and length; so its checksum is right
+    -- it reads, with the same answer: type, time, number and length; so its checksum is right
     pub scrub-reads : readOf (scrubbed s) ≡ readOf s
     scrub-reads =
         rw scrub-rest (read-written (clean s) rest clean-widths clean-sound)
@@ -220,7 +221,7 @@ module _ (s : List ℕ) (z : readOf s .number ≡ 0) where
         ∙ sym (painted-same 0x20 (spansOf s) (body s) (cleanBody s) spans-within (private-filled (kindOf (msgType s)) (body s)) agrees)
         ∙ sym same-body
 
-    -- T5: scrubbing again changes nothing
+    -- scrubbing again changes nothing
     laid-unchanged : laid 24 (cleanBody (scrubbed s)) (scrubbed s) ≡ scrubbed s
     laid-unchanged =
         ap (λ (c : List ℕ). laid 24 c (scrubbed s)) same-clean
@@ -245,7 +246,7 @@ module _ (s : List ℕ) (z : readOf s .number ≡ 0) where
         ∙ ap (summed (24 + bodyLength s)) laid-unchanged
         ∙ sum-unchanged
 
--- T7: frames that agree in all but private fields and checksum
+-- frames that agree in all but private fields and checksum
 pub record Alike (s t : List ℕ) : Type 0 where
   pub header : take 24 s ≡ take 24 t
   pub bodies : Agree (spansOf s) (body s) (body t)
@@ -295,3 +296,27 @@ refused-kept d e x r p q =
     )
     (λ (ne : readOf d .number ≡ 0 → ⊥). q ∙ refused-same d ne)
     (same (readOf d .number) 0)
+
+-- FOR EVERY BUFFER, its frame accepted or not
+
+pub length-always : (s : List ℕ) → length (scrubbed s) ≡ length s
+length-always s =
+    ⊎-elim (λ (z : readOf s .number ≡ 0). scrub-length s z) (λ (ne : readOf s .number ≡ 0 → ⊥). ap length (refused-same s ne)) (same (readOf s .number) 0)
+
+pub again-always : (s : List ℕ) → Bytes s → scrubbed (scrubbed s) ≡ scrubbed s
+again-always s b =
+    ⊎-elim (λ (z : readOf s .number ≡ 0). scrub-again s z b) (λ (ne : readOf s .number ≡ 0 → ⊥). ap scrubbed (refused-same s ne)) (same (readOf s .number) 0)
+
+-- scrubbing answers reading's number: 0, or the refusal passed on
+pub scrub-number : (s : List ℕ) → scrubAnswer s .number ≡ readOf s .number
+scrub-number s =
+    ⊎-elim (λ (z : readOf s .number ≡ 0). ap (λ (p : Paper). p .number) (sym (answer-as s z (bodyLength s) refl)) ∙ sym z)
+    (λ (ne : readOf s .number ≡ 0 → ⊥). ap (λ (p : Paper). p .number) (sym (answer-refused s ne)))
+    (same (readOf s .number) 0)
+
+-- the view of a scrubbed frame is the view of the original
+pub scrub-view : (s : List ℕ) → readOf s .number ≡ 0 → Bytes s → viewOf (kindOf (msgType (scrubbed s))) (body (scrubbed s)) ≡ viewOf (kindOf (msgType s)) (body s)
+scrub-view s z b =
+    let e = scrub-message s z b in
+    ap (λ (m : Message). viewOf (kindOf (m .type)) (m .content)) e
+    ∙ sym (view-same (kindOf (msgType s)) (body s) (cleanBody s) (agrees s z))

@@ -1,4 +1,4 @@
--- Bytes laid within bytes laid, and the parts of a buffer whose body was laid anew.
+-- Bytes laid within bytes laid.
 use Prim.Native.Nat.{ℕ, _+_, _-_, _<_, _≤_}
 use mathlib.Core.Path.{_≡_, refl, sym, ap, _∙_}
 use mathlib.Core.Logic.{_⊎_, ⊎-elim}

@@ -15,6 +15,7 @@ use Rattle.rules.specs.declared.Kind.the-variants.{S001, S002, S003, P001, P002
 use Rattle.rules.specs.Table.{suits}
 use Rattle.rules.specs.Fields.{s001Ok, s002Ok, p002Ok, m201Ok, fieldsOk, judgeOf}
 use Rattle.scrub.specs.declared.Span.{Span}
+use Rattle.frame.specs.View.{viewOf}
 use Rattle.scrub.specs.Private.{privateOf}
 use Rattle.scrub.specs.Paint.{Inside, Within, Filled, Agree, Clear, number-same}
 
@@ -56,7 +57,7 @@ private-is Unknown b i = (λ h. h, λ h. h)
 
 -- FEW, WITHIN, OF ONE FILL
 
-pub private-few : (k : Kind) (b : List ℕ) → take 2 (privateOf k b) ≡ privateOf k b
+pub private-few : (k : Kind) (b : List ℕ) → take 4 (privateOf k b) ≡ privateOf k b
 private-few S001 b = refl
 private-few S002 b = refl
 private-few S003 b = refl
@@ -160,3 +161,23 @@ fields-same Unknown a b g = refl
 pub judged-same : (k : Kind) (time : ℕ) (a b : List ℕ) → Agree (privateOf k a) a b → judgeOf k time a ≡ judgeOf k time b
 unfolding judgeOf
 judged-same k time a b g = rw (fields-same k a b g)
+
+-- WHAT THE LAYERS ABOVE SEE IS PUBLIC: bodies that agree outside the private spans have the same view
+pub view-same : (k : Kind) (a b : List ℕ) → Agree (privateOf k a) a b → viewOf k a ≡ viewOf k b
+unfolding viewOf
+view-same S001 a b g = refl
+view-same S002 a b g = refl
+view-same S003 a b g = refl
+view-same P001 a b g = rw (agree-all a b g)
+view-same P002 a b g =
+    rw (
+      number-same (privateOf P002 a) a b g 2 0 (inl (omega arith), refl),
+      number-same (privateOf P002 a) a b g 8 3 (inl (omega arith), refl),
+      number-same (privateOf P002 a) a b g 8 11 (inl (omega arith), refl),
+      number-same (privateOf P002 a) a b g 1 19 (inl (omega arith), refl),
+    )
+view-same M101 a b g = refl
+view-same M102 a b g = refl
+view-same M201 a b g =
+    rw (number-same (privateOf M201 a) a b g 2 1 (inl (omega arith), refl), number-same (privateOf M201 a) a b g 8 3 (inl (omega arith), refl))
+view-same Unknown a b g = refl

@@ -79,6 +79,6 @@ module _ (k : Kind) (n : ℕ) (d : List ℕ) (h : 24 + n ≤ length d) (m : suit
         ∙ laid-inner 24 (p .place) (replicate (p .len) (p .fill)) (soFar i) d (rw (length-replicate (p .len) (p .fill), so-long i) fits) (room i)
         ∙ ap (λ (b : List ℕ). laid 24 b d) (sym (painted-more i (privateOf k (bodyIn n d)) (bodyIn n d)))
 
-  -- two spans are all there are
-  pub all-spans : laid 24 (soFar 2) d ≡ laid 24 (painted (privateOf k (bodyIn n d)) (bodyIn n d)) d
+  -- four spans are more than there are
+  pub all-spans : laid 24 (soFar 4) d ≡ laid 24 (painted (privateOf k (bodyIn n d)) (bodyIn n d)) d
   all-spans = ap (λ (ps : List Span). laid 24 (painted ps (bodyIn n d)) d) (private-few k (bodyIn n d))

@@ -21,8 +21,8 @@ pub struct Span {
     pub fill: u8,
 }
 
-// As many spans as a type has at most.
-const SPANS: usize = 2;
+// More spans than any type has: from the last on they are empty, and painting an empty one changes nothing.
+const SPANS: usize = 4;
 
 fn spaces_at(place: usize, len: usize) -> Span
     ensures { λ r. ⌜ r ≡ spaces place len ⌝ }

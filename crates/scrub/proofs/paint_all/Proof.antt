@@ -18,10 +18,10 @@ use Rattle.scrub.proofs.paint_all.Lts as lts
 use Rattle.scrub.proofs.paint_span.Reads as paint-span-reads
 
 abbrev Inv-loop : tie.InvT-loop
-Inv-loop buf₀ kind n i₀ buf i = (i ≤ 2) × (buf ≡ laid 24 (painted (take i (privateOf kind (bodyIn n buf₀))) (bodyIn n buf₀)) buf₀)
+Inv-loop buf₀ kind n i₀ buf i = (i ≤ 4) × (buf ≡ laid 24 (painted (take i (privateOf kind (bodyIn n buf₀))) (bodyIn n buf₀)) buf₀)
 
 abbrev μ-loop : tie.MeasureT-loop
-μ-loop buf₀ kind n i₀ buf i = 2 - i
+μ-loop buf₀ kind n i₀ buf i = 4 - i
 
 loop-holds : tie.Need-loop-holds Inv-loop μ-loop
 loop-holds c = let s = c .before in (omega arith, sym (start (s .args .kind) (s .args .n) (s .args .buf .now) (s .pre .0) (s .pre .1)))
@@ -56,7 +56,7 @@ returns : tie.Need-returns Inv-loop μ-loop
 returns c =
     let s = c .before .before .before in
     let l = c .before .loop in
-    let e : l .i ≡ 2 = omega arith in
+    let e : l .i ≡ 4 = omega arith in
     l .inv .1
     ∙ ap (λ (k : ℕ). laid 24 (painted (take k (privateOf (s .args .kind) (bodyIn (s .args .n) (s .args .buf .now)))) (bodyIn (s .args .n) (s .args .buf .now))) (s .args .buf .now)) e
     ∙ all-spans (s .args .kind) (s .args .n) (s .args .buf .now) (s .pre .0) (s .pre .1)
