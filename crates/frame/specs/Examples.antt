@@ -4,14 +4,14 @@ use Prim.Native.Nat.{ℕ, _+_}
 use mathlib.Core.Path.{_≡_, refl}
 use mathlib.Core.Bool.{Bool, true, false, _&&_}
 use mathlib.Core.List.{List, [], _∷_, _++_}
-use lib.ListN.{replicate, length, getD, take, drop}
+use lib.ListN.{replicate, length}
 use lib.Dec.{eqb}
 use Rattle.terms.specs.Paper.{Paper, answer, refusal}
 use Rattle.octets.specs.Octets.{numeral, digitsOf, sum8, sumOf}
 use Rattle.rules.specs.Table.{kindOf, suits, measureOf}
 use Rattle.rules.specs.Fields.{p001Ok, fieldsOk, judgeOf}
 use Rattle.rules.specs.declared.Kind.the-variants.{P001}
-use Rattle.frame.specs.Frame.{msgType, bodyLength, body, checked, readOf}
+use Rattle.frame.specs.Frame.{bodyLength, body, checked, readOf}
 use Rattle.frame.specs.View.{viewed, viewOf}
 
 -- 53303033 0047FA7908DACB40 0000000000000001: A up to its BodyLength

@@ -4,7 +4,7 @@ use mathlib.Core.Path.{_≡_}
 use mathlib.Core.Bool.{Bool}
 use mathlib.Core.List.{List, [], _∷_}
 use lib.ListN.{length, take, drop}
-use lib.Dec.{ltb, leb, eqb}
+use lib.Dec.{leb, eqb}
 use Rattle.terms.specs.Paper.{Paper, answer, refusal, pick}
 use Rattle.octets.specs.Octets.{be, sum8}
 use Rattle.rules.specs.Table.{kindOf, measureOf}

@@ -1,23 +1,22 @@
 -- given-0 to given-6 of reading. For any bytes the condition of the number given holds (`told`), and each condition leads to its number.
 use Prim.Native.Nat.{ℕ, zero, suc, _+_, _<_, _≤_, _%_}
-use mathlib.Core.Path.{_≡_, refl, sym, ap, _∙_}
-use mathlib.Core.Bool.{true, false}
-use mathlib.Core.Logic.{_⊎_, inl, inr, ⊎-elim, _↔_}
+use mathlib.Core.Path.{_≡_, ap, _∙_}
+use mathlib.Core.Bool.{true}
+use mathlib.Core.Logic.{inl, inr, _↔_}
 use mathlib.Core.List.{List}
 use native.Mathlib.Omega.{arith}
 use lib.ListN.{length, take, drop}
-use Rattle.terms.specs.Paper.{Paper, refusal}
+use Rattle.terms.specs.Paper.{Paper}
 use Rattle.octets.specs.Octets.{be, sumOf, sum8}
 use Rattle.rules.specs.declared.Kind.{Kind}
-use Rattle.rules.specs.Table.{kindOf, known, suits, measureOf}
-use Rattle.rules.specs.Fields.{fieldsOk, judgeOf}
-use Rattle.rules.specs.Rules.{TypeRule, LengthRule, FieldRules}
+use Rattle.rules.specs.Table.{kindOf, known, suits}
+use Rattle.rules.specs.Rules.{LengthRule, FieldRules}
 use Rattle.rules.specs.Outcomes.{measure-type, measure-long, measure-length, measure-fine, judge-field, judge-fine, Measured, m-type, m-long, m-length, m-fine, measured, Judged, j-field, j-fine, judged}
 use Rattle.rules.specs.Meaning.{length-says, fields-say, type-is, type-known, type-says, rowed, denied, unsaid}
 use Rattle.frame.specs.Frame.{msgType, sendingTime, bodyLength, body, plain, checkSum, readOf, Whole}
-use Rattle.frame.specs.Measures.{Fits, fits}
-use Rattle.frame.specs.Outcomes.{measure, judgement, Good, Reading, r-short, r-measure, r-cut, r-sum, r-judged, r-frame, reading, read-short, read-measured, read-cut, read-sum, read-judgement, good-reads}
-use Rattle.frame.specs.Given.{Header, Typed, Short, Suited, There, Summed, Meets, Reads0, Reads1, Reads2, Reads3, Reads4, Reads5, Reads6, Reads}
+use Rattle.frame.specs.Measures.{fits}
+use Rattle.frame.specs.Outcomes.{measure, judgement, Reading, r-short, r-measure, r-cut, r-sum, r-judged, r-frame, reading, read-short, read-measured, read-cut, read-sum, read-judgement, good-reads}
+use Rattle.frame.specs.Given.{Typed, Short, Suited, There, Summed, Meets, Reads0, Reads1, Reads2, Reads3, Reads4, Reads5, Reads6, Reads}
 
 number : {p q : Paper} → p ≡ q → p .number ≡ q .number
 number e = ap (λ (x : Paper). x .number) e

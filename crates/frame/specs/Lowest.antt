@@ -1,14 +1,14 @@
 -- Frame law 5: the search answers the lowest place at or after the start where a frame reads, or that none does.
 use Prim.Native.Nat.{ℕ, zero, suc, _+_, _-_, _≤_, _<_}
-use mathlib.Core.Path.{_≡_, refl, sym, ap, _∙_}
-use mathlib.Core.Bool.{Bool, true, false}
-use mathlib.Core.Logic.{_⊎_, inl, inr, ⊎-elim, _↔_}
+use mathlib.Core.Path.{_≡_, sym, ap, _∙_}
+use mathlib.Core.Bool.{true, false}
+use mathlib.Core.Logic.{⊎-elim, _↔_}
 use mathlib.Core.List.{List, [], _∷_}
 use native.Mathlib.Omega.{arith}
 use native.Mathlib.Nat.{eq-or-lt-of-le}
 use lib.ListN.{length, drop, getD, length-drop}
 use borrow.Author.Tests.{eqb-true, eq-eqb}
-use Rattle.terms.specs.Paper.{Paper, answer, refusal}
+use Rattle.terms.specs.Paper.{Paper, answer}
 use Rattle.terms.specs.Cases.{two, less, clash}
 use Rattle.frame.specs.Frame.{readOf, reads}
 use Rattle.frame.specs.Outcomes.{good}

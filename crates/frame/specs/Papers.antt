@@ -1,14 +1,12 @@
 -- The answers of reading and searching in document 01's numbers.
 use Prim.Native.Nat.{ℕ}
 use mathlib.Core.Path.{_≡_, refl, sym, ap, _∙_}
-use mathlib.Core.Bool.{Bool, true, false}
 use mathlib.Core.List.{List, [], _∷_}
 use lib.Dec.{eqb}
-use lib.ListN.{drop, getD}
+use lib.ListN.{getD}
 use Rattle.terms.specs.Paper.{Paper, answer, refusal, pick}
-use Rattle.terms.specs.Refusals.{numberOf, refusalOf, refusal-back, refusal-not-0, told, told-refused}
+use Rattle.terms.specs.Refusals.{numberOf, told, told-refused}
 use Rattle.terms.specs.Counters.{sessionOf}
-use Rattle.rules.specs.declared.Kind.{Kind}
 use Rattle.rules.specs.Table.{kindOf}
 use Rattle.frame.specs.declared.Read.{Read}
 use Rattle.frame.specs.declared.Read.the-variants.{Frame, Refused}

@@ -12,11 +12,11 @@ use Rattle.octets.specs.Numerals.{be-front, numeral-skip, numeral-behind, numer
 use Rattle.octets.specs.Sums.{sum8-below}
 use Rattle.rules.specs.Table.{kindOf}
 use Rattle.rules.specs.Outcomes.{measure-same, judge-same}
-use Rattle.frame.specs.Frame.{msgType, sendingTime, msgSeqNum, bodyLength, body, plain, checkSum, readOf, bodyRead, Whole}
-use Rattle.frame.specs.Outcomes.{accepted, Good, good, good-reads}
+use Rattle.frame.specs.Frame.{msgType, sendingTime, msgSeqNum, bodyLength, body, plain, checkSum, readOf, bodyRead}
+use Rattle.frame.specs.Outcomes.{Good, good, good-reads}
 use Rattle.frame.specs.Measures.{fits}
 use Rattle.frame.specs.Places.{body-length, body-of}
-use Rattle.frame.specs.Write.{Message, message, messageOf, plainOf, frameOf, writeOf, leftOf}
+use Rattle.frame.specs.Write.{Message, messageOf, plainOf, frameOf, writeOf, leftOf}
 use Rattle.octets.specs.Overlays.{laid-front, drop-laid, take-front}
 use Rattle.frame.specs.WriteLaws.{Sound, fit, left-laid, write-done, plain-length, frame-length}
 

@@ -1,19 +1,18 @@
 -- Frame laws 1 and 3, on which the layers above lean: an answer other than 1 stays when bytes follow, and 8,192 bytes never answer 1.
-use Prim.Native.Nat.{ℕ, _+_, _<_, _≤_}
-use mathlib.Core.Path.{_≡_, refl, sym, ap, _∙_}
-use mathlib.Core.Bool.{true, false}
+use Prim.Native.Nat.{ℕ, _+_, _≤_}
+use mathlib.Core.Path.{_≡_, sym, ap, _∙_}
 use mathlib.Core.List.{List, _++_}
 use native.Mathlib.Omega.{arith}
 use lib.ListN.{length, take, drop, length-append, length-drop}
 use lib.Seq.{take-append-le, drop-append-le}
-use Rattle.terms.specs.Paper.{Paper, refusal}
+use Rattle.terms.specs.Paper.{Paper}
 use Rattle.octets.specs.Octets.{be, sum8}
 use Rattle.octets.specs.Numerals.{numeral-append}
-use Rattle.rules.specs.Table.{kindOf, measureOf}
+use Rattle.rules.specs.Table.{kindOf}
 use Rattle.rules.specs.Outcomes.{measure-same, judge-same, measure-not-more, judge-not-more}
 use Rattle.frame.specs.Frame.{msgType, sendingTime, msgSeqNum, bodyLength, body, plain, checkSum, readOf, Whole}
 use Rattle.frame.specs.Measures.{fits}
-use Rattle.frame.specs.Outcomes.{accepted, measure, judgement, Good, Reading, r-short, r-measure, r-cut, r-sum, r-judged, r-frame, reading, read-measured, read-sum, read-judgement, read-frame}
+use Rattle.frame.specs.Outcomes.{accepted, measure, judgement, Reading, r-short, r-measure, r-cut, r-sum, r-judged, r-frame, reading, read-measured, read-sum, read-judgement, read-frame}
 
 longer : (s t : List ℕ) → length s ≤ length (s ++ t)
 longer s t = simp length-append (omega arith)

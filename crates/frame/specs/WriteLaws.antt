@@ -1,15 +1,14 @@
 -- Each answer of writing from the facts that lead to it, the same by cases, what it leaves, and the lengths of a frame's parts.
 use Prim.Native.Nat.{ℕ, _+_, _<_, _≤_}
 use mathlib.Core.Path.{_≡_, refl, sym, ap, _∙_}
-use mathlib.Core.Logic.{_⊎_, inl, inr, ⊎-elim}
+use mathlib.Core.Logic.{⊎-elim}
 use mathlib.Core.List.{List, [], _∷_, _++_}
-use native.Mathlib.Nat.{zero-add}
 use native.Mathlib.Omega.{arith}
 use lib.ListN.{length, length-append}
 use borrow.Author.Tests.{le-leb, lt-leb, eq-eqb, ne-eqb}
 use Rattle.terms.specs.Paper.{Paper, answer, refusal}
 use Rattle.terms.specs.Cases.{less, same}
-use Rattle.octets.specs.Octets.{bytesOf, sum8, laid}
+use Rattle.octets.specs.Octets.{laid}
 use Rattle.octets.specs.Numerals.{length-digits}
 use Rattle.octets.specs.Overlays.{laid-next, length-laid}
 use Rattle.terms.specs.Refusals.{refusal-pos}

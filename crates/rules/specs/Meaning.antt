@@ -1,12 +1,12 @@
 -- The tests say the rules: each definition that a promise cites holds exactly when document 01's words do.
 use Prim.Native.Nat.{ℕ, zero, suc, _+_, _*_, _<_, _≤_, _^_}
-use mathlib.Core.Path.{_≡_, refl, sym, ap, _∙_}
-use mathlib.Core.Bool.{Bool, true, false, _&&_, _||_}
+use mathlib.Core.Path.{_≡_, refl, sym, _∙_}
+use mathlib.Core.Bool.{Bool, true, false}
 use mathlib.Core.Logic.{_⊎_, inl, inr, ⊎-elim}
 use mathlib.Core.List.{List}
 use native.Mathlib.Omega.{arith}
 use native.Mathlib.Nat.{eq-or-lt-of-le, le-of-suc-le-suc, not-suc-le-zero}
-use lib.Dec.{ltb, leb, eqb}
+use lib.Dec.{eqb}
 use lib.ListN.{length}
 use borrow.Author.Tests.{eq-eqb, ne-eqb, eqb-true}
 use Rattle.octets.specs.Octets.{be}
@@ -16,7 +16,7 @@ use Rattle.rules.specs.declared.Kind.{Kind}
 use Rattle.rules.specs.declared.Kind.the-variants.{S001, S002, S003, P001, P002, M101, M102, M201, Unknown}
 use Rattle.rules.specs.Table.{kindOf, known, suits}
 use Rattle.rules.specs.Fields.{s001Ok, s002Ok, p001Ok, p002Ok, m201Ok, pairOk, m102ValuesOk, entrySize, entryOk, entriesOk, m102Ok, fieldsOk}
-use Rattle.rules.specs.Rules.{TypeRule, LengthRule, S001Rules, S002Rules, P001Rules, P002Rules, Pair, pair-1, pair-2, pair-3-MD101, pair-3-MD102, pair-12, pair-13, pair-14, EntrySize, short, long, EntryRules, M102Rules, M201Rules, NoRules, FieldRules}
+use Rattle.rules.specs.Rules.{TypeRule, LengthRule, S001Rules, S002Rules, P001Rules, P002Rules, Pair, pair-1, pair-2, pair-3-MD101, pair-3-MD102, pair-12, pair-13, pair-14, EntrySize, short, long, EntryRules, M102Rules, M201Rules, FieldRules}
 use Rattle.rules.specs.Says.{Says, says-lt, says-le, says-eq, says-and, says-or, says-as}
 
 -- LENGTHS

@@ -1,6 +1,6 @@
 -- For each public function: two answers that its promise allows are equal; the lent buffer's later contents too, and a
 -- refusal leaves it as it was. Assumes nothing.
-use mathlib.Core.Path.{_≡_, sym, ap, _∙_}
+use mathlib.Core.Path.{sym, _∙_}
 use denote.Ref.{now}
 use Rattle.terms.specs.OneAnswer.{OneAnswer}
 use Rattle.terms.specs.OneBuffer.{OneBuffer, RefusedKeeps}

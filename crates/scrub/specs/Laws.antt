@@ -1,14 +1,12 @@
 -- Demand 2, second half: a scrubbed frame reads, holds the fill in each private field and a checksum set anew, and has every
 -- other byte of the original. And two frames that agree in all but private fields and checksum scrub to the same bytes.
-use Prim.Native.Nat.{ℕ, _+_, _-_, _<_, _≤_, _^_}
+use Prim.Native.Nat.{ℕ, _+_, _-_, _<_, _≤_}
 use mathlib.Core.Path.{_≡_, refl, sym, ap, _∙_}
-use mathlib.Core.Bool.{true, false}
 use mathlib.Core.Logic.{_⊎_, inl, inr, ⊎-elim}
 use mathlib.Core.List.{List, [], _∷_, _++_, append-assoc}
 use native.Mathlib.Omega.{arith}
-use native.Mathlib.Nat.{add-zero}
-use lib.ListN.{length, getD, take, drop, length-append, length-drop}
-use lib.Seq.{ext-getD, take-at, take-add, take-append-le, length-take-le, getD-take, getD-drop}
+use lib.ListN.{length, getD, take, drop, length-append}
+use lib.Seq.{take-add, length-take-le, getD-take, getD-drop}
 use borrow.Author.Tests.{eq-eqb, ne-eqb}
 use Rattle.terms.specs.Paper.{Paper, answer}
 use Rattle.terms.specs.Cases.{less, same}
@@ -18,11 +16,10 @@ use Rattle.octets.specs.Papers.{writtenPaper, Refuses}
 use Rattle.octets.specs.Octets.{be, bytesOf, sum8, laid, Bytes}
 use Rattle.octets.specs.Numerals.{bytesOf-be, length-digits, numeral-below, numeral-take}
 use Rattle.octets.specs.Overlays.{length-laid, laid-append, laid-front, laid-again, laid-same, take-laid, take-front}
-use Rattle.rules.specs.Table.{kindOf, suits, measureOf}
-use Rattle.rules.specs.Fields.{judgeOf}
+use Rattle.rules.specs.Table.{kindOf}
 use Rattle.rules.specs.Outcomes.{measure-same}
-use Rattle.frame.specs.Frame.{msgType, sendingTime, msgSeqNum, bodyLength, body, plain, checkSum, readOf, reads}
-use Rattle.frame.specs.Outcomes.{accepted, Good, good, good-reads}
+use Rattle.frame.specs.Frame.{msgType, sendingTime, msgSeqNum, bodyLength, body, plain, checkSum, readOf}
+use Rattle.frame.specs.Outcomes.{good, good-reads}
 use Rattle.frame.specs.Measures.{fits}
 use Rattle.frame.specs.Places.{body-length}
 use Rattle.frame.specs.Write.{Message, message, messageOf, plainOf, frameOf}

@@ -3,16 +3,14 @@ use Prim.Native.Nat.{ℕ, zero, suc, _+_, _-_, _<_, _≤_}
 use mathlib.Core.Path.{_≡_, refl, sym, ap, _∙_}
 use mathlib.Core.Logic.{_⊎_, inl, inr, ⊎-elim}
 use mathlib.Core.List.{List, [], _∷_, _++_}
-use native.Mathlib.Numerals.{add-one}
-use native.Mathlib.Nat.{add-zero, add-assoc}
 use native.Mathlib.Omega.{arith}
-use lib.ListN.{length, getD, take, drop, replicate, length-replicate, getD-replicate, length-append, length-drop, take-append-drop, List·getD-append}
+use lib.ListN.{length, getD, take, drop, replicate, length-replicate, getD-replicate, List·getD-append}
 use lib.Seq.{length-take-le, getD-append-add, getD-drop, getD-take, take-nil, ext-getD}
 use Rattle.terms.specs.Cases.{less}
 use Rattle.octets.specs.Octets.{laid, numeral}
 use Rattle.octets.specs.Overlays.{laid-nil, length-laid}
 use Rattle.scrub.specs.declared.Span.{Span}
-use Rattle.scrub.specs.Private.{spaces, spanAt}
+use Rattle.scrub.specs.Private.{spanAt}
 use Rattle.scrub.specs.Scrub.{painted}
 
 -- the byte i lies in one of the spans

@@ -1,11 +1,11 @@
 -- The private spans of document 01: where they lie, that they are few and within the body, and that they depend on public bytes alone.
-use Prim.Native.Nat.{ℕ, zero, suc, _+_, _-_, _<_, _≤_}
-use mathlib.Core.Path.{_≡_, refl, sym, ap, _∙_}
-use mathlib.Core.Bool.{true, false}
+use Prim.Native.Nat.{ℕ, _+_, _-_, _<_, _≤_}
+use mathlib.Core.Path.{_≡_, refl}
+use mathlib.Core.Bool.{true}
 use mathlib.Core.Logic.{_⊎_, inl, inr, ⊎-elim, _↔_}
-use mathlib.Core.List.{List, [], _∷_}
+use mathlib.Core.List.{List, []}
 use native.Mathlib.Omega.{arith}
-use lib.ListN.{length, getD, take}
+use lib.ListN.{length, take}
 use lib.Seq.{ext-getD}
 use borrow.Author.Tests.{eqb-true, leb-true}
 use Rattle.terms.specs.Cases.{less}
@@ -14,7 +14,6 @@ use Rattle.rules.specs.declared.Kind.{Kind}
 use Rattle.rules.specs.declared.Kind.the-variants.{S001, S002, S003, P001, P002, M101, M102, M201, Unknown}
 use Rattle.rules.specs.Table.{suits}
 use Rattle.rules.specs.Fields.{s001Ok, s002Ok, p002Ok, m201Ok, fieldsOk, judgeOf}
-use Rattle.scrub.specs.declared.Span.{Span}
 use Rattle.frame.specs.View.{viewOf}
 use Rattle.scrub.specs.Private.{privateOf}
 use Rattle.scrub.specs.Paint.{Inside, Within, Filled, Agree, Clear, number-same}

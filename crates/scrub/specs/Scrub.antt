@@ -1,10 +1,9 @@
 -- What scrubbing answers and leaves.
 use Prim.Native.Nat.{ℕ, _+_}
 use mathlib.Core.List.{List, [], _∷_}
-use lib.ListN.{length, take, drop, replicate}
+use lib.ListN.{take, replicate}
 use Rattle.terms.specs.Paper.{Paper, answer, pick}
 use Rattle.octets.specs.Octets.{bytesOf, sum8, laid}
-use Rattle.rules.specs.declared.Kind.{Kind}
 use Rattle.rules.specs.Table.{kindOf}
 use Rattle.frame.specs.Frame.{msgType, bodyLength, body, readOf, reads}
 use Rattle.scrub.specs.declared.Span.{Span}

@@ -1,11 +1,11 @@
 -- Span number i of short rows, and all spans painted within a buffer.
-use Prim.Native.Nat.{ℕ, zero, suc, _+_, _-_, _<_, _≤_}
-use mathlib.Core.Path.{_≡_, refl, sym, ap, _∙_}
+use Prim.Native.Nat.{ℕ, _+_, _≤_}
+use mathlib.Core.Path.{_≡_, sym, ap, _∙_}
 use mathlib.Core.Bool.{true}
-use mathlib.Core.List.{List, [], _∷_}
+use mathlib.Core.List.{List, _∷_}
 use native.Mathlib.Omega.{arith}
-use lib.ListN.{length, getD, take, drop, replicate, length-replicate, length-drop, List·getD-eq-default}
-use lib.Seq.{length-take-le, take-all, drop-drop}
+use lib.ListN.{length, take, drop, replicate, length-replicate, length-drop, List·getD-eq-default}
+use lib.Seq.{length-take-le}
 use Rattle.octets.specs.Octets.{laid}
 use Rattle.octets.specs.Overlays.{laid-same, mid-laid, length-laid}
 use Rattle.rules.specs.declared.Kind.{Kind}
@@ -14,7 +14,7 @@ use Rattle.scrub.specs.declared.Span.{Span}
 use Rattle.scrub.specs.Private.{spaces, privateOf, spanAt}
 use Rattle.scrub.specs.Scrub.{painted}
 use Rattle.scrub.specs.Within.{bodyIn, spanIn, spanPainted}
-use Rattle.scrub.specs.Paint.{Within, over, length-painted, painted-more, painted-agrees, within-take, within-at}
+use Rattle.scrub.specs.Paint.{Within, length-painted, painted-more, painted-agrees, within-take, within-at}
 use Rattle.scrub.specs.PrivateLaws.{private-few, private-within, private-same}
 use Rattle.scrub.specs.Overlap.{laid-inner}
 

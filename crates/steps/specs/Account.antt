@@ -1,7 +1,7 @@
 -- From the readings of a walk to its records and its ledger: each reading makes one record and hands the ledger on.
 use Prim.Native.Nat.{ℕ, zero, suc}
 use lib.ListN.{length}
-use mathlib.Core.Path.{_≡_, refl, sym, ap, _∙_}
+use mathlib.Core.Path.{_≡_, refl, ap}
 use mathlib.Core.List.{List, [], _∷_, _++_}
 use Rattle.steps.specs.Walk.{Says, Sight, within, sightsOf}
 

@@ -1,10 +1,9 @@
 -- Captures made of frames end to end (CR 13), and the accepted frames of any capture (CR 11).
-use Prim.Native.Nat.{ℕ, zero, suc, _+_, _-_, _≤_, _<_}
+use Prim.Native.Nat.{ℕ, zero, suc, _+_, _-_, _≤_}
 use mathlib.Core.Path.{_≡_, refl, sym, ap, _∙_}
-use mathlib.Core.Bool.{Bool, true, false}
-use mathlib.Core.List.{List, [], _∷_, _++_, map, append-assoc, append-nil}
+use mathlib.Core.List.{List, [], _∷_, _++_, append-assoc, append-nil}
 use native.Mathlib.Omega.{arith}
-use lib.ListN.{length, take, drop, length-append}
+use lib.ListN.{length, take}
 use lib.Seq.{drop-at, length-take-le}
 use Rattle.steps.specs.Walk.{Says, frame, more, bad, Sight, Mode, within, seeking, after, next, found, noted, sightsOf}
 use Rattle.steps.specs.Literal.{sights-skip, from-step}

@@ -1,17 +1,17 @@
 -- The walk in the words of document 01, and that it is the walk byte by byte.
 use Prim.Native.Nat.{ℕ, zero, suc, _+_, _-_, _≤_, _<_}
-use mathlib.Core.Path.{_≡_, refl, sym, ap, _∙_}
+use mathlib.Core.Path.{_≡_, refl, sym, _∙_}
 use mathlib.Core.Bool.{Bool, true, false}
-use mathlib.Core.Logic.{_⊎_, inl, inr, ⊎-elim}
-use mathlib.Core.List.{List, [], _∷_, _++_}
+use mathlib.Core.Logic.{⊎-elim}
+use mathlib.Core.List.{List, [], _∷_}
 use native.Mathlib.Omega.{arith}
 use native.Mathlib.Numerals.{add-one}
-use native.Mathlib.Nat.{add-zero, eq-or-lt-of-le}
+use native.Mathlib.Nat.{add-zero}
 use lib.Dec.{leb}
-use borrow.Author.Tests.{le-leb, lt-leb, leb-true, leb-false}
-use lib.ListN.{length, take, drop, length-drop, drop-of-length-le}
+use borrow.Author.Tests.{le-leb, lt-leb}
+use lib.ListN.{length, drop, drop-of-length-le}
 use lib.Seq.{drop-cons, drop-drop}
-use Rattle.steps.specs.Walk.{Says, frame, more, bad, Sight, Mode, within, seeking, after, next, found, noted, sightsOf}
+use Rattle.steps.specs.Walk.{Says, frame, more, bad, Sight, within, seeking, after, next, found, noted, sightsOf}
 use Rattle.terms.specs.Paper.{pick}
 use Rattle.terms.specs.Cases.{two, less, clash}
 

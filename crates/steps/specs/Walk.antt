@@ -1,6 +1,5 @@
 -- The walk over a capture: which places are read, and what is read there.
-use Prim.Native.Nat.{ℕ, zero, suc, _+_, _-_, _≤_, _<_}
-use mathlib.Core.Path.{_≡_, refl, sym, ap, _∙_}
+use Prim.Native.Nat.{ℕ, zero, suc, _+_, _-_}
 use mathlib.Core.List.{List, [], _∷_, _++_}
 
 -- what a reading says to the walk: a frame of n bytes, bytes are missing, or no frame

@@ -6,8 +6,6 @@ use mathlib.Core.Path.{_≡_, refl, sym, ap, _∙_}
 use borrow.Author.Needs.{needs}
 use Rattle.entries.proofs.carried.Statement.{statement}
 use Rattle.entries.proofs.carried.Tie as tie
-use Rattle.entries.proofs.carried.Reads as reads
-use Rattle.entries.proofs.carried.Lts as lts
 
 -- in the arm of a refusal
 not-0 : (c : tie.After-result) → verdictNumber (c .before .before .before .args .answer) ≡ 0 → ⊥

@@ -6,9 +6,6 @@ use mathlib.Core.Path.{sym}
 use borrow.Author.Needs.{needs}
 use Rattle.entries.proofs.is_entry.Statement.{statement}
 use Rattle.entries.proofs.is_entry.Tie as tie
-use Rattle.entries.proofs.is_entry.Reads as reads
-use Rattle.entries.proofs.is_entry.Lts as lts
-use Rattle.octets.proofs.u16_at.Reads as u16-at-reads
 
 returns : tie.Need-returns
 returns c = sym (before-73 _ _ (omega arith))

@@ -9,10 +9,6 @@ use mathlib.Core.Path.{sym, ap, _∙_}
 use borrow.Author.Needs.{needs}
 use Rattle.entries.proofs.open_at.Statement.{statement}
 use Rattle.entries.proofs.open_at.Tie as tie
-use Rattle.entries.proofs.open_at.Reads as reads
-use Rattle.entries.proofs.open_at.Lts as lts
-use Rattle.rules.proofs.fields_ok.Reads as fields-ok-reads
-use Rattle.rules.proofs.measure.Reads as measure-reads
 
 -- in the arm of a length that suits
 suits : (c : tie.After-enum-told) → (length (c .before .before .before .before .args .body .now) ≤ 8164) × (73 ≤ length (c .before .before .before .before .args .body .now))

@@ -12,12 +12,6 @@ use mathlib.Core.Path.{_≡_, sym, ap, _∙_}
 use borrow.Author.Needs.{needs}
 use Rattle.entries.proofs.step_at.Statement.{statement}
 use Rattle.entries.proofs.step_at.Tie as tie
-use Rattle.entries.proofs.step_at.Reads as reads
-use Rattle.entries.proofs.step_at.Lts as lts
-use Rattle.entries.proofs.entry_at.Reads as entry-at-reads
-use Rattle.entries.proofs.is_entry.Reads as is-entry-reads
-use Rattle.octets.proofs.u40_at.Reads as u40-at-reads
-use Rattle.rules.proofs.entry_size.Reads as entry-size-reads
 
 -- where an entry stands: that it does, its size, and that it does not pass the end
 there : (c : tie.Else1) → stands (c .before .before .before .before .before .args .body .now) (c .before .before .before .before .before .args .place) ≡ true

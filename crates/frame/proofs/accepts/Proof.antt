@@ -3,13 +3,10 @@ use Rattle.frame.specs.Papers.{readPaper}
 use Rattle.terms.specs.Refusals.{refusal-not-0}
 use Rattle.terms.specs.Paper.{Paper}
 use lib.Dec.{eqb}
-use mathlib.Core.Path.{_≡_, refl, sym, ap, _∙_}
+use mathlib.Core.Path.{sym, ap, _∙_}
 use borrow.Author.Needs.{needs}
 use Rattle.frame.proofs.accepts.Statement.{statement}
 use Rattle.frame.proofs.accepts.Tie as tie
-use Rattle.frame.proofs.accepts.Reads as reads
-use Rattle.frame.proofs.accepts.Lts as lts
-use Rattle.frame.proofs.rest_at.Reads as rest-at-reads
 
 rest-at-requires : tie.Need-rest-at-requires
 rest-at-requires c κs = search needs

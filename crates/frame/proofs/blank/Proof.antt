@@ -2,10 +2,6 @@
 use borrow.Author.Needs.{needs}
 use Rattle.frame.proofs.blank.Statement.{statement}
 use Rattle.frame.proofs.blank.Tie as tie
-use Rattle.frame.proofs.blank.Reads as reads
-use Rattle.frame.proofs.blank.Lts as lts
-use Rattle.terms.proofs.ChannelNumber.new.Reads as ChannelNumber-new-reads
-use Rattle.terms.proofs.TickNumber.new.Reads as TickNumber-new-reads
 
 new-requires : tie.Need-new-requires
 new-requires c κs = search needs

@@ -1,7 +1,7 @@
 -- `body_at`: the paper of a frame that reads tells its length, and that its body lies within the bytes. Assumes nothing.
 use native.Mathlib.Omega.{arith}
 use Rattle.frame.specs.Places.{part-body, body-of, body-none, inside-at}
-use Rattle.frame.specs.Outcomes.{Good, good, read-done, read-length}
+use Rattle.frame.specs.Outcomes.{good, read-done, read-length}
 use Rattle.frame.specs.Papers.{readPaper}
 use Rattle.frame.specs.Frame.{bodyLength, readOf}
 use Rattle.terms.specs.Refusals.{refusal-pos}
@@ -9,13 +9,10 @@ use Rattle.terms.specs.Paper.{Paper, answer}
 use lib.ListN.{length, drop}
 use mathlib.Core.List.{List, [], _∷_}
 use Prim.Native.Nat.{ℕ, _+_, _≤_}
-use mathlib.Core.Path.{_≡_, refl, sym, ap, _∙_}
+use mathlib.Core.Path.{_≡_, sym, ap, _∙_}
 use borrow.Author.Needs.{needs}
 use Rattle.frame.proofs.body_at.Statement.{statement}
 use Rattle.frame.proofs.body_at.Tie as tie
-use Rattle.frame.proofs.body_at.Reads as reads
-use Rattle.frame.proofs.body_at.Lts as lts
-use Rattle.frame.proofs.read_at.Reads as read-at-reads
 
 abbrev start : tie.After-read-at → tie.Start
 start c = c .before .before

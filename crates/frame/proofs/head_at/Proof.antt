@@ -3,26 +3,19 @@
 use native.Mathlib.Omega.{arith}
 use Rattle.frame.specs.Places.{be-at, be-here}
 use Rattle.frame.specs.Outcomes.{measure, read-short, read-measured, read-cut}
-use Rattle.frame.specs.Frame.{msgType, bodyLength, readOf}
+use Rattle.frame.specs.Frame.{msgType, bodyLength}
 use Rattle.rules.specs.Verdicts.{verdictNumber}
 use Rattle.rules.specs.Outcomes.{measure-type, measure-same}
-use Rattle.rules.specs.Table.{kindOf, known, kind-is, measureOf}
-use Rattle.terms.specs.Refusals.{numberOf, refusal-pos}
+use Rattle.rules.specs.Table.{kindOf, known, kind-is}
+use Rattle.terms.specs.Refusals.{refusal-pos}
 use lib.ListN.{length, drop, length-drop}
 use mathlib.Core.List.{List}
-use mathlib.Core.Bool.{true}
 use Prim.Native.Nat.{ℕ, _+_, _-_, _<_, _≤_}
-use borrow.Author.Tests.{not-true, not-false}
-use mathlib.Core.Path.{_≡_, refl, sym, ap, _∙_}
+use borrow.Author.Tests.{not-true}
+use mathlib.Core.Path.{_≡_, sym, ap, _∙_}
 use borrow.Author.Needs.{needs}
 use Rattle.frame.proofs.head_at.Statement.{statement}
 use Rattle.frame.proofs.head_at.Tie as tie
-use Rattle.frame.proofs.head_at.Reads as reads
-use Rattle.frame.proofs.head_at.Lts as lts
-use Rattle.octets.proofs.u32_at.Reads as u32-at-reads
-use Rattle.rules.proofs.is_known.Reads as is-known-reads
-use Rattle.rules.proofs.kind_of.Reads as kind-of-reads
-use Rattle.rules.proofs.measure.Reads as measure-reads
 
 abbrev start : tie.After-is-known → tie.Start
 start c = c .before .before .before .before .before .before

@@ -6,17 +6,10 @@ use Rattle.rules.specs.Verdicts.{verdictNumber}
 use Rattle.rules.specs.Outcomes.{measure-same, judge-same}
 use Rattle.rules.specs.Table.{kindOf, kind-is}
 use Rattle.terms.specs.Refusals.{refusal-pos}
-use lib.ListN.{length}
-use Prim.Native.Nat.{_+_, _≤_}
 use mathlib.Core.Path.{_≡_, refl, sym, ap, _∙_}
 use borrow.Author.Needs.{needs}
 use Rattle.frame.proofs.may_write.Statement.{statement}
 use Rattle.frame.proofs.may_write.Tie as tie
-use Rattle.frame.proofs.may_write.Reads as reads
-use Rattle.frame.proofs.may_write.Lts as lts
-use Rattle.rules.proofs.judge.Reads as judge-reads
-use Rattle.rules.proofs.kind_of.Reads as kind-of-reads
-use Rattle.rules.proofs.measure.Reads as measure-reads
 
 -- the message, as the function was called
 abbrev text : tie.Start → Message

@@ -2,21 +2,15 @@
 use native.Mathlib.Omega.{arith}
 use Rattle.frame.specs.Measures.{fits}
 use Rattle.frame.specs.Papers.{HeadSays}
-use Rattle.frame.specs.Frame.{readOf, Whole}
+use Rattle.frame.specs.Frame.{Whole}
 use Rattle.frame.specs.declared.Head.the-variants as Head
-use Rattle.terms.specs.Refusals.{numberOf}
-use lib.ListN.{length, take, drop}
+use lib.ListN.{drop}
 use mathlib.Core.List.{List}
-use Prim.Native.Nat.{ℕ, _+_, _≤_}
-use mathlib.Core.Path.{_≡_, refl, sym, ap, _∙_}
+use Prim.Native.Nat.{ℕ, _≤_}
+use mathlib.Core.Path.{sym}
 use borrow.Author.Needs.{needs}
 use Rattle.frame.proofs.read_at.Statement.{statement}
 use Rattle.frame.proofs.read_at.Tie as tie
-use Rattle.frame.proofs.read_at.Reads as reads
-use Rattle.frame.proofs.read_at.Lts as lts
-use Rattle.frame.proofs.head_at.Reads as head-at-reads
-use Rattle.frame.proofs.rest_at.Reads as rest-at-reads
-use Rattle.octets.proofs.sum.Reads as sum-reads
 
 abbrev text : tie.After-head-at → List ℕ
 text c = drop (c .before .before .args .at) (c .before .before .args .bytes .now)

@@ -3,13 +3,6 @@ use Rattle.frame.specs.View.{viewOf}
 use borrow.Author.Needs.{needs}
 use Rattle.frame.proofs.resend.Statement.{statement}
 use Rattle.frame.proofs.resend.Tie as tie
-use Rattle.frame.proofs.resend.Reads as reads
-use Rattle.frame.proofs.resend.Lts as lts
-use Rattle.octets.proofs.u16_at.Reads as u16-at-reads
-use Rattle.octets.proofs.u64_at.Reads as u64-at-reads
-use Rattle.octets.proofs.u8_at.Reads as u8-at-reads
-use Rattle.terms.proofs.ChannelNumber.new.Reads as ChannelNumber-new-reads
-use Rattle.terms.proofs.TickNumber.new.Reads as TickNumber-new-reads
 
 u16-at-requires : tie.Need-u16-at-requires
 u16-at-requires c κs = search needs

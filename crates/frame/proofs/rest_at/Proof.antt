@@ -3,27 +3,20 @@
 use native.Mathlib.Omega.{arith}
 use Rattle.frame.specs.Places.{be-at, be-here, stored-at, part-body, plain-sum, inside-at}
 use Rattle.frame.specs.Outcomes.{accepted, judgement, read-sum, read-judgement, read-frame}
-use Rattle.frame.specs.Frame.{msgType, sendingTime, msgSeqNum, bodyLength, checkSum, plain, readOf, Whole}
+use Rattle.frame.specs.Frame.{msgType, sendingTime, msgSeqNum, bodyLength, checkSum, plain, Whole}
 use Rattle.rules.specs.Verdicts.{verdictNumber}
 use Rattle.rules.specs.Outcomes.{judge-same}
-use Rattle.rules.specs.Table.{kindOf}
 use Rattle.octets.specs.Octets.{sum8}
 use Rattle.terms.specs.declared.SessionNumber.{SessionNumber}
-use Rattle.terms.specs.Refusals.{numberOf, refusal-pos}
+use Rattle.terms.specs.Refusals.{refusal-pos}
 use Rattle.terms.specs.Paper.{answer}
-use lib.ListN.{length, take, drop}
+use lib.ListN.{length, drop}
 use mathlib.Core.List.{List, [], _∷_}
-use Prim.Native.Nat.{ℕ, _+_, _-_, _<_, _≤_}
-use mathlib.Core.Path.{_≡_, refl, sym, ap, _∙_}
+use Prim.Native.Nat.{ℕ, _+_, _≤_}
+use mathlib.Core.Path.{_≡_, sym, ap, _∙_}
 use borrow.Author.Needs.{needs}
 use Rattle.frame.proofs.rest_at.Statement.{statement}
 use Rattle.frame.proofs.rest_at.Tie as tie
-use Rattle.frame.proofs.rest_at.Reads as reads
-use Rattle.frame.proofs.rest_at.Lts as lts
-use Rattle.octets.proofs.u32_at.Reads as u32-at-reads
-use Rattle.octets.proofs.u64_at.Reads as u64-at-reads
-use Rattle.rules.proofs.judge.Reads as judge-reads
-use Rattle.terms.proofs.SessionNumber.new.Reads as new-reads
 
 -- what lies behind the place, as the function was called
 abbrev text : tie.Start → List ℕ

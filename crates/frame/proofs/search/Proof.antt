@@ -5,7 +5,7 @@ use Rattle.frame.specs.Places.{inside-at}
 use Rattle.frame.specs.SearchLaws.{first-hit, first-miss, first-end, search-beyond, search-first, refused-read, all-passed}
 use Rattle.frame.specs.Search.{firstOf}
 use Rattle.frame.specs.Papers.{foundPaper, HeadSays}
-use Rattle.frame.specs.Frame.{readOf, reads}
+use Rattle.frame.specs.Frame.{reads}
 use Rattle.frame.specs.declared.Head.the-variants as Head
 use Rattle.frame.specs.declared.Found.the-variants.{Nothing}
 use Rattle.octets.specs.Sums.{sum8-on}
@@ -16,15 +16,10 @@ use native.Mathlib.Omega.{arith}
 use mathlib.Core.Bool.{false}
 use lib.ListN.{length, take, drop}
 use mathlib.Core.List.{List}
-use Prim.Native.Nat.{ℕ, _+_, _-_, _≤_, _<_}
+use Prim.Native.Nat.{ℕ, _+_, _-_, _≤_}
 use mathlib.Core.Path.{_≡_, refl, sym, ap, _∙_}
 use Rattle.frame.proofs.search.Statement.{statement}
 use Rattle.frame.proofs.search.Tie as tie
-use Rattle.frame.proofs.search.Reads as reads
-use Rattle.frame.proofs.search.Lts as lts
-use Rattle.frame.proofs.accepts.Reads as accepts-reads
-use Rattle.frame.proofs.head_at.Reads as head-at-reads
-use Rattle.std.proofs.num.wrapping_add_u8.Reads as wrapping-add-u8-reads
 
 abbrev Inv-bytes : tie.InvT-bytes
 Inv-bytes bytes from p found₀ at kind n end v₀ i₀ found v i = (at ≤ i) × ((i ≤ end) × ((v ≡ sum8 (take (i - at) (drop at bytes))) × (found ≡ Nothing)))

@@ -5,23 +5,16 @@ use borrow.Author.Tests.{le-leb}
 use Rattle.octets.specs.Papers.{laid-there}
 use Rattle.frame.specs.WriteLaws.{plain-length, put-next}
 use Rattle.frame.specs.Write.{Message, message, plainOf, frameOf}
-use Rattle.terms.specs.declared.SessionNumber.{SessionNumber}
 use Rattle.octets.specs.Overlays.{take-front}
 use Rattle.octets.specs.Numerals.{length-digits}
 use Rattle.octets.specs.Octets.{bytesOf, laid, sum8}
-use lib.ListN.{length, take, drop, length-append}
+use lib.ListN.{length, take, length-append}
 use mathlib.Core.List.{List, _++_}
 use Prim.Native.Nat.{ℕ, _+_, _≤_}
-use mathlib.Core.Path.{_≡_, refl, sym, ap, _∙_}
+use mathlib.Core.Path.{_≡_, refl, ap, _∙_}
 use borrow.Author.Needs.{needs}
 use Rattle.frame.proofs.store.Statement.{statement}
 use Rattle.frame.proofs.store.Tie as tie
-use Rattle.frame.proofs.store.Reads as reads
-use Rattle.frame.proofs.store.Lts as lts
-use Rattle.octets.proofs.lay.Reads as lay-reads
-use Rattle.octets.proofs.put.Reads as put-reads
-use Rattle.octets.proofs.sum.Reads as sum-reads
-use Rattle.terms.proofs.SessionNumber.value.Reads as value-reads
 
 -- the function's entry from behind the first call, and the way from each call to the one before it
 abbrev entry : tie.After-put → tie.Start

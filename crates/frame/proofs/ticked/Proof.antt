@@ -2,12 +2,6 @@
 use borrow.Author.Needs.{needs}
 use Rattle.frame.proofs.ticked.Statement.{statement}
 use Rattle.frame.proofs.ticked.Tie as tie
-use Rattle.frame.proofs.ticked.Reads as reads
-use Rattle.frame.proofs.ticked.Lts as lts
-use Rattle.octets.proofs.u16_at.Reads as u16-at-reads
-use Rattle.octets.proofs.u64_at.Reads as u64-at-reads
-use Rattle.terms.proofs.ChannelNumber.new.Reads as ChannelNumber-new-reads
-use Rattle.terms.proofs.TickNumber.new.Reads as TickNumber-new-reads
 
 u16-at-requires : tie.Need-u16-at-requires
 u16-at-requires c κs = search needs

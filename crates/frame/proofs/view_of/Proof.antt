@@ -3,11 +3,6 @@ use Rattle.frame.specs.View.{viewOf}
 use borrow.Author.Needs.{needs}
 use Rattle.frame.proofs.view_of.Statement.{statement}
 use Rattle.frame.proofs.view_of.Tie as tie
-use Rattle.frame.proofs.view_of.Reads as reads
-use Rattle.frame.proofs.view_of.Lts as lts
-use Rattle.frame.proofs.blank.Reads as blank-reads
-use Rattle.frame.proofs.resend.Reads as resend-reads
-use Rattle.frame.proofs.ticked.Reads as ticked-reads
 
 enum-told : tie.Need-enum-told
 enum-told c = search needs

@@ -6,15 +6,10 @@ use Rattle.terms.specs.Refusals.{numberOf, refusal-pos}
 use Rattle.terms.specs.Paper.{Paper, answer, refusal}
 use lib.ListN.{length}
 use mathlib.Core.List.{[], _∷_}
-use Prim.Native.Nat.{_+_, _≤_}
-use mathlib.Core.Path.{_≡_, refl, sym, ap, _∙_}
+use mathlib.Core.Path.{_≡_, sym, ap, _∙_}
 use borrow.Author.Needs.{needs}
 use Rattle.frame.proofs.write.Statement.{statement}
 use Rattle.frame.proofs.write.Tie as tie
-use Rattle.frame.proofs.write.Reads as reads
-use Rattle.frame.proofs.write.Lts as lts
-use Rattle.frame.proofs.may_write.Reads as may-write-reads
-use Rattle.frame.proofs.store.Reads as store-reads
 
 abbrev start : tie.After-may-write → tie.Start
 start c = c .before .before .before

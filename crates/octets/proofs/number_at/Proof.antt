@@ -9,9 +9,6 @@ use Rattle.octets.specs.Octets.{numeral, be}
 use Rattle.octets.specs.Numerals.{numeral-more, room-more, pow-room}
 use Rattle.octets.proofs.number_at.Statement.{statement}
 use Rattle.octets.proofs.number_at.Tie as tie
-use Rattle.octets.proofs.number_at.Reads as reads
-use Rattle.octets.proofs.number_at.Lts as lts
-use Rattle.octets.proofs.byte.Reads as byte-reads
 
 abbrev Inv-loop : tie.InvT-loop
 Inv-loop s at n v₀ i₀ v i = (i ≤ n) × ((v ≡ be i at s) × (v < 256 ^ i))

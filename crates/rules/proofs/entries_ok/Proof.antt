@@ -4,13 +4,10 @@ use borrow.Author.Needs.{needs}
 use Rattle.rules.specs.Sizes.{entries-more, entry-small}
 use Rattle.rules.specs.Fields.{entriesOk}
 use native.Mathlib.Nat.{le-antisymm}
-use mathlib.Core.Path.{_≡_, refl, sym, ap, _∙_}
+use mathlib.Core.Path.{_≡_}
 use Prim.Native.Nat.{_≤_, _-_}
 use Rattle.rules.proofs.entries_ok.Statement.{statement}
 use Rattle.rules.proofs.entries_ok.Tie as tie
-use Rattle.rules.proofs.entries_ok.Reads as reads
-use Rattle.rules.proofs.entries_ok.Lts as lts
-use Rattle.rules.proofs.entry_ok.Reads as entry-ok-reads
 
 abbrev Inv-loop : tie.InvT-loop
 Inv-loop b n w ok₀ i₀ ok i = (i ≤ n) × (ok ≡ entriesOk i w b)

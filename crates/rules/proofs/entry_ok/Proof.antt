@@ -3,10 +3,6 @@ use Rattle.rules.specs.Fields.{entryOk}
 use borrow.Author.Needs.{needs}
 use Rattle.rules.proofs.entry_ok.Statement.{statement}
 use Rattle.rules.proofs.entry_ok.Tie as tie
-use Rattle.rules.proofs.entry_ok.Reads as reads
-use Rattle.rules.proofs.entry_ok.Lts as lts
-use Rattle.octets.proofs.u64_at.Reads as u64-at-reads
-use Rattle.octets.proofs.u8_at.Reads as u8-at-reads
 
 add-u64-at : tie.Need-add-u64-at
 add-u64-at c = search needs

@@ -3,8 +3,6 @@ use Rattle.rules.specs.Fields.{entrySize}
 use borrow.Author.Tests.{eq-eqb, ne-eqb}
 use Rattle.rules.proofs.entry_size.Statement.{statement}
 use Rattle.rules.proofs.entry_size.Tie as tie
-use Rattle.rules.proofs.entry_size.Reads as reads
-use Rattle.rules.proofs.entry_size.Lts as lts
 
 returns : tie.Need-returns
 unfolding entrySize

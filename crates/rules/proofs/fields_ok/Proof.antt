@@ -1,17 +1,8 @@
 -- `fields_ok`: each arm knows its type, and its rules are the callee's. Assumes nothing.
 use Rattle.rules.specs.Fields.{fieldsOk}
-use mathlib.Core.Path.{_≡_, refl, sym, ap, _∙_}
 use borrow.Author.Needs.{needs}
 use Rattle.rules.proofs.fields_ok.Statement.{statement}
 use Rattle.rules.proofs.fields_ok.Tie as tie
-use Rattle.rules.proofs.fields_ok.Reads as reads
-use Rattle.rules.proofs.fields_ok.Lts as lts
-use Rattle.rules.proofs.m102_ok.Reads as m102-ok-reads
-use Rattle.rules.proofs.m201_ok.Reads as m201-ok-reads
-use Rattle.rules.proofs.p001_ok.Reads as p001-ok-reads
-use Rattle.rules.proofs.p002_ok.Reads as p002-ok-reads
-use Rattle.rules.proofs.s001_ok.Reads as s001-ok-reads
-use Rattle.rules.proofs.s002_ok.Reads as s002-ok-reads
 
 enum-told : tie.Need-enum-told
 enum-told c = search needs

@@ -1,13 +1,10 @@
 -- `judge`: each return cites the outcome for the test that led there. Assumes nothing.
 use Rattle.rules.specs.Outcomes.{judge-field, judge-fine}
 use borrow.Author.Tests.{not-true, not-false}
-use mathlib.Core.Path.{_≡_, refl, sym, ap, _∙_}
+use mathlib.Core.Path.{sym, _∙_}
 use borrow.Author.Needs.{needs}
 use Rattle.rules.proofs.judge.Statement.{statement}
 use Rattle.rules.proofs.judge.Tie as tie
-use Rattle.rules.proofs.judge.Reads as reads
-use Rattle.rules.proofs.judge.Lts as lts
-use Rattle.rules.proofs.fields_ok.Reads as fields-ok-reads
 
 fields-ok-requires : tie.Need-fields-ok-requires
 fields-ok-requires c κs = search needs

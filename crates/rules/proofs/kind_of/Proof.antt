@@ -3,8 +3,6 @@ use Rattle.rules.specs.Table.{typeOf, kindOf}
 use borrow.Author.Tests.{ne-eqb}
 use Rattle.rules.proofs.kind_of.Statement.{statement}
 use Rattle.rules.proofs.kind_of.Tie as tie
-use Rattle.rules.proofs.kind_of.Reads as reads
-use Rattle.rules.proofs.kind_of.Lts as lts
 
 returns : tie.Need-returns
 unfolding typeOf kindOf

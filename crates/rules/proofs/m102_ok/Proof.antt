@@ -2,19 +2,9 @@
 use native.Mathlib.Omega.{arith}
 use Rattle.rules.specs.Sizes.{size-small, entries-small}
 use Rattle.rules.specs.Fields.{m102Ok}
-use mathlib.Core.Path.{_≡_, refl, sym, ap, _∙_}
 use borrow.Author.Needs.{needs}
 use Rattle.rules.proofs.m102_ok.Statement.{statement}
 use Rattle.rules.proofs.m102_ok.Tie as tie
-use Rattle.rules.proofs.m102_ok.Reads as reads
-use Rattle.rules.proofs.m102_ok.Lts as lts
-use Rattle.octets.proofs.u16_at.Reads as u16-at-reads
-use Rattle.octets.proofs.u40_at.Reads as u40-at-reads
-use Rattle.octets.proofs.u8_at.Reads as u8-at-reads
-use Rattle.rules.proofs.entries_ok.Reads as entries-ok-reads
-use Rattle.rules.proofs.entry_size.Reads as entry-size-reads
-use Rattle.rules.proofs.m102_values_ok.Reads as m102-values-ok-reads
-use Rattle.rules.proofs.pair_ok.Reads as pair-ok-reads
 
 u40-at-requires : tie.Need-u40-at-requires
 u40-at-requires c κs = search needs

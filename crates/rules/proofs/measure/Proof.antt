@@ -4,14 +4,10 @@ use Rattle.rules.specs.Outcomes.{measure-type, measure-long, measure-len
 use Rattle.rules.specs.Table.{known}
 use mathlib.Core.Bool.{true}
 use borrow.Author.Tests.{not-true, not-false}
-use mathlib.Core.Path.{_≡_, refl, sym, ap, _∙_}
+use mathlib.Core.Path.{_≡_, sym, _∙_}
 use borrow.Author.Needs.{needs}
 use Rattle.rules.proofs.measure.Statement.{statement}
 use Rattle.rules.proofs.measure.Tie as tie
-use Rattle.rules.proofs.measure.Reads as reads
-use Rattle.rules.proofs.measure.Lts as lts
-use Rattle.rules.proofs.is_known.Reads as is-known-reads
-use Rattle.rules.proofs.suits_length.Reads as suits-length-reads
 
 is : (c : tie.Else1) → known (c .before .before .args .kind) ≡ true
 is c = sym (c .before .is-known .ensures) ∙ not-false _ (c .if1 .left)

@@ -3,11 +3,6 @@ use Rattle.rules.specs.Fields.{p001Ok}
 use borrow.Author.Needs.{needs}
 use Rattle.rules.proofs.p001_ok.Statement.{statement}
 use Rattle.rules.proofs.p001_ok.Tie as tie
-use Rattle.rules.proofs.p001_ok.Reads as reads
-use Rattle.rules.proofs.p001_ok.Lts as lts
-use Rattle.octets.proofs.u16_at.Reads as u16-at-reads
-use Rattle.octets.proofs.u64_at.Reads as u64-at-reads
-use Rattle.octets.proofs.u8_at.Reads as u8-at-reads
 
 u8-at-requires : tie.Need-u8-at-requires
 u8-at-requires c κs = search needs

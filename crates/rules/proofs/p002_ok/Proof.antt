@@ -3,11 +3,6 @@ use Rattle.rules.specs.Fields.{p002Ok}
 use borrow.Author.Needs.{needs}
 use Rattle.rules.proofs.p002_ok.Statement.{statement}
 use Rattle.rules.proofs.p002_ok.Tie as tie
-use Rattle.rules.proofs.p002_ok.Reads as reads
-use Rattle.rules.proofs.p002_ok.Lts as lts
-use Rattle.octets.proofs.u16_at.Reads as u16-at-reads
-use Rattle.octets.proofs.u64_at.Reads as u64-at-reads
-use Rattle.octets.proofs.u8_at.Reads as u8-at-reads
 
 u16-at-requires : tie.Need-u16-at-requires
 u16-at-requires c κs = search needs

@@ -3,9 +3,6 @@ use Rattle.rules.specs.Fields.{s001Ok}
 use borrow.Author.Needs.{needs}
 use Rattle.rules.proofs.s001_ok.Statement.{statement}
 use Rattle.rules.proofs.s001_ok.Tie as tie
-use Rattle.rules.proofs.s001_ok.Reads as reads
-use Rattle.rules.proofs.s001_ok.Lts as lts
-use Rattle.octets.proofs.u16_at.Reads as u16-at-reads
 
 u16-at-requires : tie.Need-u16-at-requires
 u16-at-requires c κs = search needs

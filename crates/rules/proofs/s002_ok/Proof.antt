@@ -3,9 +3,6 @@ use Rattle.rules.specs.Fields.{s002Ok}
 use borrow.Author.Needs.{needs}
 use Rattle.rules.proofs.s002_ok.Statement.{statement}
 use Rattle.rules.proofs.s002_ok.Tie as tie
-use Rattle.rules.proofs.s002_ok.Reads as reads
-use Rattle.rules.proofs.s002_ok.Lts as lts
-use Rattle.octets.proofs.u32_at.Reads as u32-at-reads
 
 u32-at-requires : tie.Need-u32-at-requires
 u32-at-requires c κs = search needs

@@ -3,8 +3,6 @@ use Rattle.rules.specs.Table.{suits}
 use borrow.Author.Needs.{needs}
 use Rattle.rules.proofs.suits_length.Statement.{statement}
 use Rattle.rules.proofs.suits_length.Tie as tie
-use Rattle.rules.proofs.suits_length.Reads as reads
-use Rattle.rules.proofs.suits_length.Lts as lts
 
 enum-told : tie.Need-enum-told
 enum-told c = search needs

@@ -3,13 +3,10 @@ use Rattle.scrub.specs.Private.{spaces}
 use mathlib.Core.List.{[], _∷_}
 use native.Mathlib.Omega.{arith}
 use Rattle.scrub.specs.Spans.{span-first, span-second, span-past}
-use mathlib.Core.Path.{_≡_, refl, sym, ap, _∙_}
+use mathlib.Core.Path.{_∙_}
 use borrow.Author.Needs.{needs}
 use Rattle.scrub.proofs.comp_id.Statement.{statement}
 use Rattle.scrub.proofs.comp_id.Tie as tie
-use Rattle.scrub.proofs.comp_id.Reads as reads
-use Rattle.scrub.proofs.comp_id.Lts as lts
-use Rattle.scrub.proofs.spaces_at.Reads as spaces-at-reads
 
 spaces-at-requires : tie.Need-spaces-at-requires
 spaces-at-requires c κs = search needs

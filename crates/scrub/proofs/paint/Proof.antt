@@ -4,9 +4,6 @@ use Rattle.scrub.proofs.Parts.{filled}
 use borrow.Author.Needs.{needs}
 use Rattle.scrub.proofs.paint.Statement.{statement}
 use Rattle.scrub.proofs.paint.Tie as tie
-use Rattle.scrub.proofs.paint.Reads as reads
-use Rattle.scrub.proofs.paint.Lts as lts
-use Rattle.octets.proofs.fill.Reads as fill-reads
 
 sub-fill : tie.Need-sub-fill
 sub-fill c = search needs

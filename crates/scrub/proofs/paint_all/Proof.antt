@@ -7,15 +7,11 @@ use Rattle.scrub.specs.Within.{bodyIn}
 use Rattle.scrub.specs.Scrub.{painted}
 use Rattle.scrub.specs.Private.{privateOf}
 use Rattle.octets.specs.Octets.{laid}
-use lib.ListN.{length, take}
-use mathlib.Core.List.{List}
-use Prim.Native.Nat.{ℕ, _+_, _-_, _≤_}
-use mathlib.Core.Path.{_≡_, refl, sym, ap, _∙_}
+use lib.ListN.{take}
+use Prim.Native.Nat.{ℕ, _-_, _≤_}
+use mathlib.Core.Path.{_≡_, sym, ap, _∙_}
 use Rattle.scrub.proofs.paint_all.Statement.{statement}
 use Rattle.scrub.proofs.paint_all.Tie as tie
-use Rattle.scrub.proofs.paint_all.Reads as reads
-use Rattle.scrub.proofs.paint_all.Lts as lts
-use Rattle.scrub.proofs.paint_span.Reads as paint-span-reads
 
 abbrev Inv-loop : tie.InvT-loop
 Inv-loop buf₀ kind n i₀ buf i = (i ≤ 4) × (buf ≡ laid 24 (painted (take i (privateOf kind (bodyIn n buf₀))) (bodyIn n buf₀)) buf₀)

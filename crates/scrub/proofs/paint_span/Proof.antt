@@ -1,20 +1,16 @@
 -- `paint_span`: the span read from the body lies within it, so its part lies within the buffer. Assumes nothing.
 use native.Mathlib.Omega.{arith}
-use Rattle.scrub.specs.Within.{bodyIn, spanIn, spanPainted}
+use Rattle.scrub.specs.Within.{spanIn, spanPainted}
 use Rattle.scrub.specs.Private.{privateOf, spanAt}
 use Rattle.scrub.specs.declared.Span.{Span}
 use Rattle.octets.specs.Octets.{laid}
 use lib.ListN.{length, take, drop, replicate}
 use mathlib.Core.List.{List}
 use Prim.Native.Nat.{ℕ, _+_, _-_, _≤_}
-use mathlib.Core.Path.{_≡_, refl, sym, ap, _∙_}
+use mathlib.Core.Path.{_≡_, ap, _∙_}
 use borrow.Author.Needs.{needs}
 use Rattle.scrub.proofs.paint_span.Statement.{statement}
 use Rattle.scrub.proofs.paint_span.Tie as tie
-use Rattle.scrub.proofs.paint_span.Reads as reads
-use Rattle.scrub.proofs.paint_span.Lts as lts
-use Rattle.scrub.proofs.paint.Reads as paint-reads
-use Rattle.scrub.proofs.private_span.Reads as private-span-reads
 
 abbrev start : tie.After-private-span → tie.Start
 start c = c .before .before .before .before

@@ -1,14 +1,7 @@
 -- `private_span`: each arm knows its type, and its spans are the callee's. Assumes nothing.
-use mathlib.Core.Path.{_≡_, refl, sym, ap, _∙_}
 use borrow.Author.Needs.{needs}
 use Rattle.scrub.proofs.private_span.Statement.{statement}
 use Rattle.scrub.proofs.private_span.Tie as tie
-use Rattle.scrub.proofs.private_span.Reads as reads
-use Rattle.scrub.proofs.private_span.Lts as lts
-use Rattle.scrub.proofs.comp_id.Reads as comp-id-reads
-use Rattle.scrub.proofs.only.Reads as only-reads
-use Rattle.scrub.proofs.spaces_at.Reads as spaces-at-reads
-use Rattle.scrub.proofs.tail.Reads as tail-reads
 
 enum-told : tie.Need-enum-told
 enum-told c = search needs

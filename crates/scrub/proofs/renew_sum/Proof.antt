@@ -6,14 +6,10 @@ use Rattle.octets.specs.Numerals.{length-digits}
 use borrow.Author.Tests.{le-leb}
 use lib.ListN.{length}
 use Prim.Native.Nat.{_+_}
-use mathlib.Core.Path.{_≡_, refl, sym, ap, _∙_}
+use mathlib.Core.Path.{_∙_}
 use borrow.Author.Needs.{needs}
 use Rattle.scrub.proofs.renew_sum.Statement.{statement}
 use Rattle.scrub.proofs.renew_sum.Tie as tie
-use Rattle.scrub.proofs.renew_sum.Reads as reads
-use Rattle.scrub.proofs.renew_sum.Lts as lts
-use Rattle.octets.proofs.put.Reads as put-reads
-use Rattle.octets.proofs.sum.Reads as sum-reads
 
 sum-requires : tie.Need-sum-requires
 sum-requires c κs = search needs

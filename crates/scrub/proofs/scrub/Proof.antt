@@ -14,16 +14,10 @@ use lib.ListN.{length, getD}
 use mathlib.Core.List.{List, [], _∷_}
 use mathlib.Core.Bool.{true}
 use Prim.Native.Nat.{ℕ, _+_, _≤_}
-use mathlib.Core.Path.{_≡_, refl, sym, ap, _∙_}
+use mathlib.Core.Path.{_≡_, sym, ap, _∙_}
 use borrow.Author.Needs.{needs}
 use Rattle.scrub.proofs.scrub.Statement.{statement}
 use Rattle.scrub.proofs.scrub.Tie as tie
-use Rattle.scrub.proofs.scrub.Reads as reads
-use Rattle.scrub.proofs.scrub.Lts as lts
-use Rattle.frame.proofs.read_at.Reads as read-at-reads
-use Rattle.rules.proofs.kind_of.Reads as kind-of-reads
-use Rattle.scrub.proofs.paint_all.Reads as paint-all-reads
-use Rattle.scrub.proofs.renew_sum.Reads as renew-sum-reads
 
 abbrev text : tie.After-read-at → List ℕ
 text c = c .before .before .before .args .buf .now

@@ -3,13 +3,10 @@ use native.Mathlib.Omega.{arith}
 use Rattle.scrub.specs.Private.{spaces, spanAt}
 use mathlib.Core.List.{[], _∷_}
 use Prim.Native.Nat.{ℕ, _-_}
-use mathlib.Core.Path.{_≡_, refl, sym, ap, _∙_}
+use mathlib.Core.Path.{_≡_, sym, ap, _∙_}
 use borrow.Author.Needs.{needs}
 use Rattle.scrub.proofs.tail.Statement.{statement}
 use Rattle.scrub.proofs.tail.Tie as tie
-use Rattle.scrub.proofs.tail.Reads as reads
-use Rattle.scrub.proofs.tail.Lts as lts
-use Rattle.scrub.proofs.only.Reads as only-reads
 
 only-requires : tie.Need-only-requires
 only-requires c κs = search needs

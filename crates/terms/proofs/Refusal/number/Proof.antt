@@ -2,8 +2,6 @@
 use borrow.Author.Needs.{needs}
 use Rattle.terms.proofs.Refusal.number.Statement.{statement}
 use Rattle.terms.proofs.Refusal.number.Tie as tie
-use Rattle.terms.proofs.Refusal.number.Reads as reads
-use Rattle.terms.proofs.Refusal.number.Lts as lts
 
 enum-told : tie.Need-enum-told
 enum-told c = search needs
