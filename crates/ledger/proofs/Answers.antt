@@ -10,17 +10,17 @@ use borrow.Author.Tests.{le-ltb, eqb-true}
 use lib.Dec.{eqb}
 use lib.ListN.{length}
 use Rattle.terms.specs.Paper.{answer, refusal, pick}
-use Rattle.ledger.specs.State.{Book, largest, has}
+use Rattle.ledger.specs.State.{Book, largest, has, StateRules}
 use Rattle.ledger.specs.Calls.{Call, Tick, Announce, Request, Reply, Missing, Held, offered, ownNumber, numberTo, passes, raised, done, valuesOf, nextAt, answerAt, answerTo, nextOf}
 use Rattle.ledger.specs.Given.{Own}
 use Rattle.ledger.specs.Trace.{Calls, after, History, trace}
-use Rattle.ledger.specs.Words.{received, pending}
-use Rattle.ledger.specs.Answers.{Elsewhere, deliveredTo, Hands, TickAnswers, AnnounceAnswers, ReplyAnswers, Answers, OnlyTop, Keeps}
+use Rattle.ledger.specs.Words.{answered, received, pending}
+use Rattle.ledger.specs.Answers.{Elsewhere, deliveredTo, Hands, TickAnswers, AnnounceAnswers, ReplyAnswers, Answers, Broken, OnlyTop, Keeps}
 use Rattle.ledger.proofs.Tests.{apart, pick-true, pick-false}
 use Rattle.ledger.proofs.Numbers.{checked-test}
 use Rattle.ledger.proofs.Agree.{Agrees, agrees}
 use Rattle.ledger.proofs.Demand3.{length-numbers, received-is}
-use Rattle.ledger.proofs.Given.{own-test, received-test, received-fact, tick-test, status-test, starts-test, given-10-announcement, given-10-tick, given-11, given-12, given-16, given-17, given-18}
+use Rattle.ledger.proofs.Given.{own-test, received-test, received-fact, tick-test, status-test, starts-test, given-10-announcement, given-10-tick, given-11, given-12, given-13, given-16, given-17, given-18}
 
 -- an answer of the number k
 answer-at : (b : Book) (call : Call) (k : ℕ) → numberTo b call ≡ k → answerTo b call ≡ answerAt b call k
@@ -111,22 +111,42 @@ answers channel small calls =
       reply = reply-answers (trace channel calls) channel (after channel calls) a;
     }
 
+-- a broken state
+pub broken-13 : (b : Book) → (StateRules b → ⊥) → Broken b
+broken-13 b f =
+    record {
+      tick = λ channel n. at (Tick channel n);
+      announcement = λ channel n. at (Announce channel n);
+      request = λ channel. at (Request channel);
+      reply = λ channel first status. at (Reply channel first status);
+      missing-0 = at Missing;
+      held-0 = at Held;
+    }
+  where
+    at : (call : Call) → answerTo b call ≡ answerAt b call 13
+    at call = answer-at b call 13 (given-13 b call .1 f)
+
 -- ---- what a refusal leaves
 
 raised-only-top : (b : Book) (n : ℕ) → OnlyTop b (raised b n) n
 unfolding raised
 raised-only-top b n = record { top-is = refl; channel-same = refl; floor-same = refl; bits-same = refl; pending-same = refl }
 
+far-at : (b : Book) (call : Call) (k : ℕ) → eqb k 12 ≡ true → nextAt b call k ≡ raised b (offered call)
+far-at b call k q =
+    pick-false (eqb k 0) (done b call) _ (ap (λ (x : ℕ). eqb x 0) (eqb-true k 12 q)) ∙ pick-true (eqb k 12) (raised b (offered call)) b q
+
 keeps-at : (b : Book) (call : Call) (k : ℕ) → Keeps b call (nextAt b call k) (answerAt b call k)
 keeps-at b call k =
     record {
       same = λ p q. pick-false (eqb k 0) _ _ p ∙ pick-false (eqb k 12) _ _ q;
-      far = λ q. rw (pick-false (eqb k 0) (done b call) (pick (eqb k 12) (raised b (offered call)) b) (not-done q)) (rw (pick-true (eqb k 12) (raised b (offered call)) b q) (raised-only-top b (offered call)));
+      far = λ q. rw (far-at b call k q) (raised-only-top b (offered call));
     }
-  where
-    not-done : eqb k 12 ≡ true → eqb k 0 ≡ false
-    not-done q = ap (λ (x : ℕ). eqb x 0) (eqb-true k 12 q)
 
 pub keeps : (b : Book) (call : Call) → Keeps b call (nextOf b call) (answerTo b call)
 unfolding nextOf answerTo
 keeps b call = keeps-at b call (numberTo b call)
+
+pub far-raises : (b : Book) (call : Call) → answered (answerTo b call) 12 ≡ true → nextOf b call ≡ raised b (offered call)
+unfolding nextOf answerTo
+far-raises b call q = far-at b call (numberTo b call) q

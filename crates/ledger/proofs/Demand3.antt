@@ -19,7 +19,7 @@ use Rattle.ledger.specs.State.{Asked, nothing, range, Book, orElse, has,
 use Rattle.ledger.specs.Calls.{Request, Missing, Held, isPending, elsewhere, ownNumber, asked, heldCount, missingCount, valuesOf, answerAt, answerTo}
 use Rattle.ledger.specs.Trace.{Calls, after, History, trace}
 use Rattle.ledger.specs.Words.{received, numbers, knownTop, pending, isIn, delivered, held, missing, one, count}
-use Rattle.ledger.specs.Demand3.{Deliveries, missingIn, MissingNumbers, LowestRun, Requests, Counts, Demand3}
+use Rattle.ledger.specs.Demand3.{Deliveries, missingIn, MissingNumbers, LowestRun, Requests, Counts, Shown, Demand3}
 use Rattle.ledger.proofs.Tests.{apart, and-false, and-true, one-of, pick-cases}
 use Rattle.ledger.proofs.Rules.{has-below, has-above, bits-top}
 use Rattle.ledger.proofs.Numbers.{checked-test}
@@ -358,14 +358,29 @@ module _ (h : History) (channel : ℕ) (b : Book) (a : Agrees h channel b) where
           → b .floor + heldCount b ≡ count (delivered h) (knownTop h) + count (held h) (knownTop h)
       taken-sum d e = ap₂ (λ (x y : ℕ). x + y) (sym d) (held-is ∙ sym e)
 
+  -- ---- what the ledger shows
+
+  shown : Shown h channel b
+  shown =
+      record {
+        channel-is = a .channel-is;
+        floor-is = sym (ap length (a .handed) ∙ length-numbers 1 (b .floor));
+        next-not-received = received-is _ (omega arith) ∙ first-clear b (a .rules);
+        top-is = a .top-is;
+        pending-is = a .pending-is;
+      }
+
+  demand : Demand3 h channel b
+  demand =
+      record {
+        deliveries = deliveries;
+        missing-numbers = missing-numbers;
+        requests = requests;
+        counts = counts;
+        shown = shown;
+        state-rules = a .rules;
+      }
+
 -- For every row of calls on the fresh ledger of a channel that opens, refusals included, demand 3 holds.
-pub demand-3 : (channel : ℕ) → channel ≤ 9999 → (calls : Calls) → Demand3 channel calls
-demand-3 channel small calls =
-    let a = agrees channel small calls in
-    record {
-      deliveries = deliveries (trace channel calls) channel (after channel calls) a;
-      missing-numbers = missing-numbers (trace channel calls) channel (after channel calls) a;
-      requests = requests (trace channel calls) channel (after channel calls) a;
-      counts = counts (trace channel calls) channel (after channel calls) a;
-      state-rules = a .rules;
-    }
+pub demand-3 : (channel : ℕ) → channel ≤ 9999 → (calls : Calls) → Demand3 (trace channel calls) channel (after channel calls)
+demand-3 channel small calls = demand (trace channel calls) channel (after channel calls) (agrees channel small calls)

@@ -2,23 +2,26 @@
 -- what the code gives, call by call from opening on, is the row of books and answers that the theorems speak of. Assumes nothing.
 use mathlib.Core.Path.{_≡_, refl, sym, ap, ap₂, _∙_}
 use mathlib.Core.List.{[]}
-use mathlib.Core.Bool.{false}
-use Prim.Native.Nat.{ℕ, _≤_}
+use mathlib.Core.Bool.{true, false}
+use Prim.Native.Nat.{ℕ, _≤_, _<_, max}
 use borrow.Fn.Kinds.{Dens, endedOf, resT}
-use borrow.Author.Tests.{le-ltb}
+use borrow.Author.Tests.{le-ltb, lt-ltb}
 use contract.Lifetimes.{Lfts}
 use denote.Triple.Clauses.{AtExit}
+use Rattle.terms.specs.Counters.{tickOf}
 use Rattle.terms.specs.Paper.{Paper, answer}
 use Rattle.map.specs.Bits.{Words}
 use Rattle.ledger.specs.State.{Book, bookOf, ledgerOf}
 use Rattle.ledger.specs.Calls.{Call, Tick, Announce, Request, Reply, Missing, Held, answerTo, nextOf, fresh, openOf}
 use Rattle.ledger.specs.Papers.{tickPaper, requestPaper, replyPaper, paperOf, countPaper}
-use Rattle.ledger.specs.Trace.{Calls, none, _▸_, after, History, start, _▸_⇒_, trace}
+use Rattle.ledger.specs.Trace.{Calls, _▸_, after, History, _▸_⇒_, trace, Promise, Ran, opening, one-more}
 use Rattle.ledger.specs.Words.{answered}
+use Rattle.ledger.specs.Demand3.{Demand3}
 use Rattle.ledger.specs.declared.Ledger.{Ledger}
-use Rattle.ledger.proofs.Answers.{keeps}
-use Rattle.ledger.proofs.Seam.{book-of, ledger-of}
+use Rattle.ledger.proofs.Answers.{keeps, far-raises}
+use Rattle.ledger.proofs.Seam.{book-of, ledger-of, raised-of}
 use Rattle.ledger.proofs.Agree.{agrees}
+use Rattle.ledger.proofs.Demand3.{demand-3}
 use Rattle.ledger.proofs.Ledger.opened.Reads as opened
 use Rattle.ledger.proofs.Ledger.opened.Kinds as opened-kinds
 use Rattle.ledger.proofs.Ledger.tick.Reads as tick
@@ -33,11 +36,6 @@ use Rattle.ledger.proofs.Ledger.request.Reads as request
 use Rattle.ledger.proofs.Ledger.request.Kinds as request-kinds
 use Rattle.ledger.proofs.Ledger.announce.Reads as announce
 use Rattle.ledger.proofs.Ledger.announce.Kinds as announce-kinds
-
--- what a call on the ledger l promises of its answer and of the next ledger
-pub record Promise (l : Ledger) (call : Call) (next : Ledger) (paper : Paper) : Type 0 where
-  pub paper-is : paper ≡ answerTo (bookOf l) call
-  pub next-is : next ≡ ledgerOf (nextOf (bookOf l) call)
 
 pub tick-is-step : (κs : Lfts 0) (a : Dens κs tick-kinds.ps) (x : resT tick-kinds.r κs .Denot) (s : AtExit (endedOf 0 tick-kinds.ps tick-kinds.r) κs)
     → tick.Post κs a x s → Promise (a .0) (Tick (a .1 .0 .0) (a .1 .1 .0 .0)) (x .next) (tickPaper (x .answer))
@@ -69,6 +67,12 @@ pub opened-is-fresh : (κs : Lfts 0) (a : Dens κs opened-kinds.ps) (x : resT op
 unfolding openOf
 opened-is-fresh κs a x s h p = (p .0 ∙ simp (le-ltb _ _ h), p .1 ∙ simp (le-ltb _ _ h))
 
+-- opening any other gives 10, and a fresh ledger for channel 0
+pub opened-refused : (κs : Lfts 0) (a : Dens κs opened-kinds.ps) (x : resT opened-kinds.r κs .Denot) (s : AtExit (endedOf 0 opened-kinds.ps opened-kinds.r) κs)
+    → 9999 < a .0 .0 → opened.Post κs a x s → (paperOf (x .answer) ≡ answer 10 []) × (x .next ≡ ledgerOf (fresh 0))
+unfolding openOf
+opened-refused κs a x s h p = (p .0 ∙ simp (lt-ltb _ _ h), p .1 ∙ simp (lt-ltb _ _ h))
+
 -- a refusal other than 12 gives back the very ledger that was passed in, sound or not
 pub refused-gives-back : (l next : Ledger) (call : Call) (paper : Paper) → Words (l .map .words) → Promise l call next paper
     → answered paper 0 ≡ false → answered paper 12 ≡ false → next ≡ l
@@ -76,13 +80,14 @@ refused-gives-back l next call paper w p e f =
     let k = keeps (bookOf l) call in
     p .next-is ∙ ap ledgerOf (k .same (ap (λ (a : Paper). answered a 0) (sym (p .paper-is)) ∙ e) (ap (λ (a : Paper). answered a 12) (sym (p .paper-is)) ∙ f)) ∙ ledger-of l w
 
--- ---- a whole row of calls
+-- a tick answered 12 gives back the ledger that was passed in, its top raised to the tick if it was lower
+pub far-raises-top : (l next : Ledger) (channel n : ℕ) (paper : Paper) → Words (l .map .words) → Promise l (Tick channel n) next paper
+    → answered paper 12 ≡ true → next ≡ record { channel = l .channel; floor = l .floor; top = tickOf (max (l .top .0) n); map = l .map; pending = l .pending }
+far-raises-top l next channel n paper w p e =
+    p .next-is ∙ ap ledgerOf (far-raises (bookOf l) (Tick channel n) (ap (λ (a : Paper). answered a 12) (sym (p .paper-is)) ∙ e))
+    ∙ sym (raised-of l w n (tickOf (max (l .top .0) n)) refl)
 
--- the ledger l and the history h come of calls of the code on a freshly opened channel, each meeting its promise
-pub data Ran (channel : ℕ) : Calls → Ledger → History → Type 0 where
-  opening : {l : Ledger} → l ≡ ledgerOf (fresh channel) → Ran channel none l start
-  one-more : {calls : Calls} {l next : Ledger} {h : History} {paper : Paper} (call : Call) → Ran channel calls l h → Promise l call next paper
-      → Ran channel (calls ▸ call) next (h ▸ call ⇒ paper)
+-- ---- a whole row of calls
 
 pub ran-is-trace : (channel : ℕ) → channel ≤ 9999 → {calls : Calls} {l : Ledger} {h : History} → Ran channel calls l h
     → (l ≡ ledgerOf (after channel calls)) × (h ≡ trace channel calls)
@@ -94,3 +99,10 @@ ran-is-trace channel small (one-more {calls} {l} {next} {h} {paper} call r p) =
       p .next-is ∙ ap (λ (b : Book). ledgerOf (nextOf b call)) e,
       ap₂ (λ (x : History) (y : Paper). x ▸ call ⇒ y) (q .1) (p .paper-is ∙ ap (λ (b : Book). answerTo b call) e),
     )
+
+-- For every row of calls of the code on a ledger that it opened, refusals included, demand 3 holds of the calls and answers and of the ledger.
+pub ran-demand-3 : (channel : ℕ) → channel ≤ 9999 → {calls : Calls} {l : Ledger} {h : History} → Ran channel calls l h → Demand3 h channel (bookOf l)
+ran-demand-3 channel small {calls} {l} {h} r =
+    let q = ran-is-trace channel small r in
+    let e : bookOf l ≡ after channel calls = ap bookOf (q .0) ∙ book-of (after channel calls) (agrees channel small calls .rules .places) in
+    rw (q .1, e) (demand-3 channel small calls)

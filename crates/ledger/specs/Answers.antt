@@ -51,6 +51,15 @@ pub record Answers (channel : ℕ) (calls : Calls) : Type 0 where
   pub announcement : (n : ℕ) → AnnounceAnswers n (answerTo (after channel calls) (Announce channel n))
   pub reply : (first status : ℕ) → ReplyAnswers (trace channel calls) first status (answerTo (after channel calls) (Reply channel first status))
 
+-- What a call on a broken state is answered: 13 and nothing beside it, and a count of 0. For every call, whatever channel and number it names.
+pub record Broken (b : Book) : Type 0 where
+  pub tick : (channel n : ℕ) → answerTo b (Tick channel n) ≡ refusal 13
+  pub announcement : (channel n : ℕ) → answerTo b (Announce channel n) ≡ refusal 13
+  pub request : (channel : ℕ) → answerTo b (Request channel) ≡ refusal 13
+  pub reply : (channel first status : ℕ) → answerTo b (Reply channel first status) ≡ refusal 13
+  pub missing-0 : answerTo b Missing ≡ answer 13 (0 ∷ [])
+  pub held-0 : answerTo b Held ≡ answer 13 (0 ∷ [])
+
 -- "A refusal gives the number [..] and the ledger its state, save that 12 raises the top to that tick if it was lower."
 -- For every state, sound or not.
 pub record OnlyTop (b next : Book) (n : ℕ) : Type 0 where

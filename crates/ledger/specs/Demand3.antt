@@ -1,5 +1,5 @@
--- Demand 3, sentence by sentence, for one row of calls. `demand-3` of proofs/Demand3.antt proves it for every row on the fresh ledger of
--- every channel that opens. Words.antt tells each word (received, settled, handedOut, knownTop, pending, missing, delivered, held, count)
+-- Demand 3, sentence by sentence, of a history and the book after it. `demand-3` of proofs/Demand3.antt proves it for every row of calls on the
+-- fresh ledger of every channel that opens, and `ran-demand-3` of proofs/Promised.antt for every such row of the code. Words.antt tells each word (received, settled, handedOut, knownTop, pending, missing, delivered, held, count)
 -- from the calls and their answers alone; only where a sentence speaks of the ledger does the book after the calls stand here.
 use mathlib.Core.Path.{_≡_}
 use mathlib.Core.Logic.{_⊎_}
@@ -11,7 +11,7 @@ use lib.ListN.{length}
 use Rattle.terms.specs.Paper.{Paper, answer, refusal}
 use Rattle.ledger.specs.State.{nothing, range, Book, has, StateRules}
 use Rattle.ledger.specs.Calls.{Request, Missing, Held, answerTo}
-use Rattle.ledger.specs.Trace.{Calls, after, History, trace}
+use Rattle.ledger.specs.Trace.{History}
 use Rattle.ledger.specs.Words.{answered, received, settled, numbers, handedOut, knownTop, pending, delivered, held, missing, ticksTaken, count}
 
 -- "the numbers handed out are 1, 2, 3 and so on, each once, up to just before the first not received"
@@ -67,10 +67,20 @@ pub record Counts (h : History) (b : Book) : Type 0 where
   pub held-is : answerTo b Held ≡ answer 0 (count (held h) (knownTop h) ∷ [])
   pub missing-is : answerTo b Missing ≡ answer 0 (count (missing h) (knownTop h) ∷ [])
 
--- The demand, and that the state rules always hold.
-pub record Demand3 (channel : ℕ) (calls : Calls) : Type 0 where
-  pub deliveries : Deliveries (trace channel calls)
-  pub missing-numbers : MissingNumbers (trace channel calls) (after channel calls)
-  pub requests : Requests (trace channel calls) (answerTo (after channel calls) (Request channel))
-  pub counts : Counts (trace channel calls) (after channel calls)
-  pub state-rules : StateRules (after channel calls)
+-- What the ledger shows of itself is told by the calls and their answers: the channel that was opened; the floor, which is how many numbers
+-- were handed out, and so just below the first not received; the known top; and the pending request, the whole range that was granted.
+pub record Shown (h : History) (channel : ℕ) (b : Book) : Type 0 where
+  pub channel-is : b .channel ≡ channel
+  pub floor-is : b .floor ≡ length (handedOut h)
+  pub next-not-received : received h (b .floor + 1) ≡ false
+  pub top-is : b .top ≡ knownTop h
+  pub pending-is : b .pending ≡ pending h
+
+-- The demand, what the ledger shows, and that the state rules always hold.
+pub record Demand3 (h : History) (channel : ℕ) (b : Book) : Type 0 where
+  pub deliveries : Deliveries h
+  pub missing-numbers : MissingNumbers h b
+  pub requests : Requests h (answerTo b (Request channel))
+  pub counts : Counts h b
+  pub shown : Shown h channel b
+  pub state-rules : StateRules b
