@@ -9,14 +9,15 @@ use native.Mathlib.Omega.{arith}
 use borrow.Author.Tests.{le-ltb, eqb-true}
 use lib.Dec.{eqb}
 use lib.ListN.{length}
-use Rattle.terms.specs.Paper.{answer, refusal, pick}
+use Rattle.terms.specs.Cases.{clash}
+use Rattle.terms.specs.Paper.{answer, refusal}
 use Rattle.ledger.specs.State.{Book, largest, has, StateRules}
 use Rattle.ledger.specs.Calls.{Call, Tick, Announce, Request, Reply, Missing, Held, offered, ownNumber, numberTo, passes, raised, done, valuesOf, nextAt, answerAt, answerTo, nextOf}
 use Rattle.ledger.specs.Given.{Own}
 use Rattle.ledger.specs.Trace.{Calls, after, History, trace}
 use Rattle.ledger.specs.Words.{answered, received, pending}
 use Rattle.ledger.specs.Answers.{Elsewhere, deliveredTo, Hands, TickAnswers, AnnounceAnswers, ReplyAnswers, Answers, Broken, OnlyTop, Keeps}
-use Rattle.ledger.proofs.Tests.{apart, pick-true, pick-false}
+use Rattle.ledger.proofs.Tests.{pick-true, pick-false}
 use Rattle.ledger.proofs.Numbers.{checked-test}
 use Rattle.ledger.proofs.Agree.{Agrees, agrees}
 use Rattle.ledger.proofs.Demand3.{length-numbers, received-is}
@@ -77,7 +78,7 @@ module _ (h : History) (channel : ℕ) (b : Book) (a : Agrees h channel b) where
         repeat-11 = λ p q e. answer-at b (Tick channel n) 11
             (given-11 b channel n .1 (record { rules = a .rules; own = sym (a .channel-is); above = p; digits = q; repeat = received-fact b n (has-is n true p e) }));
         far-12 = λ p q e f. answer-at b (Tick channel n) 12
-            (given-12 b channel n .1 (record { rules = a .rules; own = sym (a .channel-is); above = p; digits = q; no-repeat = λ r. apart (received-test b n r) (has-is n false p e); far = omega (arith, delivered-to) }));
+            (given-12 b channel n .1 (record { rules = a .rules; own = sym (a .channel-is); above = p; digits = q; no-repeat = λ r. clash (received-test b n r) (has-is n false p e); far = omega (arith, delivered-to) }));
         done-0 = λ p q e near. tick-hands n (tick-number-0 n p q (has-is n false p e) (omega (arith, delivered-to)));
       }
 

@@ -11,6 +11,7 @@ use borrow.Author.Tests.{eq-eqb, ne-eqb, le-leb, lt-leb, lt-ltb, le-ltb, eqb-tru
 use lib.Count.{ones, trailingZeros}
 use lib.Dec.{eqb, leb, ltb}
 use lib.ListN.{length}
+use Rattle.terms.specs.Cases.{clash}
 use Rattle.terms.specs.Paper.{Paper, answer, refusal, pick}
 use Rattle.map.specs.Bits.{bit, isSet, tally}
 use Rattle.map.proofs.Digits.{bit-lt, trailing-passed, trailing-stopped, tally-ext, tally-split, ones-tally}
@@ -20,7 +21,7 @@ use Rattle.ledger.specs.Calls.{Request, Missing, Held, isPending, elsewh
 use Rattle.ledger.specs.Trace.{Calls, after, History, trace}
 use Rattle.ledger.specs.Words.{received, numbers, knownTop, pending, isIn, delivered, held, missing, one, count}
 use Rattle.ledger.specs.Demand3.{Deliveries, missingIn, MissingNumbers, LowestRun, Requests, Counts, Shown, Demand3}
-use Rattle.ledger.proofs.Tests.{apart, and-false, and-true, one-of, pick-cases}
+use Rattle.ledger.proofs.Tests.{and-false, and-true, one-of, pick-cases}
 use Rattle.ledger.proofs.Rules.{has-below, has-above, bits-top}
 use Rattle.ledger.proofs.Numbers.{checked-test}
 use Rattle.ledger.proofs.Steps.{Asks, asks}
@@ -124,7 +125,7 @@ data RequestView (b : Book) : Paper → Type 0 where
 
 pub nothing-pending : (p : Asked) → isPending p ≡ false → p ≡ nothing
 nothing-pending nothing e = refl
-nothing-pending (range x y) e = absurd (apart refl e)
+nothing-pending (range x y) e = absurd (clash refl e)
 
 own-view : (b : Book) (channel : ℕ) → RequestView b (answerAt b (Request channel) (ownNumber b (Request channel)))
 unfolding ownNumber valuesOf
@@ -214,10 +215,10 @@ module _ (h : History) (channel : ℕ) (b : Book) (a : Agrees h channel b) where
   none-missing e n = sym (exactly n) ∙ elim (decLe n (b .floor)) [ yes p ↦ missing-below b n p | no p ↦ missing-above b n (omega arith) ]
 
   pending-not : isPending (b .pending) ≡ true → pending h ≡ nothing → ⊥
-  pending-not p q = apart p (ap isPending (a .pending-is ∙ q))
+  pending-not p q = clash p (ap isPending (a .pending-is ∙ q))
 
   range-not : (first last : ℕ) → b .pending ≡ nothing → pending h ≡ range first last → ⊥
-  range-not first last p q = apart {b = isPending (pending h)} (ap isPending q) (ap isPending (sym (a .pending-is) ∙ p))
+  range-not first last p q = clash {b = isPending (pending h)} (ap isPending q) (ap isPending (sym (a .pending-is) ∙ p))
 
   given-requests : b .pending ≡ nothing → Asks b (asked b) → Requests h (answer 0 ((b .floor + 1) ∷ (b .floor + asked b) ∷ []))
   given-requests p k =
@@ -226,21 +227,21 @@ module _ (h : History) (channel : ℕ) (b : Book) (a : Agrees h channel b) where
         when-due = λ m r. record { first = b .floor + 1; last = b .floor + asked b; request = refl; range-is = run };
         only-when-due = λ e. (record { number = b .floor + 1; is-missing = run .all-missing (b .floor + 1) (omega arith) (run .not-empty) }, sym (a .pending-is) ∙ p);
         else-14 = λ first last q. absurd (range-not first last p q);
-        else-15 = λ r n. absurd (apart (run .all-missing (b .floor + 1) (omega arith) (run .not-empty)) (n (b .floor + 1)));
+        else-15 = λ r n. absurd (clash (run .all-missing (b .floor + 1) (omega arith) (run .not-empty)) (n (b .floor + 1)));
       }
 
   requests-view : {p : Paper} → RequestView b p → Requests h p
   requests-view (busy p) =
       record {
         when-due = λ m q. absurd (pending-not p q);
-        only-when-due = λ e. absurd (apart e refl);
+        only-when-due = λ e. absurd (clash e refl);
         else-14 = λ first last q. refl;
         else-15 = λ q n. absurd (pending-not p q);
       }
   requests-view (whole p e) =
       record {
-        when-due = λ m q. absurd (apart (m .is-missing) (none-missing e (m .number)));
-        only-when-due = λ e. absurd (apart e refl);
+        when-due = λ m q. absurd (clash (m .is-missing) (none-missing e (m .number)));
+        only-when-due = λ e. absurd (clash e refl);
         else-14 = λ first last q. absurd (range-not first last p q);
         else-15 = λ q n. refl;
       }

@@ -8,11 +8,12 @@ use native.Mathlib.Decide.{decLe}
 use native.Mathlib.Omega.{arith}
 use borrow.Author.Tests.{not-false, eq-eqb, le-leb, lt-leb, lt-ltb, eqb-true, leb-true, ltb-true, not-true, ltb-false, eqb-false, le-ltb, ne-eqb}
 use lib.Dec.{eqb, leb, ltb}
+use Rattle.terms.specs.Cases.{clash}
 use Rattle.terms.specs.Paper.{pick}
 use Rattle.ledger.specs.State.{Asked, nothing, range, Book, orElse, largest, has, soundOf, StateRules}
 use Rattle.ledger.specs.Calls.{Call, Tick, Announce, Request, Reply, Missing, Held, tickNumber, replyStatus, isPending, startsAt, elsewhere, ownNumber, checkedOf, numberTo, openNumber}
-use Rattle.ledger.specs.Given.{Own, HeldAt, ReceivedAt, MissingAt, StatusRight, Given18, Given10Tick, Given10Announcement, Given11, Given12, Given14, Given15, Given17, Given16, FineTick, FineRequest, FineReply, Fine, Given0}
-use Rattle.ledger.proofs.Tests.{apart, true-of, false-of, both, and-false, pick-cases, skip, hit}
+use Rattle.ledger.specs.Given.{Own, HeldAt, ReceivedAt, MissingAt, StatusRight, Given18, Given10Tick, Given10Announcement, Given11, Given12, Given14, Given15, Given17, Given16, Fine, Given0}
+use Rattle.ledger.proofs.Tests.{true-of, false-of, both, and-false, pick-cases, skip, hit}
 use Rattle.ledger.proofs.Rules.{has-below, has-above, rules-facts, rules-test, broken-test}
 use Rattle.ledger.proofs.Numbers.{checked-facts, checked-test, numbered}
 use Rattle.ledger.proofs.Demand3.{first-clear, nothing-pending}
@@ -50,7 +51,7 @@ bad-tick-test n (inr h) = simp (lt-leb _ _ h) (and-false (leb 1 n))
 bad-tick-fact : (n : ℕ) → tickNumber n ≡ false → (n ≡ 0) ⊎ (largest < n)
 bad-tick-fact zero e = inl refl
 bad-tick-fact (suc n) e = elim (decLe (suc n) largest) [
-  | yes h ↦ absurd (apart (tick-test (suc n) (omega arith) h) e)
+  | yes h ↦ absurd (clash (tick-test (suc n) (omega arith) h) e)
   | no h ↦ inr (omega arith)
 ]
 
@@ -87,7 +88,7 @@ record Starts (p : Asked) (first : ℕ) : Type 0 where
   is : p ≡ range first last
 
 starts-fact : (p : Asked) (first : ℕ) → startsAt p first ≡ true → Starts p first
-starts-fact nothing first e = absurd (apart e refl)
+starts-fact nothing first e = absurd (clash e refl)
 starts-fact (range x y) first e = record { last = y; is = ap (λ (z : ℕ). range z y) (eqb-true x first e) }
 
 -- nothing is missing exactly where the top is the floor: floor + 1 is never held
@@ -96,7 +97,7 @@ whole-fact b e n m = m .not-received (inl (omega (arith, m .low)))
 
 next-missing : (b : Book) → StateRules b → (b .top ≡ b .floor → ⊥) → MissingAt b (b .floor + 1)
 next-missing b r g =
-    record { above = omega arith; low = above-floor; not-received = λ q. apart (received-test b (b .floor + 1) q) (first-clear b r) }
+    record { above = omega arith; low = above-floor; not-received = λ q. clash (received-test b (b .floor + 1) q) (first-clear b r) }
   where
     above-floor : b .floor + 1 ≤ b .top
     above-floor = elim (decLe (b .top) (b .floor)) [ yes h ↦ absurd (g (omega (arith, r .low))) | no h ↦ omega arith ]
@@ -130,7 +131,7 @@ own-proper b Missing = refl
 own-proper b Held = refl
 
 own-not : (b : Book) (call : Call) (m : ℕ) → proper m ≡ false → ownNumber b call ≡ m → ⊥
-own-not b call m p e = apart (ap proper (sym e) ∙ own-proper b call) p
+own-not b call m p e = clash (ap proper (sym e) ∙ own-proper b call) p
 
 pub given-13 : (b : Book) (call : Call) → (numberTo b call ≡ 13) ↔ (StateRules b → ⊥)
 unfolding numberTo checkedOf
@@ -139,7 +140,7 @@ given-13 b call = (λ e r. broken e r, λ n. simp (broken-test b n))
     broken : pick (not (soundOf b)) 13 (pick (elsewhere b call) 18 (ownNumber b call)) ≡ 13 → StateRules b → ⊥
     broken e r =
         let t = hit (not (soundOf b)) 13 (pick (elsewhere b call) 18 (ownNumber b call)) e (never (elsewhere b call) 18 (ownNumber b call) 13 (λ q. omega arith) (own-not b call 13 refl)) in
-        apart (rules-test b r) (not-true _ t)
+        clash (rules-test b r) (not-true _ t)
 
 pub given-18 : (b : Book) (call : Call) → (numberTo b call ≡ 18) ↔ Given18 b call
 unfolding numberTo checkedOf
@@ -149,7 +150,7 @@ given-18 b call = (λ e. other e, λ g. simp (rules-test b (g .rules), true-of (
     other e =
         let s = skip (not (soundOf b)) 13 (pick (elsewhere b call) 18 (ownNumber b call)) e (λ q. omega arith) in
         let t = hit (elsewhere b call) 18 (ownNumber b call) (s .1) (own-not b call 18 refl) in
-        record { rules = rules-facts b (not-false _ (s .0)); other = λ o. apart t (own-test b call o) }
+        record { rules = rules-facts b (not-false _ (s .0)); other = λ o. clash t (own-test b call o) }
 
 -- ---- a tick
 
@@ -203,7 +204,7 @@ given-12 b channel n = (λ e. to e, λ g. from g)
           own = own-fact b (Tick channel n) (c .here);
           above = h .0;
           digits = h .1;
-          no-repeat = λ q. apart (received-test b n q) (t .0);
+          no-repeat = λ q. clash (received-test b n q) (t .0);
           far = ltb-true _ _ u;
         }
 
@@ -237,7 +238,7 @@ unfolding ownNumber
 given-14 b channel = (λ e. to e, λ g. from g)
   where
     range-of : (p : Asked) → isPending p ≡ true → StateRules b → Own b (Request channel) → b .pending ≡ p → Given14 b channel
-    range-of nothing e r o q = absurd (apart e refl)
+    range-of nothing e r o q = absurd (clash e refl)
     range-of (range x y) e r o q = record { rules = r; own = o; first = x; last = y; busy = q }
 
     to : numberTo b (Request channel) ≡ 14 → Given14 b channel
@@ -282,7 +283,7 @@ given-17 b channel first status = (λ e. to e, λ g. from g)
         let c = checked-facts b (Reply channel first status) e (λ q. omega arith) (λ q. omega arith) in
         let t = hit (not (replyStatus status)) 17 (pick (not (startsAt (b .pending) first)) 16 0) (c .own)
         (never (not (startsAt (b .pending) first)) 16 0 17 (λ q. omega arith) (λ q. omega arith)) in
-        record { rules = c .rules; own = own-fact b (Reply channel first status) (c .here); wrong = λ q. apart (status-test status q) (not-true _ t) }
+        record { rules = c .rules; own = own-fact b (Reply channel first status) (c .here); wrong = λ q. clash (status-test status q) (not-true _ t) }
 
     from : Given17 b channel first status → numberTo b (Reply channel first status) ≡ 17
     from g =
@@ -302,7 +303,7 @@ given-16 b channel first status = (λ e. to e, λ g. from g)
           rules = c .rules;
           own = own-fact b (Reply channel first status) (c .here);
           right = status-fact status (not-false _ (s .0));
-          unasked = λ last q. apart (starts-test (b .pending) first last q) (not-true _ t);
+          unasked = λ last q. clash (starts-test (b .pending) first last q) (not-true _ t);
         }
 
     from : Given16 b channel first status → numberTo b (Reply channel first status) ≡ 16
@@ -319,7 +320,7 @@ fine-fact b (Tick channel n) r e =
     let t = skip (has b n) 11 (pick (ltb (b .floor + 256) n) 12 0) (s .1) (λ q. omega arith) in
     let u = skip (ltb (b .floor + 256) n) 12 0 (t .1) (λ q. omega arith) in
     let h = numbered n (not-false _ (s .0)) in
-    record { above = h .0; digits = h .1; no-repeat = λ q. apart (received-test b n q) (t .0); near = ltb-false _ _ (u .0) }
+    record { above = h .0; digits = h .1; no-repeat = λ q. clash (received-test b n q) (t .0); near = ltb-false _ _ (u .0) }
 fine-fact b (Announce channel n) r e = ltb-false _ _ (skip (ltb largest n) 10 0 e (λ q. omega arith) .0)
 fine-fact b (Request channel) r e =
     let s = skip (isPending (b .pending)) 14 (pick (eqb (b .top) (b .floor)) 15 0) e (λ q. omega arith) in

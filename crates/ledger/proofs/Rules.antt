@@ -9,11 +9,12 @@ use borrow.Author.Tests.{eq-eqb, le-leb, lt-leb, lt-ltb, leb-true, ltb-true, eqb
 use lib.Count.{ones, ones-le}
 use lib.Dec.{eqb, leb}
 use lib.Pow.{pow-mono}
+use Rattle.terms.specs.Cases.{clash}
 use Rattle.map.specs.Bits.{bit, isSet}
 use Rattle.map.proofs.Laws.{lt-of-shr}
 use Rattle.map.proofs.Digits.{bit-lt, bit-above, lt-of-clear}
 use Rattle.ledger.specs.State.{Asked, nothing, range, Book, largest, has, rangeRules, mapRules, soundOf, RangeRules, StateRules}
-use Rattle.ledger.proofs.Tests.{apart, false-of, both, zero-digit}
+use Rattle.ledger.proofs.Tests.{false-of, both, zero-digit}
 
 -- ---- what a state says of a number
 
@@ -118,7 +119,7 @@ broken-test b n = false-of (soundOf b) (λ e. n (rules-facts b e))
 
 -- a number not received lies above the floor
 pub above-floor : (b : Book) (n : ℕ) → has b n ≡ false → b .floor < n
-above-floor b n e = elim (decLe n (b .floor)) [ yes h ↦ absurd (apart (has-below b n h) e) | no h ↦ omega arith ]
+above-floor b n e = elim (decLe n (b .floor)) [ yes h ↦ absurd (clash (has-below b n h) e) | no h ↦ omega arith ]
 
 -- no more are held than lie between floor and top
 pub held-fits : (b : Book) → StateRules b → ones (b .bits) ≤ b .top - b .floor

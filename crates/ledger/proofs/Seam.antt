@@ -10,7 +10,7 @@ use lib.Dec.{eqb, ltb}
 use lib.Pow.{pow-lt, pow-mono, shr-le}
 use Rattle.terms.specs.Paper.{answer, pick}
 use Rattle.terms.specs.Counters.{tickOf}
-use Rattle.terms.specs.Refusals.{numberOf}
+use Rattle.terms.specs.Refusals.{numberOf, refusal-not-0}
 use Rattle.terms.specs.declared.TickNumber.{TickNumber}
 use Rattle.terms.specs.declared.ChannelNumber.{ChannelNumber}
 use Rattle.terms.specs.declared.Refusal.{Refusal}
@@ -19,7 +19,7 @@ use Rattle.map.specs.declared.Map.{Map}
 use Rattle.map.proofs.Words.{map-of, value-of, list-lt}
 use Rattle.ledger.specs.State.{Asked, nothing, range, Book, largest, soundOf, askedOf, pendingOf, bookOf, ledgerOf}
 use Rattle.ledger.specs.Calls.{Call, Announce, Request, Reply, replyStatus, isPending, startsAt, elsewhere, ownNumber, checkedOf, marked, passes, taken, waiting, fresh, done, raised, offered, valuesOf, beside, numberTo, answerTo, nextOf}
-use Rattle.ledger.specs.Papers.{verdictNumber, refusal-not-0}
+use Rattle.ledger.specs.Papers.{verdictNumber}
 use Rattle.ledger.specs.declared.Ledger.{Ledger}
 use Rattle.ledger.specs.declared.Verdict.{Verdict}
 use Rattle.ledger.specs.declared.Pending.{Pending}

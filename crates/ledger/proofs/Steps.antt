@@ -12,6 +12,7 @@ use lib.Bits.{or-lt}
 use lib.Count.{ones, trailingZeros}
 use lib.Dec.{eqb, leb, ltb}
 use lib.Pow.{pow-lt, pow-pos, pow-mono, shr-le, shr-lt}
+use Rattle.terms.specs.Cases.{clash}
 use Rattle.terms.specs.Paper.{Paper, answer, pick}
 use Rattle.map.specs.Bits.{bit, isSet, run}
 use Rattle.map.proofs.Digits.{bit-lt, bit-shr, bit-zero, bit-above, bit-set-same, bit-set-other, run-passed, run-stopped, trailing-stopped}
@@ -19,7 +20,7 @@ use Rattle.map.proofs.Ones.{passed-and-held}
 use Rattle.ledger.specs.State.{Asked, nothing, range, Book, orElse, largest, has, soundOf, RangeRules, StateRules}
 use Rattle.ledger.specs.Calls.{Call, Tick, Announce, Request, Reply, Missing, Held, tickNumber, replyStatus, isPending, startsAt, elsewhere, ownNumber, checkedOf, numberTo, marked, passes, taken, raised, waiting, asked, done, nextAt, heldCount, valuesOf, beside, answerAt, answerTo, nextOf, fresh, openOf}
 use Rattle.ledger.specs.Words.{receives, numbers, namedBy, offers, stillPending, one, ticks}
-use Rattle.ledger.proofs.Tests.{apart, zero-digit, pick-cases}
+use Rattle.ledger.proofs.Tests.{zero-digit, pick-cases}
 use Rattle.ledger.proofs.Rules.{has-below, has-above, none-beyond, bits-top, rules-test, above-floor}
 use Rattle.ledger.proofs.Numbers.{numbered}
 
@@ -52,7 +53,7 @@ quiet b call next a r c f v n t h p k =
       floor-is = f ∙ sym (add-zero _);
       names = h;
       pending-is = p;
-      anew = λ x e. absurd (apart e (n x));
+      anew = λ x e. absurd (clash e (n x));
       taken-count = ap₂ (λ (y z : ℕ). y + ones z) f v ∙ sym (ap (λ (x : ℕ). x + (b .floor + heldCount b)) k ∙ zero-add _);
     }
 
@@ -346,7 +347,7 @@ At b call k = Step b call (nextAt b call k) (answerAt b call k)
 -- a repeat offers no number above the top
 repeat-low : (b : Book) (channel n : ℕ) → StateRules b → has b n ≡ true → offers (Tick channel n) (answer 11 []) ≤ b .top
 unfolding offers
-repeat-low b channel n r e = elim (decLe n (b .top)) [ yes h ↦ h | no h ↦ absurd (apart e (r .none-above n (omega arith))) ]
+repeat-low b channel n r e = elim (decLe n (b .top)) [ yes h ↦ h | no h ↦ absurd (clash e (r .none-above n (omega arith))) ]
 
 number-low : (b : Book) (channel n : ℕ) → offers (Tick channel n) (answer 10 []) ≤ b .top
 unfolding offers
@@ -411,7 +412,7 @@ pub step : (b : Book) (call : Call) → StateRules b → Step b call (nextOf b c
 unfolding nextOf answerTo numberTo checkedOf
 step b call r =
     pick-cases (λ k. At b call k) (not (soundOf b)) 13 (pick (elsewhere b call) 18 (ownNumber b call))
-    (λ e. absurd (apart (rules-test b r) (not-true _ e)))
+    (λ e. absurd (clash (rules-test b r) (not-true _ e)))
     (λ e. pick-cases (λ k. At b call k) (elsewhere b call) 18 (ownNumber b call)
     (λ g. stays 18 refl b call r (other-channel b call))
     (λ g. own-step b call r))

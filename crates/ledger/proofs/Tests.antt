@@ -6,15 +6,13 @@ use native.Mathlib.Decide.{decLt}
 use native.Mathlib.Omega.{arith}
 use borrow.Author.Tests.{lt-ltb, le-ltb}
 use lib.Dec.{eqb, ltb}
+use Rattle.terms.specs.Cases.{clash}
 use Rattle.terms.specs.Paper.{pick}
 use Rattle.ledger.specs.Words.{one}
 
-pub apart : {b : Bool} → b ≡ true → b ≡ false → ⊥
-apart e f = let z : _≡_ {A = ℕ} 0 1 = cc in omega arith
-
 pub both : (a b : Bool) → a && b ≡ true → (a ≡ true) × (b ≡ true)
 both true b e = (refl, e)
-both false b e = absurd (apart e refl)
+both false b e = absurd (clash e refl)
 
 -- a test that can't fail has passed, and the other way round
 pub true-of : (t : Bool) → (t ≡ false → ⊥) → t ≡ true
@@ -39,7 +37,7 @@ over-two d h = omega arith
 
 pub zero-digit : (d : ℕ) → d < 2 → eqb d 1 ≡ false → d ≡ 0
 zero-digit zero h e = refl
-zero-digit (suc zero) h e = absurd (apart refl e)
+zero-digit (suc zero) h e = absurd (clash refl e)
 zero-digit (suc (suc d)) h e = absurd (over-two d h)
 
 pub one-of : (d : ℕ) → d < 2 → one (eqb d 1) ≡ d

@@ -100,14 +100,6 @@ pub trailing-high : (j k a r : ℕ) → r < 2 ^ k → trailingZeros k r ≡ k �
 unfolding trailingZeros
 trailing-high = scan-high under trailingZeros (λ m. refl) (λ k m. refl) under-is
 
-pub run-low : (j k a r : ℕ) → run k r < k → run (j + k) (a * 2 ^ k + r) ≡ run k r
-unfolding run
-run-low = scan-low onward run (λ m. refl) (λ k m. refl) onward-is
-
-pub run-high : (j k a r : ℕ) → r < 2 ^ k → run k r ≡ k → run (j + k) (a * 2 ^ k + r) ≡ k + run j a
-unfolding run
-run-high = scan-high onward run (λ m. refl) (λ k m. refl) onward-is
-
 pub run-le : (k m : ℕ) → run k m ≤ k
 unfolding run
 run-le = scan-le onward run (λ m. refl) (λ k m. refl) onward-is

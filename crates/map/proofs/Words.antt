@@ -146,12 +146,6 @@ module _ (a b c d : ℕ) (ha : a < 2 ^ 64) (hb : b < 2 ^ 64) (hc : c < 2 ^ 64) w
 
 -- ---- the same of a list of four words
 module _ (w : List ℕ) (h : Words w) where
-  pub list-ones : ones (valueOfList w) ≡ ones (getD w 0 0) + ones (getD w 1 0) + ones (getD w 2 0) + ones (getD w 3 0)
-  list-ones = value-ones _ _ _ _ (h .low 0 .fits) (h .low 1 .fits) (h .low 2 .fits)
-
-  pub list-down : valueOfList w / 2 ^ 64 ≡ valueOf (getD w 1 0) (getD w 2 0) (getD w 3 0) 0
-  list-down = value-down _ _ _ _ (h .low 0 .fits) (h .low 1 .fits) (h .low 2 .fits)
-
   pub list-lt : valueOfList w < 2 ^ 256
   list-lt = value-lt _ _ _ _ (h .low 0 .fits) (h .low 1 .fits) (h .low 2 .fits) (h .low 3 .fits)
 
