@@ -1,8 +1,5 @@
 -- Nothing pending starts nowhere; a range starts at its first number. Assumes nothing.
-use mathlib.Core.Path.{ap}
-use Prim.Native.Nat.{ℕ}
 use borrow.Author.Needs.{needs}
-use lib.Dec.{eqb}
 use Rattle.ledger.proofs.Pending.starts_at.Statement.{statement}
 use Rattle.ledger.proofs.Pending.starts_at.Tie as tie
 
@@ -19,7 +16,7 @@ returns : tie.Need-returns
 returns c = search needs
 
 returns-2 : tie.Need-returns-2
-returns-2 c = simp (c .before .before .self .given .1) (ap (λ (x : ℕ). eqb x (c .before .before .before .before .args .n)) (c .value .ensures))
+returns-2 c = simp (c .before .before .self .given .1, c .value .ensures)
 
 pub starts-at-spec : {M : Type 1} → statement M
 starts-at-spec = tie.close (tie.spec enum-told enum-known-self value-requires returns returns-2)
