@@ -1,5 +1,6 @@
--- What a call on a freshly opened ledger is answered, told from the calls and answers before it alone; what a refusal leaves; and that
--- places are free again. (13 is never answered on this way: the state rules always hold. 14, 15 and the counts stand in Demand3.antt.)
+-- What a call on a freshly opened ledger is answered, told from the calls and answers before it alone; what a broken state is answered; what a
+-- refusal leaves; and that places are free again. (13 is never answered after opening: the state rules always hold. 14, 15 and the counts
+-- stand in Demand3.antt.)
 use mathlib.Core.Path.{_≡_}
 use mathlib.Core.Bool.{true, false}
 use mathlib.Core.List.{[], _∷_}

@@ -1,6 +1,7 @@
 -- Demand 3, sentence by sentence, of a history and the book after it. `demand-3` of proofs/Demand3.antt proves it for every row of calls on the
--- fresh ledger of every channel that opens, and `ran-demand-3` of proofs/Promised.antt for every such row of the code. Words.antt tells each word (received, settled, handedOut, knownTop, pending, missing, delivered, held, count)
--- from the calls and their answers alone; only where a sentence speaks of the ledger does the book after the calls stand here.
+-- fresh ledger of every channel that opens, and `ran-demand-3` of proofs/Promised.antt for every such row of the code. Words.antt tells each
+-- word (received, settled, handedOut, knownTop, pending, missing, delivered, held, count) from the calls and their answers alone; only where
+-- a sentence speaks of the ledger does the book after the calls stand here.
 use mathlib.Core.Path.{_≡_}
 use mathlib.Core.Logic.{_⊎_}
 use mathlib.Core.Bool.{Bool, true, false, _&&_, not}
