@@ -1,0 +1,81 @@
+//! "What each number says": the refusals and their numbers.
+
+/// The number of a call that none of the refusals applies to.
+pub const DONE: u32 = 0;
+
+/// A refusal. Each comment is the table's "Given exactly when".
+#[derive(Clone, Copy, Debug, PartialEq, Eq)]
+pub enum No {
+    /// 1: fewer than 24 bytes, or fewer than the frame's length
+    More,
+    /// 2: MsgType not in the table
+    Type,
+    /// 3: body above 8,164
+    Long,
+    /// 4: BodyLength doesn't suit the type
+    Length,
+    /// 5: CheckSum differs, all 32 bits compared
+    Sum,
+    /// 6: a field rule is broken
+    Field,
+    /// 8: output buffer shorter than what is to be written
+    Room,
+    /// 9: search start beyond the end
+    Place,
+    /// 10: tick number 0 or above 18 digits; announced top above 18 digits;
+    /// channel above 9,999
+    Number,
+    /// 11: tick already received
+    Repeat,
+    /// 12: tick above floor + 256 and not a repeat
+    Far,
+    /// 13: a state passed in breaks its state rules
+    State,
+    /// 14: a request is pending
+    Busy,
+    /// 15: nothing is missing
+    Whole,
+    /// 16: reply with no request pending, or with another first number
+    Unasked,
+    /// 17: reply status not 1 to 5 or 99
+    Status,
+    /// 18: call names another channel
+    Channel,
+    /// 20: the entry reader's body is below 73 bytes, its place is not
+    /// 73 + k sizes with k below NoMDEntries, or that entry passes the body's
+    /// end
+    Entries,
+}
+
+impl No {
+    pub fn number(self) -> u32 {
+        match self {
+            No::More => 1,
+            No::Type => 2,
+            No::Long => 3,
+            No::Length => 4,
+            No::Sum => 5,
+            No::Field => 6,
+            No::Room => 8,
+            No::Place => 9,
+            No::Number => 10,
+            No::Repeat => 11,
+            No::Far => 12,
+            No::State => 13,
+            No::Busy => 14,
+            No::Whole => 15,
+            No::Unasked => 16,
+            No::Status => 17,
+            No::Channel => 18,
+            No::Entries => 20,
+        }
+    }
+}
+
+/// Document 01's number for an answer: 0 for done, else the refusal's.
+pub fn number<T>(answer: &Result<T, No>) -> u32 {
+    match answer {
+        Ok(_) => DONE,
+        Err(no) => no.number(),
+    }
+}

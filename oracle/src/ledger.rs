@@ -1,0 +1,234 @@
+//! The gap ledger of one tick channel.
+//!
+//! "Every ledger call takes the ledger and gives back the next one." All fields
+//! are open, so that a state may be made by hand; each call checks it first.
+
+use crate::answer::No;
+use crate::numbers::{Channel, Tick, MOST, MOST_CHANNEL};
+
+/// "a map of 256 bits .. for the numbers floor + 1 to floor + 256"
+pub const PLACES: u64 = 256;
+
+/// "broken off .. at 200 numbers"
+pub const MOST_ASKED: u64 = 200;
+
+/// "the pending request": no request is a case of its own (0.9).
+#[derive(Clone, Copy, Debug, PartialEq, Eq)]
+pub enum Pending {
+    Nothing,
+    Asked { first: Tick, last: Tick },
+}
+
+/// "State: channel, floor (all numbers up to it received), top (largest number
+/// offered and not refused by 18 or 10, or announced), a map of 256 bits in
+/// four words for the numbers floor + 1 to floor + 256, and the pending
+/// request."
+#[derive(Clone, Copy, Debug, PartialEq, Eq)]
+pub struct Ledger {
+    pub channel: Channel,
+    pub floor: Tick,
+    pub top: Tick,
+    /// Place i is bit i % 64, low bit first, of word i / 64, and stands for
+    /// floor + 1 + i (0.9).
+    pub map: [u64; 4],
+    pub pending: Pending,
+}
+
+/// A run of numbers from the first to the last.
+#[derive(Clone, Copy, Debug, PartialEq, Eq)]
+pub struct Range {
+    pub first: Tick,
+    pub last: Tick,
+}
+
+/// The map as its 256 places.
+fn places(map: [u64; 4]) -> Vec<bool> {
+    (0..PLACES).map(|i| (map[(i / 64) as usize] >> (i % 64)) % 2 == 1).collect()
+}
+
+/// The places as the map.
+fn words(places: &[bool]) -> [u64; 4] {
+    let mut map = [0u64; 4];
+    for (i, held) in places.iter().enumerate() {
+        if *held {
+            map[i / 64] |= 1 << (i % 64);
+        }
+    }
+    map
+}
+
+impl Ledger {
+    /// "Fresh: floor 0, top 0, nothing held."
+    fn fresh(channel: Channel) -> Ledger {
+        Ledger { channel, floor: Tick(0), top: Tick(0), map: [0; 4], pending: Pending::Nothing }
+    }
+
+    /// "Opening a ledger checks 10; refused, a fresh ledger for channel 0
+    /// stands beside the number."
+    pub fn open(channel: Channel) -> (Ledger, Result<(), No>) {
+        if channel.0 > MOST_CHANNEL {
+            return (Ledger::fresh(Channel(0)), Err(No::Number));
+        }
+        (Ledger::fresh(channel), Ok(()))
+    }
+
+    /// The state rules.
+    pub fn sound(self) -> bool {
+        // "channel at most 9,999; floor not above top, top at most 18 digits"
+        if self.channel.0 > MOST_CHANNEL || self.floor.0 > self.top.0 || self.top.0 > MOST {
+            return false;
+        }
+        // "floor + 1 and all above top not held"
+        for (i, held) in places(self.map).iter().enumerate() {
+            let n = self.floor.0 + 1 + i as u64;
+            if *held && (i == 0 || n > self.top.0) {
+                return false;
+            }
+        }
+        // "a pending request starts from 1 to floor + 1, ends from its start to
+        // top, and has at most 200 numbers"
+        match self.pending {
+            Pending::Nothing => true,
+            Pending::Asked { first, last } => {
+                1 <= first.0
+                    && first.0 <= self.floor.0 + 1
+                    && first.0 <= last.0
+                    && last.0 <= self.top.0
+                    && last.0 - first.0 < MOST_ASKED
+            }
+        }
+    }
+
+    /// "Ledger calls check 13 first, then 18".
+    fn check(self, channel: Channel) -> Result<(), No> {
+        if !self.sound() {
+            return Err(No::State);
+        }
+        if channel != self.channel {
+            return Err(No::Channel);
+        }
+        Ok(())
+    }
+
+    /// Whether a number of a sound state was received: it is up to the floor,
+    /// or held.
+    fn received(self, n: u64) -> bool {
+        n <= self.floor.0
+            || (n - self.floor.0 <= PLACES && places(self.map)[(n - self.floor.0 - 1) as usize])
+    }
+
+    /// "Tick: marked received; the floor moves to just below the first number
+    /// not received; the answer names the numbers newly passed, perhaps none."
+    /// Checks 13, 18, 10, 11, 12.
+    pub fn tick(self, channel: Channel, number: Tick) -> (Ledger, Result<Option<Range>, No>) {
+        if let Err(no) = self.check(channel) {
+            return (self, Err(no));
+        }
+        let n = number.0;
+        // 10: "tick number 0 or above 18 digits"
+        if n == 0 || n > MOST {
+            return (self, Err(No::Number));
+        }
+        // 11: "tick already received"
+        if self.received(n) {
+            return (self, Err(No::Repeat));
+        }
+        let top = Tick(self.top.0.max(n));
+        // 12: "tick above floor + 256 and not a repeat"; "the ledger keeps its
+        // state, save that 12 raises the top to that tick if it was lower".
+        if n > self.floor.0 + PLACES {
+            return (Ledger { top, ..self }, Err(No::Far));
+        }
+        let mut held = places(self.map);
+        held[(n - self.floor.0 - 1) as usize] = true;
+        // The floor passes the leading run of received numbers; the places
+        // behind it move down and become free again.
+        let run = held.iter().take_while(|h| **h).count();
+        held.drain(..run);
+        held.resize(PLACES as usize, false);
+        let floor = Tick(self.floor.0 + run as u64);
+        let passed = if run == 0 {
+            None
+        } else {
+            Some(Range { first: Tick(self.floor.0 + 1), last: floor })
+        };
+        (Ledger { floor, top, map: words(&held), ..self }, Ok(passed))
+    }
+
+    /// "Announcement (P001): top becomes the larger of the two; a lower one
+    /// changes nothing." Checks 13, 18, 10.
+    pub fn announce(self, channel: Channel, last: Tick) -> (Ledger, Result<(), No>) {
+        if let Err(no) = self.check(channel) {
+            return (self, Err(no));
+        }
+        // 10: "announced top above 18 digits"
+        if last.0 > MOST {
+            return (self, Err(No::Number));
+        }
+        (Ledger { top: Tick(self.top.0.max(last.0)), ..self }, Ok(()))
+    }
+
+    /// "Request: from floor + 1 up to the top, broken off before the first held
+    /// number and at 200 numbers." Checks 13, 18, 14, 15.
+    pub fn request(self, channel: Channel) -> (Ledger, Result<Range, No>) {
+        if let Err(no) = self.check(channel) {
+            return (self, Err(no));
+        }
+        // 14: "a request is pending"
+        if self.pending != Pending::Nothing {
+            return (self, Err(No::Busy));
+        }
+        // 15: "nothing is missing". In a sound state floor + 1 is not held, so
+        // it is missing unless it lies above the top.
+        let first = self.floor.0 + 1;
+        if first > self.top.0 {
+            return (self, Err(No::Whole));
+        }
+        let mut last = first;
+        while last < self.top.0 && !self.received(last + 1) && last - first + 1 < MOST_ASKED {
+            last += 1;
+        }
+        let range = Range { first: Tick(first), last: Tick(last) };
+        let pending = Pending::Asked { first: range.first, last: range.last };
+        (Ledger { pending, ..self }, Ok(range))
+    }
+
+    /// "Reply (P002): a request is pending from its grant until a reply
+    /// answered 0; then pending is cleared. A status of "all done" marks
+    /// nothing as received; only ticks do." Checks 13, 18, 17, 16. The reply's
+    /// last number is compared with nothing (0.12) and is not asked for here.
+    pub fn reply(self, channel: Channel, first: Tick, status: u8) -> (Ledger, Result<(), No>) {
+        if let Err(no) = self.check(channel) {
+            return (self, Err(no));
+        }
+        // 17: "reply status not 1 to 5 or 99"
+        if !((1..=5).contains(&status) || status == 99) {
+            return (self, Err(No::Status));
+        }
+        // 16: "reply with no request pending, or with another first number"
+        match self.pending {
+            Pending::Asked { first: asked, .. } if asked == first => {
+                (Ledger { pending: Pending::Nothing, ..self }, Ok(()))
+            }
+            _ => (self, Err(No::Unasked)),
+        }
+    }
+
+    /// How many numbers up to the top were not received. A call too: it checks
+    /// 13, with a count of 0 then (0.10).
+    pub fn missing(self) -> (Ledger, Result<u64, No>) {
+        if !self.sound() {
+            return (self, Err(No::State));
+        }
+        let held = places(self.map).iter().filter(|h| **h).count() as u64;
+        (self, Ok(self.top.0 - self.floor.0 - held))
+    }
+
+    /// How many numbers above the floor are held. Checks 13 likewise (0.10).
+    pub fn held(self) -> (Ledger, Result<u64, No>) {
+        if !self.sound() {
+            return (self, Err(No::State));
+        }
+        (self, Ok(places(self.map).iter().filter(|h| **h).count() as u64))
+    }
+}

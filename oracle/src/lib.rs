@@ -1,0 +1,18 @@
+//! The second, independent program: document 01 written down plainly.
+//!
+//! Nothing here was taken from the proved crates. Each module follows the
+//! section of document 01 that it is named after, and quotes its rules; what
+//! the document leaves open follows the list of decided points (0.1 to 0.19),
+//! cited by number.
+
+pub mod answer;
+pub mod bytes;
+pub mod entries;
+pub mod frame;
+pub mod ledger;
+pub mod listing;
+pub mod numbers;
+pub mod record;
+pub mod rules;
+pub mod scrub;
+pub mod walk;

@@ -1,0 +1,97 @@
+//! Fault records, their listing lines and the summary line.
+
+use crate::bytes::{number, put};
+use crate::numbers::{Channel, Session, Tick};
+
+/// "Records have 64 bytes, numbers high byte first, and no file header".
+pub const SIZE: usize = 64;
+
+/// MsgType of the record of a refused reading.
+pub const BLANK: [u8; 4] = *b"    ";
+
+#[derive(Clone, Copy, Debug, PartialEq, Eq)]
+pub struct Record {
+    pub place: u64,
+    pub msg_type: [u8; 4],
+    pub answer: u32,
+    pub seq: Session,
+    pub tick: Tick,
+    pub channel: Channel,
+    pub body_length: u32,
+    pub floor: Tick,
+    pub top: Tick,
+}
+
+impl Record {
+    /// "If reading answered 1 to 6, MsgType is four spaces and all numbers but
+    /// place, answer, floor and top are 0."
+    pub fn refused(place: u64, answer: u32, floor: Tick, top: Tick) -> Record {
+        Record {
+            place,
+            msg_type: BLANK,
+            answer,
+            seq: Session(0),
+            tick: Tick(0),
+            channel: Channel(0),
+            body_length: 0,
+            floor,
+            top,
+        }
+    }
+
+    /// "place 8, MsgType 4, answer 4, MsgSeqNum 8, tick number 8, channel 2,
+    /// zero 2, BodyLength 4, floor 8, top 8, zero 8"
+    pub fn bytes(self) -> [u8; SIZE] {
+        let mut b = [0u8; SIZE];
+        put(&mut b, 0, 8, self.place);
+        b[8..12].copy_from_slice(&self.msg_type);
+        put(&mut b, 12, 4, u64::from(self.answer));
+        put(&mut b, 16, 8, self.seq.0);
+        put(&mut b, 24, 8, self.tick.0);
+        put(&mut b, 32, 2, u64::from(self.channel.0));
+        put(&mut b, 36, 4, u64::from(self.body_length));
+        put(&mut b, 40, 8, self.floor.0);
+        put(&mut b, 48, 8, self.top.0);
+        b
+    }
+
+    /// The record that 64 bytes spell. It judges nothing; the zero fields are
+    /// not looked at.
+    pub fn of(b: &[u8; SIZE]) -> Record {
+        Record {
+            place: number(&b[0..8]),
+            msg_type: [b[8], b[9], b[10], b[11]],
+            answer: number(&b[12..16]) as u32,
+            seq: Session(number(&b[16..24])),
+            tick: Tick(number(&b[24..32])),
+            channel: Channel(number(&b[32..34]) as u16),
+            body_length: number(&b[36..40]) as u32,
+            floor: Tick(number(&b[40..48])),
+            top: Tick(number(&b[48..56])),
+        }
+    }
+
+    /// "Columns: place, type (`----` where blank), answer, MsgSeqNum, channel,
+    /// tick number, floor, top." The line ends in a newline (0.17).
+    pub fn line(self) -> Vec<u8> {
+        let name = if self.msg_type == BLANK { *b"----" } else { self.msg_type };
+        let mut line = format!("{} ", self.place).into_bytes();
+        line.extend_from_slice(&name);
+        let rest = format!(
+            " {} {} {} {} {} {}\n",
+            self.answer, self.seq.0, self.channel.0, self.tick.0, self.floor.0, self.top.0
+        );
+        line.extend_from_slice(rest.as_bytes());
+        line
+    }
+}
+
+/// The last line of a listing. "`frames` counts readings answered 0, `refused`
+/// recorded reading refusals only; `missing` is the ledger's."
+pub fn summary(frames: u64, refused: u64, floor: Tick, top: Tick, missing: u64) -> Vec<u8> {
+    format!(
+        "frames {} refused {} floor {} top {} missing {}\n",
+        frames, refused, floor.0, top.0, missing
+    )
+    .into_bytes()
+}

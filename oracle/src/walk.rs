@@ -1,0 +1,112 @@
+//! The walk over a capture: one record for each reading.
+
+use crate::answer::{number, No};
+use crate::bytes;
+use crate::frame::{read, search, Message};
+use crate::ledger::Ledger;
+use crate::numbers::{Channel, Tick};
+use crate::record::{Record, SIZE};
+use crate::rules::Kind;
+
+/// "The walk opens a ledger for channel 100."
+pub const CHANNEL: Channel = Channel(100);
+
+/// What the walk answers beside its number.
+#[derive(Clone, Copy, Debug, PartialEq, Eq)]
+pub struct Walked {
+    pub records: u64,
+    pub frames: u64,
+    pub refused: u64,
+    pub ledger: Ledger,
+}
+
+/// The channel and the tick number of a frame that reads: "The tick number is
+/// that of M201, ApplLastSeqNum for P001, ApplBegSeqNum for P002, else 0.
+/// Channel is 0 for types without one."
+fn numbers_of(message: &Message) -> (Channel, Tick) {
+    let body = &message.body;
+    let field = |at: usize, width: usize| bytes::number(&body[at..at + width]);
+    match Kind::of(message.msg_type) {
+        // SecurityType 1, ChannelNO 2, ApplSeqNum or ApplLastSeqNum 8
+        Some(Kind::M201) | Some(Kind::P001) => (Channel(field(1, 2) as u16), Tick(field(3, 8))),
+        // ChannelNO 2, ResendType 1, ApplBegSeqNum 8
+        Some(Kind::P002) => (Channel(field(0, 2) as u16), Tick(field(3, 8))),
+        _ => (Channel(0), Tick(0)),
+    }
+}
+
+/// The walk itself, with as many records as it makes.
+pub fn records(capture: &[u8]) -> (Vec<Record>, Walked) {
+    let (mut ledger, _) = Ledger::open(CHANNEL);
+    let mut made = Vec::new();
+    let mut frames = 0;
+    let mut refused = 0;
+    let mut place = 0;
+    // "It also stops at the capture's end, with no record for it."
+    while place < capture.len() {
+        // "At each place it reads."
+        match read(&capture[place..]) {
+            Ok(message) => {
+                let (channel, tick) = numbers_of(&message);
+                // "On 0 it offers M201 and P001 to the ledger (the record's
+                // answer is the ledger's, its floor and top those after the
+                // call) and steps past the frame." A P002 is never offered
+                // (0.14).
+                let answer = match Kind::of(message.msg_type) {
+                    Some(Kind::M201) => {
+                        let (next, answer) = ledger.tick(channel, tick);
+                        ledger = next;
+                        number(&answer)
+                    }
+                    Some(Kind::P001) => {
+                        let (next, answer) = ledger.announce(channel, tick);
+                        ledger = next;
+                        number(&answer)
+                    }
+                    _ => 0,
+                };
+                made.push(Record {
+                    place: place as u64,
+                    msg_type: message.msg_type,
+                    answer,
+                    seq: message.seq,
+                    tick,
+                    channel,
+                    body_length: message.body.len() as u32,
+                    floor: ledger.floor,
+                    top: ledger.top,
+                });
+                frames += 1;
+                place += message.frame_length();
+            }
+            Err(no) => {
+                // "Else it records the refusal and goes on at the place the
+                // search finds from the next byte on, or stops."
+                made.push(Record::refused(place as u64, no.number(), ledger.floor, ledger.top));
+                refused += 1;
+                match search(capture, place as u64 + 1) {
+                    Ok(Some(found)) => place = found,
+                    _ => break,
+                }
+            }
+        }
+    }
+    let walked = Walked { records: made.len() as u64, frames, refused, ledger };
+    (made, walked)
+}
+
+/// "Records go to a lent buffer; if it can't take all of them, 8, nothing is
+/// written, and the ledger answered is the one just opened." The counts are
+/// then 0 (0.18).
+pub fn walk(capture: &[u8], buffer: &mut [u8]) -> (Walked, Result<(), No>) {
+    let (made, walked) = records(capture);
+    if buffer.len() / SIZE < made.len() {
+        let (ledger, _) = Ledger::open(CHANNEL);
+        let nothing = Walked { records: 0, frames: 0, refused: 0, ledger };
+        return (nothing, Err(No::Room));
+    }
+    for (i, record) in made.iter().enumerate() {
+        buffer[i * SIZE..(i + 1) * SIZE].copy_from_slice(&record.bytes());
+    }
+    (walked, Ok(()))
+}
