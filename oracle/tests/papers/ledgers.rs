@@ -1,0 +1,243 @@
+//! The ledger's calls and the order of their checks.
+
+use crate::samples::*;
+use oracle::answer::No;
+use oracle::ledger::{Ledger, Pending, Range};
+use oracle::numbers::{Channel, Tick, MOST};
+
+const OTHER: Channel = Channel(101);
+
+fn range(first: u64, last: u64) -> Range {
+    Range { first: Tick(first), last: Tick(last) }
+}
+
+/// States that break one rule each.
+fn broken() -> Vec<Ledger> {
+    vec![
+        Ledger { channel: Channel(10_000), ..fresh() },
+        Ledger { channel: Channel(65_535), ..fresh() },
+        state(6, 5, &[], None),
+        state(u64::MAX, u64::MAX, &[], None),
+        state(0, MOST + 1, &[], None),
+        state(0, u64::MAX, &[], None),
+        state(10, 20, &[11], None),
+        state(10, 20, &[21], None),
+        state(10, 20, &[15, 266], None),
+        state(10, 10, &[12], None),
+        state(10, 20, &[], Some((0, 5))),
+        state(10, 20, &[], Some((12, 15))),
+        state(10, 20, &[], Some((5, 4))),
+        state(10, 20, &[], Some((5, 21))),
+        state(300, 400, &[], Some((101, 301))),
+        state(300, 400, &[], Some((1, u64::MAX))),
+        state(10, 10, &[], Some((11, 11))),
+    ]
+}
+
+/// States beside them that keep every rule.
+fn sound() -> Vec<Ledger> {
+    vec![
+        fresh(),
+        Ledger { channel: Channel(9_999), ..fresh() },
+        state(5, 5, &[], None),
+        state(MOST, MOST, &[], None),
+        state(0, MOST, &[2, 256], None),
+        state(10, 20, &[12, 20], None),
+        state(10, 266, &[15, 266], None),
+        state(10, 20, &[], Some((1, 5))),
+        state(10, 20, &[], Some((11, 20))),
+        state(10, 20, &[], Some((5, 5))),
+        state(300, 400, &[], Some((101, 300))),
+        state(MOST - 1, MOST, &[], Some((MOST, MOST))),
+    ]
+}
+
+#[test]
+fn state_rules() {
+    for l in broken() {
+        assert!(!l.sound(), "{l:?}");
+    }
+    for l in sound() {
+        assert!(l.sound(), "{l:?}");
+    }
+}
+
+#[test]
+fn thirteen_comes_first_and_gives_the_state_back() {
+    for l in broken() {
+        // Another channel, and numbers that would be refused too.
+        assert_eq!(l.tick(OTHER, Tick(0)), (l, Err(No::State)));
+        assert_eq!(l.tick(l.channel, Tick(1)), (l, Err(No::State)));
+        assert_eq!(l.announce(OTHER, Tick(u64::MAX)), (l, Err(No::State)));
+        assert_eq!(l.request(OTHER), (l, Err(No::State)));
+        assert_eq!(l.reply(OTHER, Tick(1), 0), (l, Err(No::State)));
+        assert_eq!(l.missing(), (l, Err(No::State)));
+        assert_eq!(l.held(), (l, Err(No::State)));
+    }
+}
+
+#[test]
+fn eighteen_comes_second() {
+    let l = state(10, 20, &[15], Some((11, 14)));
+    for n in [0, 1, 11, 15, 500, MOST + 1] {
+        assert_eq!(l.tick(OTHER, Tick(n)), (l, Err(No::Channel)));
+    }
+    assert_eq!(l.tick(Channel(10_000), Tick(1)), (l, Err(No::Channel)));
+    assert_eq!(l.announce(OTHER, Tick(MOST + 1)), (l, Err(No::Channel)));
+    // before 14 and 15
+    assert_eq!(l.request(OTHER), (l, Err(No::Channel)));
+    assert_eq!(fresh().request(OTHER), (fresh(), Err(No::Channel)));
+    // before 17 and 16
+    assert_eq!(l.reply(OTHER, Tick(11), 0), (l, Err(No::Channel)));
+    assert_eq!(fresh().reply(OTHER, Tick(11), 1), (fresh(), Err(No::Channel)));
+}
+
+#[test]
+fn ten_comes_before_eleven_and_twelve() {
+    let l = state(10, 20, &[15], None);
+    // 0 lies below the floor, MOST + 1 above floor + 256.
+    assert_eq!(l.tick(C, Tick(0)), (l, Err(No::Number)));
+    assert_eq!(l.tick(C, Tick(MOST + 1)), (l, Err(No::Number)));
+    assert_eq!(l.tick(C, Tick(u64::MAX)), (l, Err(No::Number)));
+    assert_eq!(l.announce(C, Tick(MOST + 1)), (l, Err(No::Number)));
+    assert_eq!(l.announce(C, Tick(MOST)).1, Ok(()));
+}
+
+#[test]
+fn repeats_and_far_ticks() {
+    let l = state(10, 20, &[15], None);
+    for n in [1, 9, 10, 15] {
+        assert_eq!(l.tick(C, Tick(n)), (l, Err(No::Repeat)));
+    }
+    assert_eq!(l.tick(C, Tick(266)).1, Ok(None));
+    // 12 moves the top and nothing else.
+    assert_eq!(l.tick(C, Tick(267)), (Ledger { top: Tick(267), ..l }, Err(No::Far)));
+    assert_eq!(l.tick(C, Tick(MOST)), (Ledger { top: Tick(MOST), ..l }, Err(No::Far)));
+    let high = Ledger { top: Tick(300), ..l };
+    assert_eq!(high.tick(C, Tick(299)), (high, Err(No::Far)));
+}
+
+#[test]
+fn the_last_numbers_of_all() {
+    let l = state(MOST - 2, MOST, &[MOST], None);
+    let (l, answer) = l.tick(C, Tick(MOST - 1));
+    assert_eq!(answer, Ok(Some(range(MOST - 1, MOST))));
+    assert_eq!(l, state(MOST, MOST, &[], None));
+    assert_eq!(l.tick(C, Tick(MOST)).1, Err(No::Repeat));
+    assert_eq!(l.tick(C, Tick(MOST + 1)).1, Err(No::Number));
+    assert_eq!(l.request(C).1, Err(No::Whole));
+}
+
+#[test]
+fn the_floor_passes_held_numbers() {
+    let l = state(10, 20, &[12, 13, 15], None);
+    let (l, answer) = l.tick(C, Tick(11));
+    assert_eq!(answer, Ok(Some(range(11, 13))));
+    assert_eq!(l, state(13, 20, &[15], None));
+    // A whole map passed at once.
+    let all: Vec<u64> = (2..=256).collect();
+    let (l, answer) = state(0, 256, &all, None).tick(C, Tick(1));
+    assert_eq!(answer, Ok(Some(range(1, 256))));
+    assert_eq!(l, state(256, 256, &[], None));
+}
+
+#[test]
+fn map_places_are_free_again() {
+    // Pairs in the wrong order, far beyond 256 numbers.
+    let mut l = fresh();
+    for k in 0..1_000u64 {
+        let (held, answer) = l.tick(C, Tick(2 * k + 2));
+        assert_eq!(answer, Ok(None));
+        assert_eq!(held.held().1, Ok(1));
+        let (next, answer) = held.tick(C, Tick(2 * k + 1));
+        assert_eq!(answer, Ok(Some(range(2 * k + 1, 2 * k + 2))));
+        l = next;
+    }
+    assert_eq!(l, state(2_000, 2_000, &[], None));
+}
+
+#[test]
+fn announcements() {
+    let l = state(10, 20, &[15], Some((11, 14)));
+    assert_eq!(l.announce(C, Tick(25)), (Ledger { top: Tick(25), ..l }, Ok(())));
+    for n in [0, 5, 20] {
+        assert_eq!(l.announce(C, Tick(n)), (l, Ok(())));
+    }
+}
+
+#[test]
+fn requests() {
+    let cases = [
+        (state(10, 20, &[], None), range(11, 20)),
+        (state(10, 20, &[12], None), range(11, 11)),
+        (state(10, 20, &[20], None), range(11, 19)),
+        (state(10, 210, &[], None), range(11, 210)),
+        (state(10, 211, &[], None), range(11, 210)),
+        (state(10, 211, &[211], None), range(11, 210)),
+        (state(10, 212, &[210], None), range(11, 209)),
+        (state(0, MOST, &[], None), range(1, 200)),
+        (state(MOST - 1, MOST, &[], None), range(MOST, MOST)),
+    ];
+    for (l, asked) in cases {
+        let (next, answer) = l.request(C);
+        assert_eq!(answer, Ok(asked));
+        let pending = Pending::Asked { first: asked.first, last: asked.last };
+        assert_eq!(next, Ledger { pending, ..l });
+        assert_eq!(next.request(C), (next, Err(No::Busy)));
+    }
+    // 14 before 15: pending, and nothing missing.
+    let whole = state(20, 20, &[], Some((11, 20)));
+    assert_eq!(whole.request(C), (whole, Err(No::Busy)));
+}
+
+#[test]
+fn replies() {
+    let l = state(10, 20, &[15], Some((8, 14)));
+    let clear = Ledger { pending: Pending::Nothing, ..l };
+    for status in 0..=255u8 {
+        let known = (1..=5).contains(&status) || status == 99;
+        if known {
+            // Every status clears, and marks nothing as received.
+            assert_eq!(l.reply(C, Tick(8), status), (clear, Ok(())));
+            assert_eq!(l.reply(C, Tick(11), status), (l, Err(No::Unasked)));
+            assert_eq!(clear.reply(C, Tick(8), status), (clear, Err(No::Unasked)));
+        } else {
+            // 17 before 16.
+            assert_eq!(l.reply(C, Tick(8), status), (l, Err(No::Status)));
+            assert_eq!(l.reply(C, Tick(11), status), (l, Err(No::Status)));
+            assert_eq!(clear.reply(C, Tick(8), status), (clear, Err(No::Status)));
+        }
+    }
+}
+
+#[test]
+fn all_done_marks_nothing_as_received() {
+    let (l, _) = fresh().announce(C, Tick(3));
+    let (l, _) = l.request(C);
+    let (l, answer) = l.reply(C, Tick(1), 1);
+    assert_eq!(answer, Ok(()));
+    assert_eq!(l.missing().1, Ok(3));
+    assert_eq!(l.tick(C, Tick(1)).1, Ok(Some(range(1, 1))));
+}
+
+#[test]
+fn opening() {
+    for channel in [0, 100, 9_999] {
+        let (l, answer) = Ledger::open(Channel(channel));
+        assert_eq!(answer, Ok(()));
+        assert_eq!(l, Ledger { channel: Channel(channel), ..fresh() });
+    }
+    for channel in [10_000, 65_535] {
+        let (l, answer) = Ledger::open(Channel(channel));
+        assert_eq!(answer, Err(No::Number));
+        assert_eq!(l, Ledger { channel: Channel(0), ..fresh() });
+    }
+}
+
+#[test]
+fn counts() {
+    let l = state(10, 20, &[12, 15], None);
+    assert_eq!(l.held(), (l, Ok(2)));
+    assert_eq!(l.missing(), (l, Ok(8)));
+    assert_eq!(state(0, MOST, &[], None).missing().1, Ok(MOST));
+}

@@ -1,0 +1,12 @@
+//! The examples, the bounds and the orders of document 01, and properties over
+//! generated cases.
+
+mod entries;
+mod fields;
+mod frames;
+mod ledgers;
+mod listings;
+mod marked;
+mod properties;
+mod samples;
+mod scrubbing;
