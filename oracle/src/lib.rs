@@ -15,4 +15,5 @@ pub mod numbers;
 pub mod record;
 pub mod rules;
 pub mod scrub;
+pub mod vectors;
 pub mod walk;

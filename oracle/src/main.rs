@@ -1,12 +1,20 @@
 use std::io::{self, Read, Write};
 use std::process::ExitCode;
 
+const USAGE: &str = "usage: oracle list < CAPTURE   prints the capture's listing
+       oracle vectors          prints the vectors of docs/VECTORS.md
+       oracle inputs           the vectors, with the bytes that each case uses
+       oracle rows             the rows of docs/VECTORS.md as plain numbers";
+
 fn main() -> ExitCode {
     let command = std::env::args().nth(1).unwrap_or_default();
     let done = match command.as_str() {
         "list" => list(),
+        "vectors" => print(&oracle::vectors::vectors(false)),
+        "inputs" => print(&oracle::vectors::vectors(true)),
+        "rows" => print(&oracle::vectors::rows()),
         _ => {
-            eprintln!("usage: oracle list < CAPTURE");
+            eprintln!("{USAGE}");
             return ExitCode::from(2);
         }
     };
@@ -19,11 +27,15 @@ fn main() -> ExitCode {
     }
 }
 
+fn print(text: &[u8]) -> io::Result<()> {
+    io::stdout().lock().write_all(text)
+}
+
 /// The listing of the capture on standard input.
 fn list() -> io::Result<()> {
     let mut capture = Vec::new();
     // One byte more than is taken tells a capture that is too long.
     let most = oracle::listing::MOST as u64 + 1;
     io::stdin().lock().take(most).read_to_end(&mut capture)?;
-    io::stdout().lock().write_all(&oracle::listing::listing(&capture))
+    print(&oracle::listing::listing(&capture))
 }
