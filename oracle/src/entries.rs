@@ -8,8 +8,16 @@ use crate::rules::{entry_count, entry_size, Kind, MOST_BODY};
 /// (0.7).
 #[derive(Clone, Copy, Debug, PartialEq, Eq)]
 pub enum Entry {
-    Index { kind: [u8; 2], price: u64 },
-    Full { kind: [u8; 2], price: u64, size: u64, position: u8 },
+    Index {
+        kind: [u8; 2],
+        price: u64,
+    },
+    Full {
+        kind: [u8; 2],
+        price: u64,
+        size: u64,
+        position: u8,
+    },
 }
 
 /// "Entries are walked by a small reader that carries the caller's body bytes
@@ -25,7 +33,10 @@ impl<'a> Reader<'a> {
     /// stands a reader over the body's empty part, whose every step is 20
     /// (0.7).
     pub fn open(body: &'a [u8]) -> (Reader<'a>, Result<(), No>) {
-        let refused = Reader { body: &body[..0], place: 0 };
+        let refused = Reader {
+            body: &body[..0],
+            place: 0,
+        };
         if body.len() > MOST_BODY {
             return (refused, Err(No::Long));
         }
@@ -64,8 +75,19 @@ impl<'a> Reader<'a> {
         let entry = if size == 10 {
             Entry::Index { kind, price }
         } else {
-            Entry::Full { kind, price, size: number(&bytes[10..18]), position: bytes[18] }
+            Entry::Full {
+                kind,
+                price,
+                size: number(&bytes[10..18]),
+                position: bytes[18],
+            }
         };
-        (Reader { body: self.body, place: (place + size) as u64 }, Ok(entry))
+        (
+            Reader {
+                body: self.body,
+                place: (place + size) as u64,
+            },
+            Ok(entry),
+        )
     }
 }

@@ -66,7 +66,12 @@ pub fn read(bytes: &[u8]) -> Result<Message, No> {
     if !kind.fields_hold(body) {
         return Err(No::Field);
     }
-    Ok(Message { msg_type, sending_time, seq, body: body.to_vec() })
+    Ok(Message {
+        msg_type,
+        sending_time,
+        seq,
+        body: body.to_vec(),
+    })
 }
 
 /// Writes the message's frame to the front of the buffer and answers its

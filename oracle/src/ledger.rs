@@ -43,7 +43,9 @@ pub struct Range {
 
 /// The map as its 256 places.
 fn places(map: [u64; 4]) -> Vec<bool> {
-    (0..PLACES).map(|i| (map[(i / 64) as usize] >> (i % 64)) % 2 == 1).collect()
+    (0..PLACES)
+        .map(|i| (map[(i / 64) as usize] >> (i % 64)) % 2 == 1)
+        .collect()
 }
 
 /// The places as the map.
@@ -60,7 +62,13 @@ fn words(places: &[bool]) -> [u64; 4] {
 impl Ledger {
     /// "Fresh: floor 0, top 0, nothing held."
     fn fresh(channel: Channel) -> Ledger {
-        Ledger { channel, floor: Tick(0), top: Tick(0), map: [0; 4], pending: Pending::Nothing }
+        Ledger {
+            channel,
+            floor: Tick(0),
+            top: Tick(0),
+            map: [0; 4],
+            pending: Pending::Nothing,
+        }
     }
 
     /// "Opening a ledger checks 10; refused, a fresh ledger for channel 0
@@ -150,9 +158,20 @@ impl Ledger {
         let passed = if run == 0 {
             None
         } else {
-            Some(Range { first: Tick(self.floor.0 + 1), last: floor })
+            Some(Range {
+                first: Tick(self.floor.0 + 1),
+                last: floor,
+            })
         };
-        (Ledger { floor, top, map: words(&held), ..self }, Ok(passed))
+        (
+            Ledger {
+                floor,
+                top,
+                map: words(&held),
+                ..self
+            },
+            Ok(passed),
+        )
     }
 
     /// "Announcement (P001): top becomes the larger of the two; a lower one
@@ -165,7 +184,13 @@ impl Ledger {
         if last.0 > MOST {
             return (self, Err(No::Number));
         }
-        (Ledger { top: Tick(self.top.0.max(last.0)), ..self }, Ok(()))
+        (
+            Ledger {
+                top: Tick(self.top.0.max(last.0)),
+                ..self
+            },
+            Ok(()),
+        )
     }
 
     /// "Request: from floor + 1 up to the top, broken off before the first held
@@ -188,8 +213,14 @@ impl Ledger {
         while last < self.top.0 && !self.received(last + 1) && last - first + 1 < MOST_ASKED {
             last += 1;
         }
-        let range = Range { first: Tick(first), last: Tick(last) };
-        let pending = Pending::Asked { first: range.first, last: range.last };
+        let range = Range {
+            first: Tick(first),
+            last: Tick(last),
+        };
+        let pending = Pending::Asked {
+            first: range.first,
+            last: range.last,
+        };
         (Ledger { pending, ..self }, Ok(range))
     }
 
@@ -207,9 +238,13 @@ impl Ledger {
         }
         // 16: "reply with no request pending, or with another first number"
         match self.pending {
-            Pending::Asked { first: asked, .. } if asked == first => {
-                (Ledger { pending: Pending::Nothing, ..self }, Ok(()))
-            }
+            Pending::Asked { first: asked, .. } if asked == first => (
+                Ledger {
+                    pending: Pending::Nothing,
+                    ..self
+                },
+                Ok(()),
+            ),
             _ => (self, Err(No::Unasked)),
         }
     }
@@ -229,6 +264,9 @@ impl Ledger {
         if !self.sound() {
             return (self, Err(No::State));
         }
-        (self, Ok(places(self.map).iter().filter(|h| **h).count() as u64))
+        (
+            self,
+            Ok(places(self.map).iter().filter(|h| **h).count() as u64),
+        )
     }
 }

@@ -16,7 +16,11 @@ pub fn listing(capture: &[u8]) -> Vec<u8> {
     for record in made {
         out.extend(record.line());
     }
-    let missing = walked.ledger.missing().1.expect("the walk keeps the state rules");
+    let missing = walked
+        .ledger
+        .missing()
+        .1
+        .expect("the walk keeps the state rules");
     out.extend(summary(
         walked.frames,
         walked.refused,

@@ -4,23 +4,45 @@
 //! source keeps apart, and so is ChannelNO; one offered where another belongs
 //! is refused when the program is built."
 //!
+//! Each of the six mix-ups:
+//!
 //! ```compile_fail
 //! use oracle::{ledger::Ledger, numbers::*};
-//! let (ledger, _) = Ledger::open(Channel(100));
 //! // A session number where a tick number belongs.
-//! ledger.tick(Channel(100), Session(1));
+//! Ledger::open(Channel(100)).0.tick(Channel(100), Session(1));
 //! ```
-//!
+//! ```compile_fail
+//! use oracle::{ledger::Ledger, numbers::*};
+//! // A channel where a tick number belongs.
+//! Ledger::open(Channel(100)).0.tick(Channel(100), Channel(1));
+//! ```
+//! ```compile_fail
+//! use oracle::{ledger::Ledger, numbers::*};
+//! // A session number where a channel belongs.
+//! Ledger::open(Session(100));
+//! ```
 //! ```compile_fail
 //! use oracle::{ledger::Ledger, numbers::*};
 //! // A tick number where a channel belongs.
 //! Ledger::open(Tick(100));
 //! ```
+//! ```compile_fail
+//! use oracle::{frame::Message, numbers::*};
+//! // A tick number where a session number belongs.
+//! Message { msg_type: *b"S003", sending_time: 0, seq: Tick(1), body: vec![] };
+//! ```
+//! ```compile_fail
+//! use oracle::{frame::Message, numbers::*};
+//! // A channel where a session number belongs.
+//! Message { msg_type: *b"S003", sending_time: 0, seq: Channel(1), body: vec![] };
+//! ```
+//!
+//! The same with each in its place builds:
 //!
 //! ```
-//! use oracle::{ledger::Ledger, numbers::*};
-//! let (ledger, _) = Ledger::open(Channel(100));
-//! ledger.tick(Channel(100), Tick(1));
+//! use oracle::{frame::Message, ledger::Ledger, numbers::*};
+//! Ledger::open(Channel(100)).0.tick(Channel(100), Tick(1));
+//! Message { msg_type: *b"S003", sending_time: 0, seq: Session(1), body: vec![] };
 //! ```
 
 /// MsgSeqNum, the session's counter.

@@ -74,7 +74,11 @@ impl Record {
     /// "Columns: place, type (`----` where blank), answer, MsgSeqNum, channel,
     /// tick number, floor, top." The line ends in a newline (0.17).
     pub fn line(self) -> Vec<u8> {
-        let name = if self.msg_type == BLANK { *b"----" } else { self.msg_type };
+        let name = if self.msg_type == BLANK {
+            *b"----"
+        } else {
+            self.msg_type
+        };
         let mut line = format!("{} ", self.place).into_bytes();
         line.extend_from_slice(&name);
         let rest = format!(

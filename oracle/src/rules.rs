@@ -186,7 +186,9 @@ pub fn entry_count(body: &[u8]) -> usize {
 /// 3 with MD101 or MD102, 12 with MD201, 13 with MD210, 14 with MDE01."
 fn stream_pairs(security_type: u64, stream: &[u8]) -> bool {
     match security_type {
-        1 => [b"MD001", b"MD002", b"MD003", b"MD004"].iter().any(|s| stream == s.as_slice()),
+        1 => [b"MD001", b"MD002", b"MD003", b"MD004"]
+            .iter()
+            .any(|s| stream == s.as_slice()),
         2 => stream == b"MD301",
         3 => stream == b"MD101" || stream == b"MD102",
         12 => stream == b"MD201",

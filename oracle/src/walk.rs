@@ -82,7 +82,12 @@ pub fn records(capture: &[u8]) -> (Vec<Record>, Walked) {
             Err(no) => {
                 // "Else it records the refusal and goes on at the place the
                 // search finds from the next byte on, or stops."
-                made.push(Record::refused(place as u64, no.number(), ledger.floor, ledger.top));
+                made.push(Record::refused(
+                    place as u64,
+                    no.number(),
+                    ledger.floor,
+                    ledger.top,
+                ));
                 refused += 1;
                 match search(capture, place as u64 + 1) {
                     Ok(Some(found)) => place = found,
@@ -91,7 +96,12 @@ pub fn records(capture: &[u8]) -> (Vec<Record>, Walked) {
             }
         }
     }
-    let walked = Walked { records: made.len() as u64, frames, refused, ledger };
+    let walked = Walked {
+        records: made.len() as u64,
+        frames,
+        refused,
+        ledger,
+    };
     (made, walked)
 }
 
@@ -102,7 +112,12 @@ pub fn walk(capture: &[u8], buffer: &mut [u8]) -> (Walked, Result<(), No>) {
     let (made, walked) = records(capture);
     if buffer.len() / SIZE < made.len() {
         let (ledger, _) = Ledger::open(CHANNEL);
-        let nothing = Walked { records: 0, frames: 0, refused: 0, ledger };
+        let nothing = Walked {
+            records: 0,
+            frames: 0,
+            refused: 0,
+            ledger,
+        };
         return (nothing, Err(No::Room));
     }
     for (i, record) in made.iter().enumerate() {

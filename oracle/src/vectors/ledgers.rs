@@ -15,7 +15,10 @@ struct Standing<'a> {
 }
 
 fn asked(first: u64, last: u64) -> Pending {
-    Pending::Asked { first: Tick(first), last: Tick(last) }
+    Pending::Asked {
+        first: Tick(first),
+        last: Tick(last),
+    }
 }
 
 impl Standing<'_> {
@@ -73,8 +76,9 @@ impl Standing<'_> {
     }
 
     fn reply(&mut self, channel: u64, first: u64, status: u64) {
-        let (next, answer) =
-            self.ledger.reply(Channel(channel as u16), Tick(first), status as u8);
+        let (next, answer) = self
+            .ledger
+            .reply(Channel(channel as u16), Tick(first), status as u8);
         self.ledger = next;
         self.print
             .line("reply", self.case)
@@ -119,12 +123,20 @@ pub fn by_hand(print: &mut Print) {
                 floor: Tick(r[1]),
                 top: Tick(r[2]),
                 map: [r[3], r[4], r[5], r[6]],
-                pending: if r[7] == 0 { Pending::Nothing } else { asked(r[8], r[9]) },
+                pending: if r[7] == 0 {
+                    Pending::Nothing
+                } else {
+                    asked(r[8], r[9])
+                },
             }
         })
         .collect();
     let (fresh, _) = Ledger::open(Channel(0));
-    let mut standing = Standing { print, case: 0, ledger: fresh };
+    let mut standing = Standing {
+        print,
+        case: 0,
+        ledger: fresh,
+    };
     for (case, row) in rows("ledger").iter().enumerate() {
         standing.case = case as u64;
         let (a, b, c) = (row[1].get(), row[2].get(), row[3].get());
@@ -179,8 +191,13 @@ fn sound(maker: &mut Maker) -> Ledger {
             asked(first, last)
         }
     };
-    let ledger =
-        Ledger { channel: Channel(100), floor: Tick(floor), top: Tick(top), map, pending };
+    let ledger = Ledger {
+        channel: Channel(100),
+        floor: Tick(floor),
+        top: Tick(top),
+        map,
+        pending,
+    };
     assert!(ledger.sound());
     ledger
 }
@@ -275,7 +292,11 @@ fn call(maker: &mut Maker, standing: &mut Standing) {
 
 pub fn generated(maker: &mut Maker, print: &mut Print) {
     let (fresh, _) = Ledger::open(Channel(0));
-    let mut standing = Standing { print, case: 0, ledger: fresh };
+    let mut standing = Standing {
+        print,
+        case: 0,
+        ledger: fresh,
+    };
     for case in 1_000..=1_119 {
         maker.seed(7, case);
         standing.case = case;

@@ -29,7 +29,10 @@ pub fn up(a: u64, b: u64) -> u64 {
 
 impl Maker {
     pub fn new() -> Maker {
-        Maker { x: 1, b: vec![0; ROOM] }
+        Maker {
+            x: 1,
+            b: vec![0; ROOM],
+        }
     }
 
     // Section 2: the generator.

@@ -33,7 +33,9 @@ pub fn vectors(inputs: bool) -> Vec<u8> {
 /// The rows of the page as plain numbers, `*` as 9999: an aid too.
 pub fn rows() -> Vec<u8> {
     let mut out = String::new();
-    for name in ["read", "write", "capture", "state", "ledger", "entry", "places"] {
+    for name in [
+        "read", "write", "capture", "state", "ledger", "entry", "places",
+    ] {
         out += &format!("{name}\n");
         for row in page::rows(name) {
             let items: Vec<String> = row
@@ -72,7 +74,9 @@ mod tests {
         assert!((3_000..=8_000).contains(&lines), "{lines} lines");
         assert!(text.len() < 2_000_000, "{} bytes", text.len());
         assert!(text.ends_with('\n'));
-        assert!(text.bytes().all(|b| b == b'\n' || (0x20..0x7F).contains(&b)));
+        assert!(text
+            .bytes()
+            .all(|b| b == b'\n' || (0x20..0x7F).contains(&b)));
         assert!(text.lines().all(|l| !l.ends_with(' ') && !l.contains("  ")));
     }
 
@@ -89,7 +93,9 @@ mod tests {
                 "reply" => 5,
                 _ => continue,
             };
-            seen.entry(items[0]).or_default().insert(items[answer].parse().unwrap());
+            seen.entry(items[0])
+                .or_default()
+                .insert(items[answer].parse().unwrap());
         }
         let expected: [(&str, &[u64]); 14] = [
             ("read", &[0, 1, 2, 3, 4, 5, 6]),
@@ -116,8 +122,11 @@ mod tests {
     #[test]
     fn inputs_only_add_lines() {
         let with = String::from_utf8(vectors(true)).unwrap();
-        let without: String =
-            with.lines().filter(|l| !l.starts_with("input ")).flat_map(|l| [l, "\n"]).collect();
+        let without: String = with
+            .lines()
+            .filter(|l| !l.starts_with("input "))
+            .flat_map(|l| [l, "\n"])
+            .collect();
         assert_eq!(without, text());
     }
 }

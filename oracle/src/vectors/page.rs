@@ -64,7 +64,12 @@ fn item(text: &str) -> Item {
     } else if text == "max" {
         u64::MAX
     } else if let Some(quoted) = text.strip_prefix('\'') {
-        number(quoted.strip_suffix('\'').expect("a quote is closed").as_bytes())
+        number(
+            quoted
+                .strip_suffix('\'')
+                .expect("a quote is closed")
+                .as_bytes(),
+        )
     } else if let Some(hex) = text.strip_prefix("0x") {
         u64::from_str_radix(hex, 16).expect("a hexadecimal number")
     } else {

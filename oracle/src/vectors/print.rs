@@ -15,7 +15,10 @@ pub struct Line<'a> {
 
 impl Print {
     pub fn new(inputs: bool) -> Print {
-        Print { out: Vec::new(), inputs }
+        Print {
+            out: Vec::new(),
+            inputs,
+        }
     }
 
     pub fn text(self) -> Vec<u8> {

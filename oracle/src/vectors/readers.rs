@@ -14,10 +14,18 @@ fn print_step<'a>(print: &mut Print, case: u64, reader: Reader<'a>) -> Option<Re
         .number(reader.place)
         .number(u64::from(number(&answer)));
     match answer {
-        Ok(Entry::Index { kind, price }) => {
-            line.word("index").hex(&kind).number(price).number(next.place).end()
-        }
-        Ok(Entry::Full { kind, price, size, position }) => line
+        Ok(Entry::Index { kind, price }) => line
+            .word("index")
+            .hex(&kind)
+            .number(price)
+            .number(next.place)
+            .end(),
+        Ok(Entry::Full {
+            kind,
+            price,
+            size,
+            position,
+        }) => line
             .word("full")
             .hex(&kind)
             .number(price)
@@ -57,14 +65,25 @@ fn print_opening(print: &mut Print, case: u64, body: &[u8]) {
 }
 
 pub fn entries(maker: &mut Maker, print: &mut Print) {
-    let places: Vec<u64> = rows("places").concat().iter().map(|item| item.get()).collect();
+    let places: Vec<u64> = rows("places")
+        .concat()
+        .iter()
+        .map(|item| item.get())
+        .collect();
     for (case, row) in rows("entry").iter().enumerate() {
         let n = maker.body(row[0].get(), row[4]);
         maker.set(0, &row[1..4]);
         let body = &maker.b[24..24 + n];
         print_opening(print, case as u64, body);
         for place in &places {
-            print_step(print, case as u64, Reader { body, place: *place });
+            print_step(
+                print,
+                case as u64,
+                Reader {
+                    body,
+                    place: *place,
+                },
+            );
         }
     }
     for case in 1_000..=1_099 {

@@ -27,7 +27,12 @@ fn captures(maker: &mut Maker) -> Vec<Vec<u8>> {
         .collect()
 }
 
-fn print_search(print: &mut Print, case: u64, capture: &[u8], from: u64) -> Result<Option<usize>, No> {
+fn print_search(
+    print: &mut Print,
+    case: u64,
+    capture: &[u8],
+    from: u64,
+) -> Result<Option<usize>, No> {
     let answer = search(capture, from);
     let line = print
         .line("search", case)
@@ -67,7 +72,11 @@ pub fn searching(maker: &mut Maker, print: &mut Print) {
         let capture = maker.b[..size].to_vec();
         print.input(case, &capture);
         for i in 0..3 {
-            let from = if i < 2 { maker.pick(size as u64 + 1) } else { size as u64 + maker.pick(3) };
+            let from = if i < 2 {
+                maker.pick(size as u64 + 1)
+            } else {
+                size as u64 + maker.pick(3)
+            };
             let _ = print_search(print, case, &capture, from);
         }
     }
@@ -95,7 +104,10 @@ fn print_walk(print: &mut Print, case: u64, capture: &[u8], room: usize) {
     }
     for chunk in buffer[..written].chunks(SIZE) {
         let bytes: [u8; SIZE] = chunk.try_into().expect("records have 64 bytes");
-        print.line("rec", case).hex(&bytes).listed(&Record::of(&bytes).line());
+        print
+            .line("rec", case)
+            .hex(&bytes)
+            .listed(&Record::of(&bytes).line());
     }
     let ledger = walked.ledger;
     let missing = ledger.missing().1.expect("the walk keeps the state rules");
@@ -113,14 +125,21 @@ pub fn walking(maker: &mut Maker, print: &mut Print) {
     for (case, capture) in captures.iter().enumerate() {
         print_walk(print, case as u64, capture, 18_432);
     }
-    for (i, room) in [0, 1, 63, 64, 127, 128, 191, 192, 193, 256].into_iter().enumerate() {
+    for (i, room) in [0, 1, 63, 64, 127, 128, 191, 192, 193, 256]
+        .into_iter()
+        .enumerate()
+    {
         print_walk(print, 100 + i as u64, &captures[0], room);
     }
     print_walk(print, 110, &captures[1], 0);
     for case in 1_000..=1_149 {
         maker.seed(5, case);
         let size = maker.capture();
-        let room = if maker.pick(5) == 0 { maker.pick(1_024) as usize } else { 18_432 };
+        let room = if maker.pick(5) == 0 {
+            maker.pick(1_024) as usize
+        } else {
+            18_432
+        };
         print_walk(print, case, &maker.b[..size], room);
     }
 }
@@ -144,7 +163,10 @@ pub fn recording(maker: &mut Maker, print: &mut Print) {
             floor: Tick(maker.dec(18)),
             top: Tick(maker.dec(18)),
         };
-        print.line("record", case).hex(&record.bytes()).listed(&record.line());
+        print
+            .line("record", case)
+            .hex(&record.bytes())
+            .listed(&record.line());
     }
     for case in 2_000..=2_039 {
         maker.seed(6, case);

@@ -31,7 +31,15 @@ fn steps_over_long_entries() {
         assert_eq!(entries.len(), usize::from(count));
         for (i, entry) in entries.into_iter().enumerate() {
             let price = 10012300 + i as u64;
-            assert_eq!(entry, Entry::Full { kind: *b"2 ", price, size: 500, position: 1 });
+            assert_eq!(
+                entry,
+                Entry::Full {
+                    kind: *b"2 ",
+                    price,
+                    size: 500,
+                    position: 1
+                }
+            );
         }
     }
 }
@@ -41,7 +49,13 @@ fn steps_over_short_entries() {
     let entries = all(&m102(1, b"MD001", 809));
     assert_eq!(entries.len(), 809);
     for (i, entry) in entries.into_iter().enumerate() {
-        assert_eq!(entry, Entry::Index { kind: *b"2 ", price: 10012300 + i as u64 });
+        assert_eq!(
+            entry,
+            Entry::Index {
+                kind: *b"2 ",
+                price: 10012300 + i as u64
+            }
+        );
     }
 }
 
@@ -75,7 +89,13 @@ fn readers_made_by_hand() {
             match reader.step() {
                 (next, Ok(_)) => {
                     assert!(good);
-                    assert_eq!(next, Reader { body, place: place + size });
+                    assert_eq!(
+                        next,
+                        Reader {
+                            body,
+                            place: place + size
+                        }
+                    );
                 }
                 (same, Err(no)) => {
                     assert!(!good);
@@ -92,7 +112,10 @@ fn a_cut_body_still_steps_up_to_its_end() {
     for length in 0..body.len() {
         let cut = &body[..length];
         for k in 0..4u64 {
-            let reader = Reader { body: cut, place: 73 + 19 * k };
+            let reader = Reader {
+                body: cut,
+                place: 73 + 19 * k,
+            };
             let fits = length >= 73 + 19 * (k as usize + 1);
             assert_eq!(reader.step().1.is_ok(), fits, "{length} {k}");
         }
@@ -103,10 +126,35 @@ fn a_cut_body_still_steps_up_to_its_end() {
 fn an_unsound_body_still_steps() {
     // 0.7: a step judges only what the row of 20 names.
     let body = vec![0xFF; 73 + 19];
-    let reader = Reader { body: &body, place: 73 };
-    let entry = Entry::Full { kind: [0xFF; 2], price: u64::MAX, size: u64::MAX, position: 255 };
-    assert_eq!(reader.step(), (Reader { body: &body, place: 92 }, Ok(entry)));
+    let reader = Reader {
+        body: &body,
+        place: 73,
+    };
+    let entry = Entry::Full {
+        kind: [0xFF; 2],
+        price: u64::MAX,
+        size: u64::MAX,
+        position: 255,
+    };
+    assert_eq!(
+        reader.step(),
+        (
+            Reader {
+                body: &body,
+                place: 92
+            },
+            Ok(entry)
+        )
+    );
     // No entries are counted: no place is good.
     let none = vec![0; 73 + 19];
-    assert_eq!(Reader { body: &none, place: 73 }.step().1, Err(No::Entries));
+    assert_eq!(
+        Reader {
+            body: &none,
+            place: 73
+        }
+        .step()
+        .1,
+        Err(No::Entries)
+    );
 }

@@ -6,7 +6,11 @@ use crate::samples::*;
 fn judged(msg_type: &[u8; 4], body: &[u8], sound: bool) {
     let number = if sound { 0 } else { 6 };
     assert_eq!(reads(&frame(msg_type, body)), number, "read {body:?}");
-    assert_eq!(writes(&message(msg_type, body), 8_192), number, "write {body:?}");
+    assert_eq!(
+        writes(&message(msg_type, body), 8_192),
+        number,
+        "write {body:?}"
+    );
 }
 
 /// A field of `width` bytes at `at` that may have at most `digits` digits.
@@ -16,7 +20,11 @@ fn bounded(msg_type: &[u8; 4], body: &[u8], at: usize, width: usize, digits: u32
     judged(msg_type, &with(body, at, width, least), true);
     if width == 8 || over < 256u64.pow(width as u32) {
         judged(msg_type, &with(body, at, width, over), false);
-        let most = if width == 8 { u64::MAX } else { 256u64.pow(width as u32) - 1 };
+        let most = if width == 8 {
+            u64::MAX
+        } else {
+            256u64.pow(width as u32) - 1
+        };
         judged(msg_type, &with(body, at, width, most), false);
     }
     if least > 0 {
@@ -27,7 +35,11 @@ fn bounded(msg_type: &[u8; 4], body: &[u8], at: usize, width: usize, digits: u32
 /// A one-byte field that takes only the values listed.
 fn only(msg_type: &[u8; 4], body: &[u8], at: usize, allowed: &[u8]) {
     for value in 0..=255u8 {
-        judged(msg_type, &with(body, at, 1, u64::from(value)), allowed.contains(&value));
+        judged(
+            msg_type,
+            &with(body, at, 1, u64::from(value)),
+            allowed.contains(&value),
+        );
     }
 }
 
@@ -115,7 +127,9 @@ fn m102_pairs() {
             let sound = pairs.contains(&(security_type, stream));
             judged(b"M102", &m102(security_type, stream, 1), sound);
         }
-        for other in [b"MD000", b"MD005", b"MD211", b"MD217", b"md001", b"MDE02", b"     "] {
+        for other in [
+            b"MD000", b"MD005", b"MD211", b"MD217", b"md001", b"MDE02", b"     ",
+        ] {
             judged(b"M102", &m102(security_type, other, 0), false);
         }
     }
@@ -202,7 +216,11 @@ fn header_numbers_are_carried_without_judgement() {
             let check = u64::from(oracle::bytes::sum(&bytes[..end]));
             oracle::bytes::put(&mut bytes, end, 4, check);
             let message = oracle::frame::read(&bytes).unwrap();
-            let carried = if at == 4 { message.sending_time } else { message.seq.0 };
+            let carried = if at == 4 {
+                message.sending_time
+            } else {
+                message.seq.0
+            };
             assert_eq!(carried, value);
         }
     }

@@ -32,7 +32,9 @@ fn lengths_of_the_table() {
         (b"M201", 45, 8_164),
     ];
     for (msg_type, least, most) in table {
-        for length in [0, 1, 11, 12, 13, 44, 45, 51, 52, 53, 72, 73, 74, 75, 259, 260, 261, 8_164] {
+        for length in [
+            0, 1, 11, 12, 13, 44, 45, 51, 52, 53, 72, 73, 74, 75, 259, 260, 261, 8_164,
+        ] {
             let answer = reads(&frame(msg_type, &vec![0; length]));
             let suits = least <= length && length <= most;
             assert_eq!(answer == 4, !suits, "{msg_type:?} {length}");
@@ -121,7 +123,9 @@ fn types_match_by_all_four_bytes() {
             assert_eq!(reads(&frame(&other, &body)), 2);
         }
     }
-    for other in [b"S000", b"S004", b"P003", b"M100", b"M103", b"M202", b"    "] {
+    for other in [
+        b"S000", b"S004", b"P003", b"M100", b"M103", b"M202", b"    ",
+    ] {
         assert_eq!(reads(&frame(other, &[])), 2);
     }
 }

@@ -8,14 +8,23 @@ use oracle::numbers::{Channel, Tick, MOST};
 const OTHER: Channel = Channel(101);
 
 fn range(first: u64, last: u64) -> Range {
-    Range { first: Tick(first), last: Tick(last) }
+    Range {
+        first: Tick(first),
+        last: Tick(last),
+    }
 }
 
 /// States that break one rule each.
 fn broken() -> Vec<Ledger> {
     vec![
-        Ledger { channel: Channel(10_000), ..fresh() },
-        Ledger { channel: Channel(65_535), ..fresh() },
+        Ledger {
+            channel: Channel(10_000),
+            ..fresh()
+        },
+        Ledger {
+            channel: Channel(65_535),
+            ..fresh()
+        },
         state(6, 5, &[], None),
         state(u64::MAX, u64::MAX, &[], None),
         state(0, MOST + 1, &[], None),
@@ -38,7 +47,10 @@ fn broken() -> Vec<Ledger> {
 fn sound() -> Vec<Ledger> {
     vec![
         fresh(),
-        Ledger { channel: Channel(9_999), ..fresh() },
+        Ledger {
+            channel: Channel(9_999),
+            ..fresh()
+        },
         state(5, 5, &[], None),
         state(MOST, MOST, &[], None),
         state(0, MOST, &[2, 256], None),
@@ -89,7 +101,10 @@ fn eighteen_comes_second() {
     assert_eq!(fresh().request(OTHER), (fresh(), Err(No::Channel)));
     // before 17 and 16
     assert_eq!(l.reply(OTHER, Tick(11), 0), (l, Err(No::Channel)));
-    assert_eq!(fresh().reply(OTHER, Tick(11), 1), (fresh(), Err(No::Channel)));
+    assert_eq!(
+        fresh().reply(OTHER, Tick(11), 1),
+        (fresh(), Err(No::Channel))
+    );
 }
 
 #[test]
@@ -111,9 +126,30 @@ fn repeats_and_far_ticks() {
     }
     assert_eq!(l.tick(C, Tick(266)).1, Ok(None));
     // 12 moves the top and nothing else.
-    assert_eq!(l.tick(C, Tick(267)), (Ledger { top: Tick(267), ..l }, Err(No::Far)));
-    assert_eq!(l.tick(C, Tick(MOST)), (Ledger { top: Tick(MOST), ..l }, Err(No::Far)));
-    let high = Ledger { top: Tick(300), ..l };
+    assert_eq!(
+        l.tick(C, Tick(267)),
+        (
+            Ledger {
+                top: Tick(267),
+                ..l
+            },
+            Err(No::Far)
+        )
+    );
+    assert_eq!(
+        l.tick(C, Tick(MOST)),
+        (
+            Ledger {
+                top: Tick(MOST),
+                ..l
+            },
+            Err(No::Far)
+        )
+    );
+    let high = Ledger {
+        top: Tick(300),
+        ..l
+    };
     assert_eq!(high.tick(C, Tick(299)), (high, Err(No::Far)));
 }
 
@@ -159,7 +195,10 @@ fn map_places_are_free_again() {
 #[test]
 fn announcements() {
     let l = state(10, 20, &[15], Some((11, 14)));
-    assert_eq!(l.announce(C, Tick(25)), (Ledger { top: Tick(25), ..l }, Ok(())));
+    assert_eq!(
+        l.announce(C, Tick(25)),
+        (Ledger { top: Tick(25), ..l }, Ok(()))
+    );
     for n in [0, 5, 20] {
         assert_eq!(l.announce(C, Tick(n)), (l, Ok(())));
     }
@@ -181,7 +220,10 @@ fn requests() {
     for (l, asked) in cases {
         let (next, answer) = l.request(C);
         assert_eq!(answer, Ok(asked));
-        let pending = Pending::Asked { first: asked.first, last: asked.last };
+        let pending = Pending::Asked {
+            first: asked.first,
+            last: asked.last,
+        };
         assert_eq!(next, Ledger { pending, ..l });
         assert_eq!(next.request(C), (next, Err(No::Busy)));
     }
@@ -193,7 +235,10 @@ fn requests() {
 #[test]
 fn replies() {
     let l = state(10, 20, &[15], Some((8, 14)));
-    let clear = Ledger { pending: Pending::Nothing, ..l };
+    let clear = Ledger {
+        pending: Pending::Nothing,
+        ..l
+    };
     for status in 0..=255u8 {
         let known = (1..=5).contains(&status) || status == 99;
         if known {
@@ -225,12 +270,24 @@ fn opening() {
     for channel in [0, 100, 9_999] {
         let (l, answer) = Ledger::open(Channel(channel));
         assert_eq!(answer, Ok(()));
-        assert_eq!(l, Ledger { channel: Channel(channel), ..fresh() });
+        assert_eq!(
+            l,
+            Ledger {
+                channel: Channel(channel),
+                ..fresh()
+            }
+        );
     }
     for channel in [10_000, 65_535] {
         let (l, answer) = Ledger::open(Channel(channel));
         assert_eq!(answer, Err(No::Number));
-        assert_eq!(l, Ledger { channel: Channel(0), ..fresh() });
+        assert_eq!(
+            l,
+            Ledger {
+                channel: Channel(0),
+                ..fresh()
+            }
+        );
     }
 }
 

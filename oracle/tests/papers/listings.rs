@@ -198,6 +198,11 @@ fn a_record_byte_for_byte() {
 fn lines_of_records() {
     let r = Record::refused(12, 5, Tick(3), Tick(4));
     assert_eq!(r.line(), b"12 ---- 5 0 0 0 3 4\n");
-    let r = Record { msg_type: *b"P002", channel: Channel(100), tick: Tick(5), ..r };
+    let r = Record {
+        msg_type: *b"P002",
+        channel: Channel(100),
+        tick: Tick(5),
+        ..r
+    };
     assert_eq!(r.line(), b"12 P002 5 0 100 5 3 4\n");
 }

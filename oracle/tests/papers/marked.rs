@@ -7,7 +7,10 @@ use oracle::ledger::Range;
 use oracle::numbers::Tick;
 
 fn range(first: u64, last: u64) -> Range {
-    Range { first: Tick(first), last: Tick(last) }
+    Range {
+        first: Tick(first),
+        last: Tick(last),
+    }
 }
 
 #[test]

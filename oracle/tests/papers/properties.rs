@@ -39,7 +39,10 @@ impl Dice {
             }
             6 => (b"M102", m102(13, b"MD210", self.roll(5) as u16)),
             7 => (b"M102", m102(1, b"MD001", self.roll(5) as u16)),
-            _ => (b"M201", m201(1 + self.roll(40), [0, 53, 139, 7][self.0 as usize % 4])),
+            _ => (
+                b"M201",
+                m201(1 + self.roll(40), [0, 53, 139, 7][self.0 as usize % 4]),
+            ),
         };
         if self.roll(3) == 0 && !body.is_empty() {
             let at = self.roll(body.len() as u64) as usize;
@@ -152,8 +155,9 @@ fn the_search_finds_the_lowest_place() {
     let mut dice = Dice(4);
     for _ in 0..300 {
         let capture = dice.capture();
-        let good: Vec<usize> =
-            (0..capture.len()).filter(|p| read(&capture[*p..]).is_ok()).collect();
+        let good: Vec<usize> = (0..capture.len())
+            .filter(|p| read(&capture[*p..]).is_ok())
+            .collect();
         for from in 0..=capture.len() {
             let expected = good.iter().copied().find(|p| *p >= from);
             assert_eq!(search(&capture, from as u64), Ok(expected));
@@ -179,7 +183,9 @@ impl Sets {
     }
 
     fn missing(&self) -> u64 {
-        (1..=self.top).filter(|n| !self.received.contains(n)).count() as u64
+        (1..=self.top)
+            .filter(|n| !self.received.contains(n))
+            .count() as u64
     }
 }
 
@@ -188,7 +194,11 @@ fn the_ledger_agrees_with_plain_sets() {
     let mut dice = Dice(5);
     for _ in 0..60 {
         let mut l = fresh();
-        let mut sets = Sets { received: BTreeSet::new(), top: 0, asked: None };
+        let mut sets = Sets {
+            received: BTreeSet::new(),
+            top: 0,
+            asked: None,
+        };
         let spread = [1, 3, 40, 300][dice.roll(4) as usize];
         for _ in 0..200 {
             let floor = sets.floor();
@@ -234,7 +244,9 @@ fn the_ledger_agrees_with_plain_sets() {
                     }
                 }
                 _ => {
-                    let n = (floor + dice.roll(spread) + 1).saturating_sub(dice.roll(3)).max(1);
+                    let n = (floor + dice.roll(spread) + 1)
+                        .saturating_sub(dice.roll(3))
+                        .max(1);
                     let (next, answer) = l.tick(C, Tick(n));
                     l = next;
                     sets.top = sets.top.max(n);
@@ -273,15 +285,29 @@ fn no_call_breaks_a_sound_state_or_mends_a_broken_one() {
         let floor = near + dice.roll(3);
         let top = floor + dice.roll(300);
         let word = |d: &mut Dice| if d.roll(2) == 0 { 0 } else { 1 << d.roll(64) };
-        let map = [word(&mut dice), word(&mut dice), word(&mut dice), word(&mut dice)];
+        let map = [
+            word(&mut dice),
+            word(&mut dice),
+            word(&mut dice),
+            word(&mut dice),
+        ];
         let pending = if dice.roll(2) == 0 {
             Pending::Nothing
         } else {
             let first = (floor + 2).saturating_sub(dice.roll(210));
-            Pending::Asked { first: Tick(first), last: Tick(first + dice.roll(202)) }
+            Pending::Asked {
+                first: Tick(first),
+                last: Tick(first + dice.roll(202)),
+            }
         };
         let channel = Channel([100, 9_999, 10_000][dice.roll(3) as usize]);
-        let l = Ledger { channel, floor: Tick(floor), top: Tick(top), map, pending };
+        let l = Ledger {
+            channel,
+            floor: Tick(floor),
+            top: Tick(top),
+            map,
+            pending,
+        };
         seen[usize::from(l.sound())] += 1;
         let n = Tick(floor + dice.roll(400));
         let first = match pending {
@@ -337,8 +363,10 @@ fn the_walk_records_every_frame_outside_recorded_ones() {
                 assert!(places.contains(&place));
             }
         }
-        let (missing, held) =
-            (walked.ledger.missing().1.unwrap(), walked.ledger.held().1.unwrap());
+        let (missing, held) = (
+            walked.ledger.missing().1.unwrap(),
+            walked.ledger.held().1.unwrap(),
+        );
         assert_eq!(missing + held + walked.ledger.floor.0, walked.ledger.top.0);
     }
 }

@@ -89,7 +89,12 @@ pub fn m102(security_type: u8, stream: &[u8; 5], entries: u16) -> Vec<u8> {
 pub fn m201(tick: u64, tail: usize) -> Vec<u8> {
     let mut body = fields(&[(1, 13), (2, 100), (8, tick), (5, five(b"MD217"))]);
     body.extend(b"99900001");
-    body.extend(fields(&[(4, 93000123), (1, u64::from(b'F')), (8, 10012345), (8, 5000)]));
+    body.extend(fields(&[
+        (4, 93000123),
+        (1, u64::from(b'F')),
+        (8, 10012345),
+        (8, 5000),
+    ]));
     body.extend((0..tail).map(|i| b'a' + (i % 26) as u8));
     body
 }
@@ -105,7 +110,12 @@ pub fn frame(msg_type: &[u8; 4], body: &[u8]) -> Vec<u8> {
 }
 
 pub fn message(msg_type: &[u8; 4], body: &[u8]) -> Message {
-    Message { msg_type: *msg_type, sending_time: TIME, seq: Session(7), body: body.to_vec() }
+    Message {
+        msg_type: *msg_type,
+        sending_time: TIME,
+        seq: Session(7),
+        body: body.to_vec(),
+    }
 }
 
 /// The number that reading answers.
@@ -146,7 +156,16 @@ pub fn state(floor: u64, top: u64, held: &[u64], pending: Option<(u64, u64)>) ->
     }
     let pending = match pending {
         None => Pending::Nothing,
-        Some((first, last)) => Pending::Asked { first: Tick(first), last: Tick(last) },
+        Some((first, last)) => Pending::Asked {
+            first: Tick(first),
+            last: Tick(last),
+        },
     };
-    Ledger { channel: C, floor: Tick(floor), top: Tick(top), map, pending }
+    Ledger {
+        channel: C,
+        floor: Tick(floor),
+        top: Tick(top),
+        map,
+        pending,
+    }
 }
