@@ -1,12 +1,12 @@
 -- given-0 to given-6 of reading. For any bytes the condition of the number given holds (`told`), and each condition leads to its number.
 use Prim.Native.Nat.{ℕ, zero, suc, _+_, _<_, _≤_, _%_}
-use mathlib.Core.Path.{_≡_, ap, _∙_}
+use mathlib.Core.Path.{_≡_, _∙_}
 use mathlib.Core.Bool.{true}
 use mathlib.Core.Logic.{inl, inr, _↔_}
 use mathlib.Core.List.{List}
 use native.Mathlib.Omega.{arith}
 use lib.ListN.{length, take, drop}
-use Rattle.terms.specs.Paper.{Paper}
+use Rattle.terms.specs.Paper.{Paper, one-number}
 use Rattle.octets.specs.Octets.{be, sumOf, sum8}
 use Rattle.rules.specs.declared.Kind.{Kind}
 use Rattle.rules.specs.Table.{kindOf, known, suits}
@@ -17,9 +17,6 @@ use Rattle.frame.specs.Frame.{msgType, sendingTime, bodyLength, body, pl
 use Rattle.frame.specs.Measures.{fits}
 use Rattle.frame.specs.Outcomes.{measure, judgement, Reading, r-short, r-measure, r-cut, r-sum, r-judged, r-frame, reading, read-short, read-measured, read-cut, read-sum, read-judgement, good-reads}
 use Rattle.frame.specs.Given.{Typed, Short, Suited, There, Summed, Meets, Reads0, Reads1, Reads2, Reads3, Reads4, Reads5, Reads6, Reads}
-
-number : {p q : Paper} → p ≡ q → p .number ≡ q .number
-number e = ap (λ (x : Paper). x .number) e
 
 -- FROM THE CONDITION TO THE NUMBER
 
@@ -37,26 +34,26 @@ module _ (k : Kind) (s : List ℕ) where
   whole t = record { header = t .before .before .before .before .header; measured = fine (t .before); there = omega (arith, t .there) }
 
   from-3 : Typed k s → 8164 < be 4 20 s → readOf s .number ≡ 3
-  from-3 t l = number (read-measured s 3 (t .before .header) (measure-long _ _ (is t) l) (λ e. omega arith))
+  from-3 t l = one-number (read-measured s 3 (t .before .header) (measure-long _ _ (is t) l) (λ e. omega arith))
 
   from-4 : Short k s → (LengthRule k (be 4 20 s) → ⊥) → readOf s .number ≡ 4
   from-4 t n =
-      number
+      one-number
       (read-measured s 4 (t .before .before .header)
       (measure-length _ _ (is (t .before)) (t .short) (rw (kind (t .before)) (denied (length-says k (bodyLength s)) n)))
       (λ e. omega arith))
 
   from-cut : Suited k s → length s < 24 + be 4 20 s + 4 → readOf s .number ≡ 1
-  from-cut u l = number (read-cut s (u .before .before .before .header) (fine u) (omega arith))
+  from-cut u l = one-number (read-cut s (u .before .before .before .header) (fine u) (omega arith))
 
   from-5 : There k s → (be 4 (24 + be 4 20 s) s ≡ sumOf (take (24 + be 4 20 s) s) % 256 → ⊥) → readOf s .number ≡ 5
   unfolding sum8
-  from-5 t n = number (read-sum s (whole t) n)
+  from-5 t n = one-number (read-sum s (whole t) n)
 
   from-6 : Summed k s → (FieldRules k (take (be 4 20 s) (drop 24 s)) → ⊥) → readOf s .number ≡ 6
   unfolding sum8
   from-6 t n =
-      number
+      one-number
       (read-judgement s (whole (t .before)) (t .sum) 6
       (judge-field _ _ _ (rw (kind (t .before .before .before .before)) (denied (fields-say k (body s)) n)))
       (λ e. omega arith))
@@ -64,7 +61,7 @@ module _ (k : Kind) (s : List ℕ) where
   from-0 : Meets k s → readOf s .number ≡ 0
   unfolding sum8
   from-0 t =
-      number
+      one-number
       (good-reads s
       (record {
         whole = whole (t .before .before);
@@ -73,12 +70,12 @@ module _ (k : Kind) (s : List ℕ) where
       }))
 
 from-1 : (s : List ℕ) → Reads1 s → readOf s .number ≡ 1
-from-1 s (inl h) = number (read-short s h)
+from-1 s (inl h) = one-number (read-short s h)
 from-1 s (inr h) = from-cut (h .0) s (h .1 .0) (h .1 .1)
 
 from-2 : (s : List ℕ) → Reads2 s → readOf s .number ≡ 2
 from-2 s h =
-    number
+    one-number
     (read-measured s 2 (h .0 .header) (measure-type _ _ (denied (type-says (msgType s)) (λ q. h .1 (q .0) (q .1)))) (λ e. omega arith))
 
 -- FROM THE NUMBER TO THE CONDITION
@@ -116,13 +113,13 @@ fields-of s m (j-fine e f) z = fields-say _ _ .0 f
 
 told-of : (s : List ℕ) (p : Paper) → Reading s p → Reads (p .number) s
 unfolding sum8
-told-of s p (r-short e h) = rw (number e) (inl h)
-told-of s p (r-measure e h m) = told-measure s _ (measure s) h (measured _ _) (number e) m
-told-of s p (r-cut e h m l) = rw (number e) (inr (kindOf (msgType s), (suited s h m, omega arith)))
-told-of s p (r-sum e w n) = rw (number e) (kindOf (msgType s), (there s w, n))
-told-of s p (r-judged e w f n) = told-judged s _ (judgement s) w f (judged _ _ _) (number e) n
+told-of s p (r-short e h) = rw (one-number e) (inl h)
+told-of s p (r-measure e h m) = told-measure s _ (measure s) h (measured _ _) (one-number e) m
+told-of s p (r-cut e h m l) = rw (one-number e) (inr (kindOf (msgType s), (suited s h m, omega arith)))
+told-of s p (r-sum e w n) = rw (one-number e) (kindOf (msgType s), (there s w, n))
+told-of s p (r-judged e w f n) = told-judged s _ (judgement s) w f (judged _ _ _) (one-number e) n
 told-of s p (r-frame e g) =
-    rw (number e) (kindOf (msgType s), record { before = summed s (g .whole) (g .sum); fields = fields-of s (judgement s) (judged _ _ _) (g .fine) })
+    rw (one-number e) (kindOf (msgType s), record { before = summed s (g .whole) (g .sum); fields = fields-of s (judgement s) (judged _ _ _) (g .fine) })
 
 told : (s : List ℕ) → Reads (readOf s .number) s
 told s = told-of s (readOf s) (reading s)

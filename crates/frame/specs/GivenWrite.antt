@@ -1,11 +1,11 @@
 -- given-0, 2, 3, 4, 6 and 8 of writing, as GivenRead.antt has reading's.
 use Prim.Native.Nat.{ℕ, zero, suc, _+_, _<_, _≤_}
-use mathlib.Core.Path.{_≡_, ap, _∙_}
+use mathlib.Core.Path.{_≡_, _∙_}
 use mathlib.Core.Bool.{true}
 use mathlib.Core.Logic.{_↔_}
 use native.Mathlib.Omega.{arith}
 use lib.ListN.{length}
-use Rattle.terms.specs.Paper.{Paper}
+use Rattle.terms.specs.Paper.{Paper, one-number}
 use Rattle.rules.specs.declared.Kind.{Kind}
 use Rattle.rules.specs.Table.{kindOf, known}
 use Rattle.rules.specs.Rules.{LengthRule, FieldRules}
@@ -15,9 +15,6 @@ use Rattle.frame.specs.Measures.{fits}
 use Rattle.frame.specs.Write.{Message, writeOf}
 use Rattle.frame.specs.WriteLaws.{measureIn, judgementIn, Sound, Writing, w-measured, w-judged, w-room, w-done, writing, write-measured, write-judged, write-room, write-done}
 use Rattle.frame.specs.Given.{WTyped, WShort, WSuited, WMeets, Writes0, Writes2, Writes3, Writes4, Writes6, Writes8, Writes}
-
-number : {p q : Paper} → p ≡ q → p .number ≡ q .number
-number e = ap (λ (x : Paper). x .number) e
 
 -- FROM THE CONDITION TO THE NUMBER
 
@@ -35,31 +32,31 @@ module _ (k : Kind) (m : Message) (room : ℕ) where
   judged-fine t = judge-fine _ _ _ (rw (kind (t .before .before .before)) (fields-say k (m .content) .1 (t .fields)))
 
   from-3 : WTyped k m → 8164 < length (m .content) → writeOf m room .number ≡ 3
-  from-3 t l = number (write-measured m room 3 (measure-long _ _ (is t) l) (λ e. omega arith))
+  from-3 t l = one-number (write-measured m room 3 (measure-long _ _ (is t) l) (λ e. omega arith))
 
   from-4 : WShort k m → (LengthRule k (length (m .content)) → ⊥) → writeOf m room .number ≡ 4
   from-4 t n =
-      number
+      one-number
       (write-measured m room 4
       (measure-length _ _ (is (t .before)) (t .short) (rw (kind (t .before)) (denied (length-says k (length (m .content))) n)))
       (λ e. omega arith))
 
   from-6 : WSuited k m → (FieldRules k (m .content) → ⊥) → writeOf m room .number ≡ 6
   from-6 t n =
-      number
+      one-number
       (write-judged m room (fine t) 6 (judge-field _ _ _ (rw (kind (t .before .before)) (denied (fields-say k (m .content)) n))) (λ e. omega arith))
 
   from-8 : WMeets k m → room < 24 + length (m .content) + 4 → writeOf m room .number ≡ 8
-  from-8 t l = number (write-room m room (fine (t .before)) (judged-fine t) (omega arith))
+  from-8 t l = one-number (write-room m room (fine (t .before)) (judged-fine t) (omega arith))
 
   from-0 : WMeets k m → 24 + length (m .content) + 4 ≤ room → writeOf m room .number ≡ 0
-  from-0 t l = number (write-done m room (fine (t .before)) (judged-fine t) (omega arith))
+  from-0 t l = one-number (write-done m room (fine (t .before)) (judged-fine t) (omega arith))
 
 from-any : (n : ℕ) (m : Message) (room : ℕ) → Writes n m room → writeOf m room .number ≡ n
 from-any zero m room h = from-0 (h .0) m room (h .1 .0) (h .1 .1)
 from-any (suc zero) m room h = absurd h
 from-any (suc (suc zero)) m room h =
-    number (write-measured m room 2 (measure-type _ _ (denied (type-says (m .type)) (λ q. h (q .0) (q .1)))) (λ e. omega arith))
+    one-number (write-measured m room 2 (measure-type _ _ (denied (type-says (m .type)) (λ q. h (q .0) (q .1)))) (λ e. omega arith))
 from-any (suc (suc (suc zero))) m room h = from-3 (h .0) m room (h .1 .0) (h .1 .1)
 from-any (suc (suc (suc (suc zero)))) m room h = from-4 (h .0) m room (h .1 .0) (h .1 .1)
 from-any (suc (suc (suc (suc (suc zero))))) m room h = absurd h
@@ -98,10 +95,10 @@ told-judged m room n x g (j-field e f) p ne = rw (p ∙ e) (kindOf (m .type), (s
 told-judged m room n x g (j-fine e f) p ne = absurd (ne e)
 
 told-of : (m : Message) (room : ℕ) (p : Paper) → Writing m room p → Writes (p .number) m room
-told-of m room p (w-measured e n) = told-measure m room _ (measureIn m) (measured _ _) (number e) n
-told-of m room p (w-judged e g n) = told-judged m room _ (judgementIn m) g (judged _ _ _) (number e) n
-told-of m room p (w-room e s l) = rw (number e) (kindOf (m .type), (meets m s, omega arith))
-told-of m room p (w-done e f) = rw (number e) (kindOf (m .type), (meets m (f .sound), omega (arith, f .there)))
+told-of m room p (w-measured e n) = told-measure m room _ (measureIn m) (measured _ _) (one-number e) n
+told-of m room p (w-judged e g n) = told-judged m room _ (judgementIn m) g (judged _ _ _) (one-number e) n
+told-of m room p (w-room e s l) = rw (one-number e) (kindOf (m .type), (meets m s, omega arith))
+told-of m room p (w-done e f) = rw (one-number e) (kindOf (m .type), (meets m (f .sound), omega (arith, f .there)))
 
 -- WRITING ANSWERS A NUMBER EXACTLY WHEN ITS CONDITION HOLDS, for every number, message and room
 pub write-given : (n : ℕ) (m : Message) (room : ℕ) → (writeOf m room .number ≡ n) ↔ Writes n m room

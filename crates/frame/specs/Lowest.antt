@@ -8,7 +8,7 @@ use native.Mathlib.Omega.{arith}
 use native.Mathlib.Nat.{eq-or-lt-of-le}
 use lib.ListN.{length, drop, getD, length-drop}
 use borrow.Author.Tests.{eqb-true, eq-eqb}
-use Rattle.terms.specs.Paper.{Paper, answer}
+use Rattle.terms.specs.Paper.{Paper, answer, one-number}
 use Rattle.terms.specs.Cases.{two, less, clash}
 use Rattle.frame.specs.Frame.{readOf, reads}
 use Rattle.frame.specs.Outcomes.{good}
@@ -49,26 +49,23 @@ lowest s from h = rw (search-first s from h) (from-k (length s) s from (omega ar
 
 -- GIVEN EXACTLY WHEN
 
-number : {p q : Paper} → p ≡ q → p .number ≡ q .number
-number e = ap (λ (x : Paper). x .number) e
-
 lowest-number : (s : List ℕ) (from : ℕ) (a : Paper) → Lowest s from a → a .number ≡ 0
-lowest-number s from a (l-at p e x y z d) = number e
-lowest-number s from a (l-none e d) = number e
+lowest-number s from a (l-at p e x y z d) = one-number e
+lowest-number s from a (l-none e d) = one-number e
 
 -- 9: "search start beyond the end"
 pub search-given-9 : (s : List ℕ) (from : ℕ) → (searchOf s from .number ≡ 9) ↔ (length s < from)
 search-given-9 s from = (
   λ (e : searchOf s from .number ≡ 9).
       ⊎-elim (λ (l : length s < from). l) (λ (l : from ≤ length s). absurd (omega (arith, lowest-number s from (searchOf s from) (lowest s from l)))) (less (length s) from),
-  λ (l : length s < from). number (search-beyond s from l),
+  λ (l : length s < from). one-number (search-beyond s from l),
 )
 
 -- 0: any other start
 pub search-given-0 : (s : List ℕ) (from : ℕ) → (searchOf s from .number ≡ 0) ↔ (from ≤ length s)
 search-given-0 s from = (
   λ (e : searchOf s from .number ≡ 0).
-      ⊎-elim (λ (l : length s < from). absurd (omega (arith, number (search-beyond s from l)))) (λ (l : from ≤ length s). l) (less (length s) from),
+      ⊎-elim (λ (l : length s < from). absurd (omega (arith, one-number (search-beyond s from l)))) (λ (l : from ≤ length s). l) (less (length s) from),
   λ (l : from ≤ length s). lowest-number s from (searchOf s from) (lowest s from l),
 )
 

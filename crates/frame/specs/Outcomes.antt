@@ -7,7 +7,7 @@ use native.Mathlib.Omega.{arith}
 use lib.ListN.{length, getD}
 use lib.Dec.{eqb}
 use borrow.Author.Tests.{le-leb, lt-leb, eq-eqb, ne-eqb}
-use Rattle.terms.specs.Paper.{Paper, answer, refusal, pick}
+use Rattle.terms.specs.Paper.{Paper, answer, refusal, pick, one-number}
 use Rattle.terms.specs.Cases.{less, same}
 use Rattle.octets.specs.Octets.{sum8}
 use Rattle.rules.specs.Table.{kindOf, measureOf}
@@ -103,11 +103,11 @@ reading s =
 
 -- a frame that reads is good
 good-of : (s : List ℕ) (p : Paper) → Reading s p → p .number ≡ 0 → Good s
-good-of s p (r-short e h) z = absurd (omega (arith, ap (λ (q : Paper). q .number) e))
-good-of s p (r-measure e h m) z = absurd (m (sym (ap (λ (q : Paper). q .number) e) ∙ z))
-good-of s p (r-cut e h m l) z = absurd (omega (arith, ap (λ (q : Paper). q .number) e))
-good-of s p (r-sum e w n) z = absurd (omega (arith, ap (λ (q : Paper). q .number) e))
-good-of s p (r-judged e w n j) z = absurd (j (sym (ap (λ (q : Paper). q .number) e) ∙ z))
+good-of s p (r-short e h) z = absurd (omega (arith, one-number e))
+good-of s p (r-measure e h m) z = absurd (m (sym (one-number e) ∙ z))
+good-of s p (r-cut e h m l) z = absurd (omega (arith, one-number e))
+good-of s p (r-sum e w n) z = absurd (omega (arith, one-number e))
+good-of s p (r-judged e w n j) z = absurd (j (sym (one-number e) ∙ z))
 good-of s p (r-frame e g) z = g
 
 pub good : (s : List ℕ) → readOf s .number ≡ 0 → Good s
@@ -119,7 +119,7 @@ good-reads s g = read-frame s (g .whole) (g .sum) (g .fine)
 -- what an accepted frame's paper says
 module _ (s : List ℕ) (t time q n : ℕ) (e : answer 0 (t ∷ time ∷ q ∷ n ∷ []) ≡ readOf s) where
   pub read-done : readOf s .number ≡ 0
-  read-done = sym (ap (λ (p : Paper). p .number) e)
+  read-done = sym (one-number e)
 
   pub read-values : answer 0 (t ∷ time ∷ q ∷ n ∷ []) ≡ accepted s
   read-values = e ∙ good-reads s (good s read-done)

@@ -6,7 +6,7 @@ use native.Mathlib.Omega.{arith}
 use native.Mathlib.Nat.{add-zero}
 use lib.ListN.{length, take, drop, length-append}
 use lib.Seq.{take-at, drop-at, take-add}
-use Rattle.terms.specs.Paper.{Paper, answer}
+use Rattle.terms.specs.Paper.{answer, one-number}
 use Rattle.octets.specs.Octets.{be, bytesOf, sum8, Bytes}
 use Rattle.octets.specs.Numerals.{be-front, numeral-skip, numeral-behind, numeral-below, bytesOf-be, length-digits}
 use Rattle.octets.specs.Sums.{sum8-below}
@@ -172,11 +172,11 @@ module _ (m : Message) (out : List ℕ) (w : Widths m) (z : writeOf m (length ou
   pub write-then-body : bodyRead (leftOf m out) ≡ m .content
   write-then-body =
       let e : messageOf (leftOf m out) ≡ m = rw left-is (message-written m (drop (length (frameOf m)) out) w (fit m (length out) z .sound)) in
-      body-of (leftOf m out) (ap (λ (p : Paper). p .number) write-then-read) ∙ ap (λ (x : Message). x .content) e
+      body-of (leftOf m out) (one-number write-then-read) ∙ ap (λ (x : Message). x .content) e
 
 -- writing what was read into a buffer leaves there the bytes that were read
 pub read-then-write : (s out : List ℕ) → Bytes s → readOf s .number ≡ 0 → 28 + bodyLength s ≤ length out → take (28 + bodyLength s) (leftOf (messageOf s) out) ≡ take (28 + bodyLength s) s
 read-then-write s out b z h =
     let e : length (frameOf (messageOf s)) ≡ 28 + bodyLength s = frame-length (messageOf s) ∙ ap (λ (n : ℕ). 28 + n) (body-length s (good s z .whole .there)) in
-    rw (left-laid (messageOf s) out (ap (λ (p : Paper). p .number) (write-read s b z (length out) h)))
+    rw (left-laid (messageOf s) out (one-number (write-read s b z (length out) h)))
     (take-front (28 + bodyLength s) (frameOf (messageOf s)) out e ∙ written-read s b z)

@@ -5,7 +5,7 @@ use mathlib.Core.List.{List, _++_}
 use native.Mathlib.Omega.{arith}
 use lib.ListN.{length, take, drop, length-append, length-drop}
 use lib.Seq.{take-append-le, drop-append-le}
-use Rattle.terms.specs.Paper.{Paper}
+use Rattle.terms.specs.Paper.{Paper, one-number}
 use Rattle.octets.specs.Octets.{be, sum8}
 use Rattle.octets.specs.Numerals.{numeral-append}
 use Rattle.rules.specs.Table.{kindOf}
@@ -65,9 +65,9 @@ module _ (s t : List ℕ) (w : Whole s) where
   accepted-kept = rw (type-kept s t (w .header), time-kept s t (w .header), seq-kept s t (w .header), len-kept s t (w .header))
 
 kept-at : (s t : List ℕ) (p : Paper) → Reading s p → (p .number ≡ 1 → ⊥) → readOf (s ++ t) ≡ p
-kept-at s t p (r-short e h) un = absurd (un (ap (λ (q : Paper). q .number) e))
+kept-at s t p (r-short e h) un = absurd (un (one-number e))
 kept-at s t p (r-measure e h m) un = read-measured (s ++ t) (measure s) (omega (arith, longer s t)) (measure-kept s t h) m ∙ sym e
-kept-at s t p (r-cut e h m l) un = absurd (un (ap (λ (q : Paper). q .number) e))
+kept-at s t p (r-cut e h m l) un = absurd (un (one-number e))
 kept-at s t p (r-sum e w n) un =
     read-sum (s ++ t) (whole-kept s t w) (λ x. n (sym (sum-kept s t w) ∙ x ∙ ap sum8 (plain-kept s t w))) ∙ sym e
 kept-at s t p (r-judged e w f n) un =
@@ -82,11 +82,11 @@ kept s t un = kept-at s t (readOf s) (reading s) un
 
 never : (s : List ℕ) (p : Paper) → 8192 ≤ length s → Reading s p → p .number ≡ 1 → ⊥
 never s p l (r-short e h) z = omega arith
-never s p l (r-measure e h m) z = measure-not-more _ _ (sym (ap (λ (q : Paper). q .number) e) ∙ z)
+never s p l (r-measure e h m) z = measure-not-more _ _ (sym (one-number e) ∙ z)
 never s p l (r-cut e h m k) z = omega (arith, fits _ _ m .small)
-never s p l (r-sum e w n) z = omega (arith, ap (λ (q : Paper). q .number) e)
-never s p l (r-judged e w f n) z = judge-not-more _ _ _ (sym (ap (λ (q : Paper). q .number) e) ∙ z)
-never s p l (r-frame e g) z = omega (arith, ap (λ (q : Paper). q .number) e)
+never s p l (r-sum e w n) z = omega (arith, one-number e)
+never s p l (r-judged e w f n) z = judge-not-more _ _ _ (sym (one-number e) ∙ z)
+never s p l (r-frame e g) z = omega (arith, one-number e)
 
 -- LAW 3: 8,192 bytes or more never answer 1
 pub enough : (s : List ℕ) → 8192 ≤ length s → readOf s .number ≡ 1 → ⊥

@@ -6,7 +6,7 @@ use mathlib.Core.List.{List, [], _∷_, _++_}
 use native.Mathlib.Omega.{arith}
 use lib.ListN.{length, length-append}
 use borrow.Author.Tests.{le-leb, lt-leb, eq-eqb, ne-eqb}
-use Rattle.terms.specs.Paper.{Paper, answer, refusal}
+use Rattle.terms.specs.Paper.{Paper, answer, refusal, one-number}
 use Rattle.terms.specs.Cases.{less, same}
 use Rattle.octets.specs.Octets.{laid}
 use Rattle.octets.specs.Numerals.{length-digits}
@@ -74,9 +74,9 @@ writing m room =
     (same (measureIn m) 0)
 
 fit-of : (m : Message) (room : ℕ) (p : Paper) → Writing m room p → p .number ≡ 0 → Fit m room
-fit-of m room p (w-measured e n) z = absurd (n (sym (ap (λ (q : Paper). q .number) e) ∙ z))
-fit-of m room p (w-judged e h n) z = absurd (n (sym (ap (λ (q : Paper). q .number) e) ∙ z))
-fit-of m room p (w-room e h n) z = absurd (omega (arith, ap (λ (q : Paper). q .number) e))
+fit-of m room p (w-measured e n) z = absurd (n (sym (one-number e) ∙ z))
+fit-of m room p (w-judged e h n) z = absurd (n (sym (one-number e) ∙ z))
+fit-of m room p (w-room e h n) z = absurd (omega (arith, one-number e))
 fit-of m room p (w-done e f) z = f
 
 pub fit : (m : Message) (room : ℕ) → writeOf m room .number ≡ 0 → Fit m room
@@ -111,4 +111,4 @@ put-next at n a b d e f p l q k h =
 -- a refusal leaves the buffer as it was
 pub refused-left : (m : Message) (out e : List ℕ) (x : Written) → Refuses x → writtenPaper x ≡ writeOf m (length out) → e ≡ leftOf m out → e ≡ out
 refused-left m out e x r p q =
-    q ∙ left-kept m out (λ (z : writeOf m (length out) .number ≡ 0). refusal-pos (r .0) (ap (λ (y : Paper). y .number) (ap writtenPaper (sym (r .1)) ∙ p) ∙ z))
+    q ∙ left-kept m out (λ (z : writeOf m (length out) .number ≡ 0). refusal-pos (r .0) (one-number (ap writtenPaper (sym (r .1)) ∙ p) ∙ z))

@@ -3,3 +3,4 @@ pub mod Numerals
 pub mod Overlays
 pub mod Sums
 pub mod Papers
+pub mod Places

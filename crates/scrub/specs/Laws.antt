@@ -8,13 +8,14 @@ use native.Mathlib.Omega.{arith}
 use lib.ListN.{length, getD, take, drop, length-append}
 use lib.Seq.{take-add, length-take-le, getD-take, getD-drop}
 use borrow.Author.Tests.{eq-eqb, ne-eqb}
-use Rattle.terms.specs.Paper.{Paper, answer}
+use Rattle.terms.specs.Paper.{Paper, answer, one-number}
 use Rattle.terms.specs.Cases.{less, same}
 use Rattle.terms.specs.Refusals.{refusal-pos}
 use Rattle.octets.specs.declared.Written.{Written}
 use Rattle.octets.specs.Papers.{writtenPaper, Refuses}
 use Rattle.octets.specs.Octets.{be, bytesOf, sum8, laid, Bytes}
 use Rattle.octets.specs.Numerals.{bytesOf-be, length-digits, numeral-below, numeral-take}
+use Rattle.octets.specs.Places.{laid-before, laid-in, laid-after}
 use Rattle.octets.specs.Overlays.{length-laid, laid-append, laid-front, laid-again, laid-same, take-laid, take-front}
 use Rattle.rules.specs.Table.{kindOf}
 use Rattle.rules.specs.Outcomes.{measure-same}
@@ -30,7 +31,7 @@ use Rattle.rules.specs.declared.Kind.{Kind}
 use Rattle.scrub.specs.Private.{privateOf}
 use Rattle.scrub.specs.Within.{bodyIn}
 use Rattle.scrub.specs.Scrub.{painted, spansOf, cleanBody, summed, scrubbed, scrubAnswer}
-use Rattle.scrub.specs.Paint.{Inside, Within, Agree, length-painted, painted-outside, painted-inside, painted-agrees, painted-same, laid-before, laid-in, laid-after}
+use Rattle.scrub.specs.Paint.{Inside, Within, Agree, length-painted, painted-outside, painted-inside, painted-agrees, painted-same}
 use Rattle.frame.specs.View.{viewOf}
 use Rattle.scrub.specs.PrivateLaws.{view-same, private-few, private-within, private-filled, private-same, judged-same}
 
@@ -187,7 +188,7 @@ module _ (s : List ℕ) (z : readOf s .number ≡ 0) where
     scrub-message = rw scrub-rest (message-written (clean s) rest clean-widths clean-sound)
 
     pub scrub-done : readOf (scrubbed s) .number ≡ 0
-    scrub-done = ap (λ (p : Paper). p .number) scrub-reads ∙ z
+    scrub-done = one-number scrub-reads ∙ z
 
     pub scrub-sum : checkSum (scrubbed s) ≡ sum8 (plain (scrubbed s))
     scrub-sum = good (scrubbed s) scrub-done .sum
@@ -289,7 +290,7 @@ answer-refused d ne = rw (ne-eqb (readOf d .number) 0 ne)
 -- a refusal leaves the buffer as it was
 pub refused-kept : (d e : List ℕ) (x : Written) → Refuses x → writtenPaper x ≡ scrubAnswer d → e ≡ scrubbed d → e ≡ d
 refused-kept d e x r p q =
-    ⊎-elim (λ (z : readOf d .number ≡ 0). absurd (refusal-pos (r .0) (ap (λ (y : Paper). y .number) (ap writtenPaper (sym (r .1)) ∙ p ∙ sym (answer-as d z (bodyLength d) refl))))
+    ⊎-elim (λ (z : readOf d .number ≡ 0). absurd (refusal-pos (r .0) (one-number (ap writtenPaper (sym (r .1)) ∙ p ∙ sym (answer-as d z (bodyLength d) refl))))
     )
     (λ (ne : readOf d .number ≡ 0 → ⊥). q ∙ refused-same d ne)
     (same (readOf d .number) 0)
@@ -307,8 +308,8 @@ again-always s b =
 -- scrubbing answers reading's number: 0, or the refusal passed on
 pub scrub-number : (s : List ℕ) → scrubAnswer s .number ≡ readOf s .number
 scrub-number s =
-    ⊎-elim (λ (z : readOf s .number ≡ 0). ap (λ (p : Paper). p .number) (sym (answer-as s z (bodyLength s) refl)) ∙ sym z)
-    (λ (ne : readOf s .number ≡ 0 → ⊥). ap (λ (p : Paper). p .number) (sym (answer-refused s ne)))
+    ⊎-elim (λ (z : readOf s .number ≡ 0). one-number (sym (answer-as s z (bodyLength s) refl)) ∙ sym z)
+    (λ (ne : readOf s .number ≡ 0 → ⊥). one-number (sym (answer-refused s ne)))
     (same (readOf s .number) 0)
 
 -- the view of a scrubbed frame is the view of the original

@@ -3,6 +3,5 @@ pub mod Scrub
 pub mod Within
 pub mod Paint
 pub mod PrivateLaws
-pub mod Overlap
 pub mod Spans
 pub mod Laws

@@ -2,12 +2,14 @@
 use Prim.Native.Nat.{ℕ, zero, suc, _+_, _-_, _<_, _≤_}
 use mathlib.Core.Path.{_≡_, refl, sym, ap, _∙_}
 use mathlib.Core.Logic.{_⊎_, inl, inr, ⊎-elim}
-use mathlib.Core.List.{List, [], _∷_, _++_}
+use mathlib.Core.List.{List, [], _∷_}
 use native.Mathlib.Omega.{arith}
-use lib.ListN.{length, getD, take, drop, replicate, length-replicate, getD-replicate, List·getD-append}
-use lib.Seq.{length-take-le, getD-append-add, getD-drop, getD-take, take-nil, ext-getD}
+use lib.ListN.{length, getD, take, replicate, length-replicate, getD-replicate}
+use lib.Seq.{take-nil, ext-getD}
 use Rattle.terms.specs.Cases.{less}
 use Rattle.octets.specs.Octets.{laid, numeral}
+use Rattle.octets.specs.Numerals.{numeral-same}
+use Rattle.octets.specs.Places.{laid-before, laid-in, laid-after}
 use Rattle.octets.specs.Overlays.{laid-nil, length-laid}
 use Rattle.scrub.specs.declared.Span.{Span}
 use Rattle.scrub.specs.Private.{spanAt}
@@ -27,32 +29,6 @@ Within n (p ∷ ps) = (p .place + p .len ≤ n) × Within n ps
 pub record Agree (ps : List Span) (a b : List ℕ) : Type 0 where
   pub long : length a ≡ length b
   pub outside : (i : ℕ) → (Inside ps i → ⊥) → getD a i 0 ≡ getD b i 0
-
--- BYTES LAID, PLACE BY PLACE
-
-module _ (at : ℕ) (bs d : List ℕ) (h : at + length bs ≤ length d) where
-  pub laid-before : (i : ℕ) → i < at → getD (laid at bs d) i 0 ≡ getD d i 0
-  unfolding laid
-  laid-before i l = List·getD-append (take at d) (bs ++ drop (at + length bs) d) 0 i (rw (length-take-le at d (omega arith)) l) ∙ getD-take at d i 0 l
-
-  behind : (j : ℕ) → getD (laid at bs d) (at + j) 0 ≡ getD (bs ++ drop (at + length bs) d) j 0
-  unfolding laid
-  behind j =
-      ap (λ (k : ℕ). getD (take at d ++ (bs ++ drop (at + length bs) d)) (k + j) 0) (sym (length-take-le at d (omega arith)))
-      ∙ getD-append-add (take at d) (bs ++ drop (at + length bs) d) j 0
-
-  pub laid-in : (j : ℕ) → j < length bs → getD (laid at bs d) (at + j) 0 ≡ getD bs j 0
-  laid-in j l = behind j ∙ List·getD-append bs (drop (at + length bs) d) 0 j l
-
-  pub laid-after : (i : ℕ) → at + length bs ≤ i → getD (laid at bs d) i 0 ≡ getD d i 0
-  laid-after i l =
-      let p : at + (length bs + (i - at - length bs)) ≡ i = omega arith in
-      let q : at + length bs + (i - at - length bs) ≡ i = omega arith in
-      ap (λ (k : ℕ). getD (laid at bs d) k 0) (sym p)
-      ∙ behind (length bs + (i - at - length bs))
-      ∙ getD-append-add bs (drop (at + length bs) d) (i - at - length bs) 0
-      ∙ getD-drop (at + length bs) d (i - at - length bs) 0
-      ∙ ap (λ (k : ℕ). getD d k 0) q
 
 -- as many bytes as a span has, laid over them
 abbrev pub over : Span → List ℕ → List ℕ
@@ -173,11 +149,6 @@ clear-outside (p ∷ ps) at w i c l h =
     ⊎-elim (λ (y : at + w ≤ p .place). omega arith) (λ (y : p .place + p .len ≤ at). omega arith) (c .0))
     (λ (x : Inside ps (at + i)). clear-outside ps at w i (c .1) l x)
     h
-
-pub numeral-same : (base n at : ℕ) (a b : List ℕ) → ((i : ℕ) → i < n → getD a (at + i) 0 ≡ getD b (at + i) 0) → numeral base n at a ≡ numeral base n at b
-unfolding numeral
-numeral-same base zero at a b f = refl
-numeral-same base (suc n) at a b f = rw (numeral-same base n at a b (λ i l. f i (omega arith)), f n (omega arith))
 
 -- lists that agree outside the spans say the same numbers there
 pub number-same : (ps : List Span) (a b : List ℕ) → Agree ps a b → (w at : ℕ) → Clear ps at w → numeral 256 w at a ≡ numeral 256 w at b

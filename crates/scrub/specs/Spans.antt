@@ -16,7 +16,7 @@ use Rattle.scrub.specs.Scrub.{painted}
 use Rattle.scrub.specs.Within.{bodyIn, spanIn, spanPainted}
 use Rattle.scrub.specs.Paint.{Within, length-painted, painted-more, painted-agrees, within-take, within-at}
 use Rattle.scrub.specs.PrivateLaws.{private-few, private-within, private-same}
-use Rattle.scrub.specs.Overlap.{laid-inner}
+use Rattle.octets.specs.Places.{laid-inner}
 
 -- behind the last span stands an empty one
 pub span-past : (i : ℕ) (ps : List Span) → length ps ≤ i → spaces 0 0 ≡ spanAt i ps

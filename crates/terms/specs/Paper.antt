@@ -1,5 +1,6 @@
 -- An answer as document 01 puts it: its number, then the values that stand beside it. And the one choice that all definitions use.
 use Prim.Native.Nat.{ℕ}
+use mathlib.Core.Path.{_≡_, ap}
 use mathlib.Core.Bool.{Bool, true, false}
 use mathlib.Core.List.{List, []}
 
@@ -17,3 +18,7 @@ refusal n = answer n []
 abbrev pub pick : {A : Type 0} → Bool → A → A → A
 pick true a b = a
 pick false a b = b
+
+-- papers that are equal have one number
+pub one-number : {p q : Paper} → p ≡ q → p .number ≡ q .number
+one-number e = ap (λ (x : Paper). x .number) e

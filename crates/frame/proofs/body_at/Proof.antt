@@ -5,7 +5,7 @@ use Rattle.frame.specs.Outcomes.{good, read-done, read-length}
 use Rattle.frame.specs.Papers.{readPaper}
 use Rattle.frame.specs.Frame.{bodyLength, readOf}
 use Rattle.terms.specs.Refusals.{refusal-pos}
-use Rattle.terms.specs.Paper.{Paper, answer}
+use Rattle.terms.specs.Paper.{answer, one-number}
 use lib.ListN.{length, drop}
 use mathlib.Core.List.{List, [], _∷_}
 use Prim.Native.Nat.{ℕ, _+_, _≤_}
@@ -67,7 +67,7 @@ part-result-end-2 : tie.Need-part-result-end-2
 part-result-end-2 c = omega (arith, inside (c .before))
 
 returns : tie.Need-returns
-returns c = sym (body-none _ (λ (z : readOf (text (c .before .before .before)) .number ≡ 0). refusal-pos (c .before .enum-told .given .0 .0) (ap (λ (p : Paper). p .number) (sym (ap readPaper (c .before .enum-told .given .1)) ∙ c .before .before .before .read-at .ensures) ∙ z)))
+returns c = sym (body-none _ (λ (z : readOf (text (c .before .before .before)) .number ≡ 0). refusal-pos (c .before .enum-told .given .0 .0) (one-number (sym (ap readPaper (c .before .enum-told .given .1)) ∙ c .before .before .before .read-at .ensures) ∙ z)))
 
 returns-2 : tie.Need-returns-2
 returns-2 c = let s = start (c .before .before .before .before) in part-body (s .args .at) (s .args .bytes .now) _ (len-is (c .before .before)) ∙ sym (body-of _ (done (c .before .before)))

@@ -3,7 +3,7 @@ use Rattle.frame.specs.WriteLaws.{fit, left-kept, left-laid}
 use Rattle.frame.specs.Write.{Message, message, writeOf}
 use Rattle.octets.specs.Papers.{writtenPaper}
 use Rattle.terms.specs.Refusals.{numberOf, refusal-pos}
-use Rattle.terms.specs.Paper.{Paper, answer, refusal}
+use Rattle.terms.specs.Paper.{answer, refusal, one-number}
 use lib.ListN.{length}
 use mathlib.Core.List.{[], _∷_}
 use mathlib.Core.Path.{_≡_, sym, ap, _∙_}
@@ -25,7 +25,7 @@ written : (c : tie.After-n) → answer 0 (c .n .given .0 .0 ∷ []) ≡ writeOf 
 written c = sym (ap writtenPaper (c .n .given .1)) ∙ c .before .before .may-write .ensures
 
 done : (c : tie.After-n) → writeOf (text (c .before .before)) (length (start (c .before .before) .args .out .now)) .number ≡ 0
-done c = sym (ap (λ (p : Paper). p .number) (written c))
+done c = sym (one-number (written c))
 
 may-write-requires : tie.Need-may-write-requires
 may-write-requires c κs = search needs
@@ -40,7 +40,7 @@ store-requires : tie.Need-store-requires
 store-requires c κs = fit _ _ (done (c .before .before)) .there
 
 returns : tie.Need-returns
-returns c = (refused (c .before), sym (left-kept _ _ (λ z. refusal-pos (c .before .why .given .0 .0) (ap (λ (p : Paper). p .number) (refused (c .before)) ∙ z))))
+returns c = (refused (c .before), sym (left-kept _ _ (λ z. refusal-pos (c .before .why .given .0 .0) (one-number (refused (c .before)) ∙ z))))
 
 same-length : tie.Need-same-length
 same-length c = search needs

@@ -9,7 +9,7 @@ use Rattle.frame.specs.Papers.{readPaper}
 use Rattle.frame.specs.Frame.{msgType, bodyLength, readOf}
 use Rattle.rules.specs.Table.{kindOf, kind-is, suits}
 use Rattle.terms.specs.Refusals.{numberOf, refusal-pos}
-use Rattle.terms.specs.Paper.{Paper, answer, refusal}
+use Rattle.terms.specs.Paper.{Paper, answer, refusal, one-number}
 use lib.ListN.{length, getD}
 use mathlib.Core.List.{List, [], _∷_}
 use mathlib.Core.Bool.{true}
@@ -27,7 +27,7 @@ refused : (c : tie.After-why) → refusal (numberOf (c .why .given .0 .0)) ≡ r
 refused c = sym (ap readPaper (c .why .given .1)) ∙ c .before .before .read-at .ensures
 
 not-done : (c : tie.After-why) → readOf (text (c .before .before)) .number ≡ 0 → ⊥
-not-done c z = refusal-pos (c .why .given .0 .0) (ap (λ (p : Paper). p .number) (refused c) ∙ z)
+not-done c z = refusal-pos (c .why .given .0 .0) (one-number (refused c) ∙ z)
 
 -- the paper of a frame that reads: its type and its length
 abbrev len : tie.After-msg-type → ℕ
