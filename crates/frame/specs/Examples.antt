@@ -15,21 +15,21 @@ use Rattle.frame.specs.Frame.{bodyLength, body, checked, readOf}
 use Rattle.frame.specs.View.{viewed, viewOf}
 
 -- 53303033 0047FA7908DACB40 0000000000000001: A up to its BodyLength
-pub startOfA : List ℕ
+unfoldable pub startOfA : List ℕ
 startOfA = 0x53 ∷ 0x30 ∷ 0x30 ∷ 0x33 ∷ 0x00 ∷ 0x47 ∷ 0xFA ∷ 0x79 ∷ 0x08 ∷ 0xDA ∷ 0xCB ∷ 0x40 ∷ 0 ∷ 0 ∷ 0 ∷ 0 ∷ 0 ∷ 0 ∷ 0 ∷ 1 ∷ []
 
 -- A, and A with other last bytes or another BodyLength
-pub frameA : List ℕ → List ℕ → List ℕ
+unfoldable pub frameA : List ℕ → List ℕ → List ℕ
 frameA len sum = startOfA ++ (len ++ sum)
 
 -- 50303031 0047FA7908DACB40 0000000000000002 0000000C 0D 0064 0000000000000003 4E 00000058
-pub frameB : List ℕ
+unfoldable pub frameB : List ℕ
 frameB =
     0x50 ∷ 0x30 ∷ 0x30 ∷ 0x31 ∷ 0x00 ∷ 0x47 ∷ 0xFA ∷ 0x79 ∷ 0x08 ∷ 0xDA ∷ 0xCB ∷ 0x40 ∷ 0 ∷ 0 ∷ 0 ∷ 0 ∷ 0 ∷ 0 ∷ 0 ∷ 2 ∷ 0 ∷ 0 ∷ 0 ∷ 0x0C
     ∷ 0x0D ∷ 0x00 ∷ 0x64 ∷ 0 ∷ 0 ∷ 0 ∷ 0 ∷ 0 ∷ 0 ∷ 0 ∷ 3 ∷ 0x4E ∷ 0x00 ∷ 0x00 ∷ 0x00 ∷ 0x58 ∷ []
 
 -- an M101 header with this BodyLength, in two bytes
-pub headerM101 : ℕ → ℕ → List ℕ
+unfoldable pub headerM101 : ℕ → ℕ → List ℕ
 headerM101 high low = 0x4D ∷ 0x31 ∷ 0x30 ∷ 0x31 ∷ replicate 15 0 ++ (1 ∷ 0 ∷ 0 ∷ high ∷ low ∷ [])
 
 -- the last four bytes
