@@ -43,26 +43,26 @@ table =
     ∷ reading (headerM101 0x1F 0xE5) (refusal 3) 0  -- 7. M101 header with 8,165: 3;
     ∷ reading (headerM101 0x1F 0xE4) (refusal 1) 0  -- with 8,164 and no body: 1.
     ∷ ledger
-        (call (Tick 100 2) (answer 0 (1 ∷ 0 ∷ []))  -- 8. Fresh, tick 2: 0, nothing passed,
-        ∷ call Missing (answer 0 (1 ∷ []))  -- missing 1,
-        ∷ call (Request 100) (answer 0 (1 ∷ 1 ∷ []))  -- request 1 to 1;
-        ∷ call (Tick 100 1) (answer 0 (1 ∷ 2 ∷ []))  -- tick 1: passes 1 and 2.
-        ∷ [])
+    (call (Tick 100 2) (answer 0 (1 ∷ 0 ∷ []))  -- 8. Fresh, tick 2: 0, nothing passed,
+    ∷ call Missing (answer 0 (1 ∷ []))  -- missing 1,
+    ∷ call (Request 100) (answer 0 (1 ∷ 1 ∷ []))  -- request 1 to 1;
+    ∷ call (Tick 100 1) (answer 0 (1 ∷ 2 ∷ []))  -- tick 1: passes 1 and 2.
+    ∷ [])
     ∷ ledger (call (Tick 100 256) (answer 0 (1 ∷ 0 ∷ [])) ∷ [])  -- 9. Fresh, tick 256: 0.
     ∷ ledger
-        (call (Tick 100 257) (refusal 12)  -- 10. Fresh, tick 257: 12,
-        ∷ topIs 257  -- top 257,
-        ∷ call (Request 100) (answer 0 (1 ∷ 200 ∷ []))  -- request 1 to 200.
-        ∷ [])
+    (call (Tick 100 257) (refusal 12)  -- 10. Fresh, tick 257: 12,
+    ∷ topIs 257  -- top 257,
+    ∷ call (Request 100) (answer 0 (1 ∷ 200 ∷ []))  -- request 1 to 200.
+    ∷ [])
     ∷ ledger
-        (call (Announce 100 0) (answer 0 [])  -- 11. Fresh, announce 0,
-        ∷ call (Request 100) (refusal 15)  -- request: 15.
-        ∷ [])
+    (call (Announce 100 0) (answer 0 [])  -- 11. Fresh, announce 0,
+    ∷ call (Request 100) (refusal 15)  -- request: 15.
+    ∷ [])
     ∷ ledger
-        (call (Announce 100 300) (answer 0 [])  -- 12. Announce 300,
-        ∷ call (Tick 100 100) (answer 0 (1 ∷ 0 ∷ []))  -- tick 100,
-        ∷ call (Request 100) (answer 0 (1 ∷ 99 ∷ []))  -- request: 1 to 99.
-        ∷ [])
+    (call (Announce 100 300) (answer 0 [])  -- 12. Announce 300,
+    ∷ call (Tick 100 100) (answer 0 (1 ∷ 0 ∷ []))  -- tick 100,
+    ∷ call (Request 100) (answer 0 (1 ∷ 99 ∷ []))  -- request: 1 to 99.
+    ∷ [])
     ∷ []
 
 -- lines that the definitions bear out, from a book on: each call has its answer, and the book goes on to the next line

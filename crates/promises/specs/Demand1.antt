@@ -1,0 +1,268 @@
+-- Demand 1, sentence by sentence. "Every public entry point takes all input, ends": no public function has a `requires` (the gate's
+-- tools/promises looks), and the checker accepts a function only where it ends and does nothing undefined for all input that its contract
+-- admits. What is left to say are the answers.
+use Prim.Native.Nat.{ℕ, max}
+use mathlib.Core.Path.{_≡_, refl}
+use mathlib.Core.Bool.{Bool, true, false, _&&_, _||_}
+use lib.Dec.{eqb, leb}
+use Rattle.terms.specs.Counters.{tickOf}
+use Rattle.terms.specs.Paper.{Paper}
+use Rattle.terms.specs.Refusals.{numberOf}
+use Rattle.terms.specs.declared.Refusal.{Refusal}
+use Rattle.terms.specs.declared.Refusal.the-variants.{More, MsgType, Long, Length, Sum, Field, Room, Place, Range, Repeat, Far, State, Busy, Whole, Unasked, Status, Channel, Entries}
+use Rattle.octets.specs.declared.Written.{Written}
+use Rattle.octets.specs.declared.Written.the-variants as written
+use Rattle.octets.specs.Papers.{writtenPaper}
+use Rattle.rules.specs.declared.Verdict.{Verdict}
+use Rattle.frame.specs.declared.Read.{Read}
+use Rattle.frame.specs.declared.Read.the-variants as read
+use Rattle.frame.specs.declared.Found.{Found}
+use Rattle.frame.specs.declared.Found.the-variants as found
+use Rattle.frame.specs.Papers.{readPaper, foundPaper}
+use Rattle.entries.specs.declared.Answer.{Answer as EntryAnswer}
+use Rattle.entries.specs.declared.Answer.the-variants as entry
+use Rattle.entries.specs.declared.Entry.the-variants as an
+use Rattle.entries.specs.Papers.{answerPaper}
+use Rattle.map.specs.Bits.{Words}
+use Rattle.ledger.specs.declared.Ledger.{Ledger}
+use Rattle.ledger.specs.declared.Answer.{Answer}
+use Rattle.ledger.specs.declared.Answer.the-variants as plain
+use Rattle.ledger.specs.declared.TickAnswer.{TickAnswer}
+use Rattle.ledger.specs.declared.TickAnswer.the-variants as tick
+use Rattle.ledger.specs.declared.RequestAnswer.{RequestAnswer}
+use Rattle.ledger.specs.declared.RequestAnswer.the-variants as request
+use Rattle.ledger.specs.declared.ReplyAnswer.{ReplyAnswer}
+use Rattle.ledger.specs.declared.ReplyAnswer.the-variants as reply
+use Rattle.ledger.specs.Calls.{Call, Tick}
+use Rattle.ledger.specs.Papers.{tickPaper, requestPaper, replyPaper, paperOf}
+use Rattle.ledger.specs.Trace.{Promise}
+use Rattle.ledger.specs.Words.{answered}
+use Rattle.ledger.proofs.Promised.{refused-gives-back, far-raises-top}
+use Rattle.terms.proofs.OneAnswer as terms
+use Rattle.octets.proofs.OneAnswer as octets
+use Rattle.digits.proofs.OneAnswer as digits
+use Rattle.rules.proofs.OneAnswer as rules
+use Rattle.frame.proofs.OneAnswer as frame
+use Rattle.entries.proofs.OneAnswer as entries
+use Rattle.scrub.proofs.OneAnswer as scrub
+use Rattle.map.proofs.OneAnswer as map
+use Rattle.ledger.proofs.OneAnswer as ledger
+
+-- "EVERY PUBLIC ENTRY POINT TAKES ALL INPUT": of each public function, the theorem that its promise fixes the answer for all input.
+-- (tools/promises compares these lists with the public functions.)
+
+-- a list of theorems: naming one that does not stand, or stands unproved, is refused
+data Named : Type 0 where
+  named : Named
+
+-- terms
+terms-answers : Named
+terms-answers =
+    let SessionNumber-new-one-answer = terms.SessionNumber-new-one-answer in
+    let SessionNumber-value-one-answer = terms.SessionNumber-value-one-answer in
+    let TickNumber-new-one-answer = terms.TickNumber-new-one-answer in
+    let TickNumber-value-one-answer = terms.TickNumber-value-one-answer in
+    let ChannelNumber-new-one-answer = terms.ChannelNumber-new-one-answer in
+    let ChannelNumber-value-one-answer = terms.ChannelNumber-value-one-answer in
+    let Refusal-number-one-answer = terms.Refusal-number-one-answer in
+    named
+
+-- octets
+octets-answers : Named
+octets-answers =
+    let u8-at-one-answer = octets.u8-at-one-answer in
+    let u16-at-one-answer = octets.u16-at-one-answer in
+    let u32-at-one-answer = octets.u32-at-one-answer in
+    let u40-at-one-answer = octets.u40-at-one-answer in
+    let u64-at-one-answer = octets.u64-at-one-answer in
+    let sum-one-answer = octets.sum-one-answer in
+    let fill-one-answer = octets.fill-one-answer in
+    let put-one-answer = octets.put-one-answer in
+    let lay-one-answer = octets.lay-one-answer in
+    named
+
+-- digits
+digits-answers : Named
+digits-answers =
+    let put-digits-one-answer = digits.put-digits-one-answer in
+    let put-decimal-one-answer = digits.put-decimal-one-answer in
+    let digits-at-one-answer = digits.digits-at-one-answer in
+    let decimal-at-one-answer = digits.decimal-at-one-answer in
+    named
+
+-- rules
+rules-answers : Named
+rules-answers =
+    let kind-of-one-answer = rules.kind-of-one-answer in
+    let is-known-one-answer = rules.is-known-one-answer in
+    let measure-one-answer = rules.measure-one-answer in
+    let judge-one-answer = rules.judge-one-answer in
+    let fields-ok-one-answer = rules.fields-ok-one-answer in
+    let entry-size-one-answer = rules.entry-size-one-answer in
+    named
+
+-- frame
+frame-answers : Named
+frame-answers =
+    let read-at-one-answer = frame.read-at-one-answer in
+    let body-at-one-answer = frame.body-at-one-answer in
+    let write-one-answer = frame.write-one-answer in
+    let search-one-answer = frame.search-one-answer in
+    let view-of-one-answer = frame.view-of-one-answer in
+    named
+
+-- entries
+entries-answers : Named
+entries-answers =
+    let open-at-one-answer = entries.open-at-one-answer in
+    let reader-of-one-answer = entries.reader-of-one-answer in
+    let reader-of-one-reader = entries.reader-of-one-reader in
+    let step-one-answer = entries.step-one-answer in
+    let step-from-one-answer = entries.step-from-one-answer in
+    named
+
+-- scrub
+scrub-answers : Named
+scrub-answers =
+    let private-span-one-answer = scrub.private-span-one-answer in
+    let scrub-one-answer = scrub.scrub-one-answer in
+    named
+
+-- map
+map-answers : Named
+map-answers =
+    let Map-new-one-answer = map.Map-new-one-answer in
+    let Map-held-one-answer = map.Map-held-one-answer in
+    let Map-holds-one-answer = map.Map-holds-one-answer in
+    let Map-with-one-answer = map.Map-with-one-answer in
+    let Map-first-held-one-answer = map.Map-first-held-one-answer in
+    let Map-run-one-answer = map.Map-run-one-answer in
+    let Map-empty-one-answer = map.Map-empty-one-answer in
+    let Map-dropped-one-answer = map.Map-dropped-one-answer in
+    named
+
+-- ledger
+ledger-answers : Named
+ledger-answers =
+    let Ledger-opened-one-answer = ledger.Ledger-opened-one-answer in
+    let Ledger-tick-one-answer = ledger.Ledger-tick-one-answer in
+    let Ledger-announce-one-answer = ledger.Ledger-announce-one-answer in
+    let Ledger-request-one-answer = ledger.Ledger-request-one-answer in
+    let Ledger-reply-one-answer = ledger.Ledger-reply-one-answer in
+    let Ledger-missing-one-answer = ledger.Ledger-missing-one-answer in
+    let Ledger-held-one-answer = ledger.Ledger-held-one-answer in
+    let Ledger-channel-one-answer = ledger.Ledger-channel-one-answer in
+    let Ledger-floor-one-answer = ledger.Ledger-floor-one-answer in
+    let Ledger-top-one-answer = ledger.Ledger-top-one-answer in
+    let Ledger-pending-one-answer = ledger.Ledger-pending-one-answer in
+    named
+
+-- "AND REFUSES WHAT IT CAN'T USE WITH A NUMBER FROM DOCUMENT 01"
+
+-- the numbers of document 01's table: 1 to 6, 8 to 18, 20
+unfoldable pub inTable : ℕ → Bool
+inTable n = (leb 1 n && leb n 6) || (leb 8 n && leb n 18) || eqb n 20
+
+pub refusal-in-table : (w : Refusal) → inTable (numberOf w) ≡ true
+unfolding inTable
+refusal-in-table More = refl
+refusal-in-table MsgType = refl
+refusal-in-table Long = refl
+refusal-in-table Length = refl
+refusal-in-table Sum = refl
+refusal-in-table Field = refl
+refusal-in-table Room = refl
+refusal-in-table Place = refl
+refusal-in-table Range = refl
+refusal-in-table Repeat = refl
+refusal-in-table Far = refl
+refusal-in-table State = refl
+refusal-in-table Busy = refl
+refusal-in-table Whole = refl
+refusal-in-table Unasked = refl
+refusal-in-table Status = refl
+refusal-in-table Channel = refl
+refusal-in-table Entries = refl
+
+-- an answer's number is 0, or one of the table
+pub data Numbered : Paper → Type 0 where
+  done : {p : Paper} → p .number ≡ 0 → Numbered p
+  refused : {p : Paper} → inTable (p .number) ≡ true → Numbered p
+
+pub read-numbered : (x : Read) → Numbered (readPaper x)
+read-numbered (read.Frame t time q n) = done refl
+read-numbered (read.Refused w) = refused (refusal-in-table w)
+
+pub written-numbered : (x : Written) → Numbered (writtenPaper x)
+written-numbered (written.Bytes n) = done refl
+written-numbered (written.Refused w) = refused (refusal-in-table w)
+
+pub found-numbered : (x : Found) → Numbered (foundPaper x)
+found-numbered (found.At p) = done refl
+found-numbered found.Nothing = done refl
+found-numbered found.Beyond = refused (refusal-in-table Place)
+
+pub entry-numbered : (x : EntryAnswer) → Numbered (answerPaper x)
+entry-numbered (entry.Done (an.Short kind price)) = done refl
+entry-numbered (entry.Done (an.Long kind price size position)) = done refl
+entry-numbered (entry.Refused w) = refused (refusal-in-table w)
+
+pub tick-numbered : (x : TickAnswer) → Numbered (tickPaper x)
+tick-numbered (tick.Passed first count) = done refl
+tick-numbered (tick.Refused w) = refused (refusal-in-table w)
+
+pub request-numbered : (x : RequestAnswer) → Numbered (requestPaper x)
+request-numbered (request.Granted first last) = done refl
+request-numbered (request.Refused w) = refused (refusal-in-table w)
+
+pub reply-numbered : (x : ReplyAnswer) → Numbered (replyPaper x)
+reply-numbered reply.Cleared = done refl
+reply-numbered (reply.Refused w) = refused (refusal-in-table w)
+
+-- opening, announcing, the counts, and the walk
+pub plain-numbered : (x : Answer) → Numbered (paperOf x)
+plain-numbered plain.Done = done refl
+plain-numbered (plain.Refused w) = refused (refusal-in-table w)
+
+-- "A REFUSAL WRITES NOTHING INTO A LENT BUFFER": of each function that is lent one, that its later contents are fixed, and that a refusal leaves them.
+
+octets-buffers : Named
+octets-buffers =
+    let fill-one-buffer = octets.fill-one-buffer in
+    let put-one-buffer = octets.put-one-buffer in
+    let put-refused-keeps = octets.put-refused-keeps in
+    let lay-one-buffer = octets.lay-one-buffer in
+    let lay-refused-keeps = octets.lay-refused-keeps in
+    named
+
+digits-buffers : Named
+digits-buffers =
+    let put-digits-one-buffer = digits.put-digits-one-buffer in
+    let put-digits-refused-keeps = digits.put-digits-refused-keeps in
+    let put-decimal-one-buffer = digits.put-decimal-one-buffer in
+    let put-decimal-refused-keeps = digits.put-decimal-refused-keeps in
+    named
+
+frame-buffers : Named
+frame-buffers =
+    let write-one-buffer = frame.write-one-buffer in
+    let write-refused-keeps = frame.write-refused-keeps in
+    named
+
+scrub-buffers : Named
+scrub-buffers =
+    let scrub-one-buffer = scrub.scrub-one-buffer in
+    let scrub-refused-keeps = scrub.scrub-refused-keeps in
+    named
+
+-- "ONLY A TICK NUMBER TOO FAR AHEAD CHANGES THE LEDGER, AND ONLY ITS KNOWN TOP."
+-- For every state that is passed in, sound or not, and every call of the ledger that meets its promise: a refusal other than 12 gives back the
+-- very ledger; 12, which only a tick is answered, gives it back with its top raised to that tick if it was lower, and nothing else changed.
+
+pub refusals-keep-the-ledger : (l next : Ledger) (call : Call) (paper : Paper) → Words (l .map .words) → Promise l call next paper
+    → answered paper 0 ≡ false → answered paper 12 ≡ false → next ≡ l
+refusals-keep-the-ledger = refused-gives-back
+
+pub far-raises-the-top : (l next : Ledger) (channel n : ℕ) (paper : Paper) → Words (l .map .words) → Promise l (Tick channel n) next paper
+    → answered paper 12 ≡ true → next ≡ record { channel = l .channel; floor = l .floor; top = tickOf (max (l .top .0) n); map = l .map; pending = l .pending }
+far-raises-the-top = far-raises-top

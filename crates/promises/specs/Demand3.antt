@@ -1,0 +1,46 @@
+-- Demand 3, of every row of calls of the code on a ledger that it opened. `Ran channel calls l h` says that the ledger l and the history h come of
+-- the calls, each meeting its promise; h has the calls and their answers alone. Words.antt of `ledger` tells each word from h.
+use Prim.Native.Nat.{ℕ, _+_, _≤_}
+use mathlib.Core.Path.{_≡_}
+use Rattle.ledger.specs.State.{StateRules, bookOf}
+use Rattle.ledger.specs.Calls.{Request, answerTo}
+use Rattle.ledger.specs.Trace.{Calls, Ran, History}
+use Rattle.ledger.specs.Answers.{Answers}
+use Rattle.ledger.specs.Demand3.{Demand3, Deliveries, MissingNumbers, Requests, Counts, Shown}
+use Rattle.ledger.specs.declared.Ledger.{Ledger}
+use Rattle.ledger.proofs.Answers as Answered
+use Rattle.ledger.proofs.Promised.{ran-demand-3}
+
+module _ (channel : ℕ) (opens : channel ≤ 9999) {calls : Calls} {l : Ledger} {h : History} (ran : Ran channel calls l h) where
+  all : Demand3 h channel (bookOf l)
+  all = ran-demand-3 channel opens ran
+
+  -- "For every sequence of calls on a fresh ledger, refusals included: the numbers handed out are 1, 2, 3 and so on, each once, up to just
+  -- before the first not received."
+  pub handed-out : Deliveries h
+  handed-out = all .deliveries
+
+  -- "The missing are exactly those up to the known top that were not received."
+  pub the-missing : MissingNumbers h (bookOf l)
+  the-missing = all .missing-numbers
+
+  -- "Asked on its own channel, the ledger gives a resend request exactly when one is missing and none is pending: the lowest unbroken run of
+  -- missing numbers, cut to its first 200."
+  pub resend-request : Requests h (answerTo (bookOf l) (Request channel))
+  resend-request = all .requests
+
+  -- "Delivered, held and missing, each counted from the calls, add up to the top."
+  pub counted : Counts h (bookOf l)
+  counted = all .counts
+
+  -- what the ledger shows of itself is told by the calls, and its state rules hold
+  pub shown : Shown h channel (bookOf l)
+  shown = all .shown
+
+  pub state-rules : StateRules (bookOf l)
+  state-rules = all .state-rules
+
+-- "A number is received once its tick is answered 0": and what each call is answered is told by the calls and answers before it, so that a ledger
+-- which answers 12 to every tick, or nods after the first, does not meet it
+pub each-answer : (channel : ℕ) → channel ≤ 9999 → (calls : Calls) → Answers channel calls
+each-answer = Answered.answers
