@@ -6,3 +6,4 @@ pub mod RecordLaws
 pub mod Fields
 pub mod Back
 pub mod Listing
+pub mod Lengths

@@ -179,8 +179,8 @@ pub fn put_line(out: &mut [u8], at: usize, r: Record) -> Written
 {
     let mut d: [u8; 160] = [0; 160];
     let a = store_columns(&mut d, r);
-    let n = store_last(&mut d, a, r);
-    lay_front(out, at, &d, n)
+    let e = store_last(&mut d, a, r);
+    lay_front(out, at, &d, e)
 }
 
 // Lays a word, its number and the byte behind it over d from at on, and gives the place behind them.
