@@ -1,7 +1,6 @@
 // The fault record of 64 bytes, made and read back; its line of the listing, and the listing's last line.
 // Every function takes all input. What is written is made aside first: without room nothing is written and the answer is 8.
 ghost use mathlib.Core.Path.{_≡_};
-ghost use mathlib.Core.List.{_++_};
 ghost use Prim.Native.Nat.{_+_, _≤_};
 ghost use lib.ListN.{length, take};
 ghost use Rattle.octets.specs.Papers.{writtenPaper, roomFor, laidIfRoom};
@@ -35,9 +34,10 @@ pub struct Summary {
     pub missing: u64,
 }
 
-// The type of a refused reading, four spaces, and what stands for it in a line.
+// The type of a refused reading: four spaces.
 const BLANK: u32 = 0x20202020;
 
+// What stands for it in a line.
 const DASHES: u32 = 0x2D2D2D2D;
 
 // Lays the first n bytes of src over out from at on.
