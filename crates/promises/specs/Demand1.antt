@@ -47,6 +47,7 @@ use Rattle.entries.proofs.OneAnswer as entries
 use Rattle.scrub.proofs.OneAnswer as scrub
 use Rattle.map.proofs.OneAnswer as map
 use Rattle.ledger.proofs.OneAnswer as ledger
+use Rattle.record.proofs.OneAnswer as «record»
 
 -- "EVERY PUBLIC ENTRY POINT TAKES ALL INPUT": of each public function, the theorem that its promise fixes the answer for all input.
 -- (tools/promises compares these lists with the public functions.)
@@ -157,6 +158,15 @@ ledger-answers =
     let Ledger-pending-one-answer = ledger.Ledger-pending-one-answer in
     named
 
+-- record
+record-answers : Named
+record-answers =
+    let put-one-answer = «record».put-one-answer in
+    let record-at-one-answer = «record».record-at-one-answer in
+    let put-line-one-answer = «record».put-line-one-answer in
+    let put-summary-one-answer = «record».put-summary-one-answer in
+    named
+
 -- "AND REFUSES WHAT IT CAN'T USE WITH A NUMBER FROM DOCUMENT 01"
 
 -- the numbers of document 01's table: 1 to 6, 8 to 18, 20
@@ -253,6 +263,16 @@ scrub-buffers : Named
 scrub-buffers =
     let scrub-one-buffer = scrub.scrub-one-buffer in
     let scrub-refused-keeps = scrub.scrub-refused-keeps in
+    named
+
+record-buffers : Named
+record-buffers =
+    let put-one-buffer = «record».put-one-buffer in
+    let put-refused-keeps = «record».put-refused-keeps in
+    let put-line-one-buffer = «record».put-line-one-buffer in
+    let put-line-refused-keeps = «record».put-line-refused-keeps in
+    let put-summary-one-buffer = «record».put-summary-one-buffer in
+    let put-summary-refused-keeps = «record».put-summary-refused-keeps in
     named
 
 -- "ONLY A TICK NUMBER TOO FAR AHEAD CHANGES THE LEDGER, AND ONLY ITS KNOWN TOP."
