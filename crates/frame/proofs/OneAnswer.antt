@@ -6,7 +6,7 @@ use Rattle.terms.specs.OneAnswer.{OneAnswer, OneContent}
 use Rattle.terms.specs.OneBuffer.{OneBuffer, RefusedKeeps}
 use Rattle.octets.specs.Papers.{Refuses, written-one}
 use Rattle.frame.specs.Papers.{read-one, found-one}
-use Rattle.frame.specs.WriteLaws.{refused-left}
+use Rattle.wire.specs.WriteLaws.{refused-left}
 use Rattle.frame.proofs.read_at.Reads as read-at
 use Rattle.frame.proofs.read_at.Kinds as read-at-kinds
 use Rattle.frame.proofs.body_at.Reads as body-at
@@ -15,8 +15,6 @@ use Rattle.frame.proofs.write.Reads as write
 use Rattle.frame.proofs.write.Kinds as write-kinds
 use Rattle.frame.proofs.search.Reads as search-reads
 use Rattle.frame.proofs.search.Kinds as search-kinds
-use Rattle.frame.proofs.view_of.Reads as view-of
-use Rattle.frame.proofs.view_of.Kinds as view-of-kinds
 
 pub read-at-one-answer : OneAnswer _ read-at-kinds.ps read-at-kinds.r read-at.Post
 read-at-one-answer κs a x y s t p q = read-one x y (p ∙ sym q)
@@ -30,9 +28,6 @@ write-one-answer κs a x y s t p q = written-one x y (p .0 ∙ sym (q .0))
 
 pub search-one-answer : OneAnswer _ search-kinds.ps search-kinds.r search-reads.Post
 search-one-answer κs a x y s t p q = found-one x y (p ∙ sym q)
-
-pub view-of-one-answer : OneAnswer _ view-of-kinds.ps view-of-kinds.r view-of.Post
-view-of-one-answer κs a x y s t p q = p ∙ sym q
 
 pub write-one-buffer : OneBuffer _ write-kinds.ps write-kinds.r write.Post (λ κs s. now (s .1 .1 .1 .1 .0))
 write-one-buffer κs a x y s t p q = p .1 ∙ sym (q .1)

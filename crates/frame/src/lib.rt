@@ -5,18 +5,15 @@ ghost use lib.ListN.{length, take, drop};
 ghost use Rattle.octets.specs.Octets.{be, sum8, laid};
 ghost use Rattle.octets.specs.Papers.{writtenPaper};
 ghost use Rattle.rules.specs.Table.{kindOf};
-ghost use Rattle.frame.specs.Frame.{msgType, bodyLength, readOf, reads, bodyRead, Whole};
+ghost use Rattle.wire.specs.Frame.{msgType, bodyLength, readOf, reads, bodyRead, Whole};
 ghost use Rattle.frame.specs.Papers.{readPaper, foundPaper, HeadSays};
-ghost use Rattle.frame.specs.Write.{message, frameOf, writeOf, leftOf};
-ghost use Rattle.frame.specs.Search.{searchOf};
-ghost use Rattle.frame.specs.View.{viewed, viewOf};
+ghost use Rattle.wire.specs.Write.{message, frameOf, writeOf, leftOf};
+ghost use Rattle.wire.specs.Search.{searchOf};
 use octets::Written;
 use rules::Kind;
 use rules::Verdict;
-use terms::ChannelNumber;
 use terms::Refusal;
 use terms::SessionNumber;
-use terms::TickNumber;
 
 // What reading finds. A refusal carries nothing of the bytes.
 pub enum Read {
@@ -34,16 +31,6 @@ pub enum Found {
     At(usize),
     Nothing,
     Beyond,
-}
-
-// What an accepted frame's body tells the layers above. What a type does not have is 0.
-pub struct View {
-    pub kind: Kind,
-    pub channel: ChannelNumber,
-    pub tick: TickNumber,
-    pub first: TickNumber,
-    pub last: TickNumber,
-    pub status: u8,
 }
 
 // A frame that is there as a whole, with its type and the length of its body; or why not.
@@ -242,61 +229,4 @@ pub fn search(bytes: &[u8], from: usize) -> Found
         }
     }
     found
-}
-
-fn blank(kind: Kind) -> View
-    ensures { λ r. ⌜ r ≡ viewed kind 0 0 0 0 0 ⌝ }
-{
-    View {
-        kind,
-        channel: ChannelNumber::new(0),
-        tick: TickNumber::new(0),
-        first: TickNumber::new(0),
-        last: TickNumber::new(0),
-        status: 0,
-    }
-}
-
-// A view with the channel at a place, and the tick number, which stands at 3 in each type that has one.
-fn ticked(kind: Kind, body: &[u8], channel_at: usize) -> View
-    ensures { λ r. ⌜ r ≡ viewed kind (be 2 «channel_at» (now (body .entry))) (be 8 3 (now (body .entry))) 0 0 0 ⌝ }
-{
-    View {
-        kind,
-        channel: ChannelNumber::new(octets::u16_at(body, channel_at)),
-        tick: TickNumber::new(octets::u64_at(body, 3)),
-        first: TickNumber::new(0),
-        last: TickNumber::new(0),
-        status: 0,
-    }
-}
-
-fn resend(body: &[u8]) -> View
-    ensures { λ r. ⌜ r ≡ viewOf Kind.P002 (now (body .entry)) ⌝ }
-{
-    View {
-        kind: Kind::P002,
-        channel: ChannelNumber::new(octets::u16_at(body, 0)),
-        tick: TickNumber::new(octets::u64_at(body, 3)),
-        first: TickNumber::new(octets::u64_at(body, 3)),
-        last: TickNumber::new(octets::u64_at(body, 11)),
-        status: octets::u8_at(body, 19),
-    }
-}
-
-// The view of a body of a type. It judges nothing: hand it what `body_at` gave.
-pub fn view_of(kind: Kind, body: &[u8]) -> View
-    ensures { λ r. ⌜ r ≡ viewOf kind (now (body .entry)) ⌝ }
-{
-    match kind {
-        Kind::S001 => blank(kind),
-        Kind::S002 => blank(kind),
-        Kind::S003 => blank(kind),
-        Kind::P001 => ticked(kind, body, 1),
-        Kind::P002 => resend(body),
-        Kind::M101 => blank(kind),
-        Kind::M102 => blank(kind),
-        Kind::M201 => ticked(kind, body, 1),
-        Kind::Unknown => blank(kind),
-    }
 }

@@ -1,12 +1,3 @@
-pub mod Agree
-pub mod Answers
-pub mod Demand3
-pub mod Given
-pub mod Numbers
 pub mod OneAnswer
-pub mod Places
 pub mod Promised
-pub mod Rules
 pub mod Seam
-pub mod Steps
-pub mod Tests

@@ -11,17 +11,19 @@ use denote.Triple.Clauses.{AtExit}
 use Rattle.terms.specs.Counters.{tickOf}
 use Rattle.terms.specs.Paper.{Paper, answer}
 use Rattle.map.specs.Bits.{Words}
-use Rattle.ledger.specs.State.{Book, bookOf, ledgerOf}
-use Rattle.ledger.specs.Calls.{Call, Tick, Announce, Request, Reply, Missing, Held, answerTo, nextOf, fresh, openOf}
+use Rattle.book.specs.State.{Book}
+use Rattle.ledger.specs.State.{bookOf, ledgerOf}
+use Rattle.book.specs.Calls.{Call, Tick, Announce, Request, Reply, Missing, Held, answerTo, nextOf, fresh, openOf}
 use Rattle.ledger.specs.Papers.{tickPaper, requestPaper, replyPaper, paperOf, countPaper}
-use Rattle.ledger.specs.Trace.{Calls, _▸_, after, History, _▸_⇒_, trace, Promise, Ran, opening, one-more}
-use Rattle.ledger.specs.Words.{answered}
-use Rattle.ledger.specs.Demand3.{Demand3}
+use Rattle.book.specs.Trace.{Calls, _▸_, after, History, _▸_⇒_, trace}
+use Rattle.ledger.specs.Trace.{Promise, Ran, opening, one-more}
+use Rattle.book.specs.Words.{answered}
+use Rattle.book.specs.Demand3.{Demand3}
 use Rattle.ledger.specs.declared.Ledger.{Ledger}
-use Rattle.ledger.proofs.Answers.{keeps, far-raises}
+use Rattle.book.proofs.Answers.{keeps, far-raises}
 use Rattle.ledger.proofs.Seam.{book-of, ledger-of, raised-of}
-use Rattle.ledger.proofs.Agree.{agrees}
-use Rattle.ledger.proofs.Demand3.{demand-3}
+use Rattle.book.proofs.Agree.{agrees}
+use Rattle.book.proofs.Demand3.{demand-3}
 use Rattle.ledger.proofs.Ledger.opened.Reads as opened
 use Rattle.ledger.proofs.Ledger.opened.Kinds as opened-kinds
 use Rattle.ledger.proofs.Ledger.tick.Reads as tick

@@ -17,14 +17,15 @@ use Rattle.terms.specs.declared.Refusal.{Refusal}
 use Rattle.map.specs.Bits.{Words, bitsIn, mapOf, run}
 use Rattle.map.specs.declared.Map.{Map}
 use Rattle.map.proofs.Words.{map-of, value-of, list-lt}
-use Rattle.ledger.specs.State.{Asked, nothing, range, Book, largest, soundOf, askedOf, pendingOf, bookOf, ledgerOf}
-use Rattle.ledger.specs.Calls.{Call, Announce, Request, Reply, replyStatus, isPending, startsAt, elsewhere, ownNumber, checkedOf, marked, passes, taken, waiting, fresh, done, raised, offered, valuesOf, beside, numberTo, answerTo, nextOf}
+use Rattle.book.specs.State.{Asked, nothing, range, Book, largest, soundOf}
+use Rattle.ledger.specs.State.{askedOf, pendingOf, bookOf, ledgerOf}
+use Rattle.book.specs.Calls.{Call, Announce, Request, Reply, replyStatus, isPending, startsAt, elsewhere, ownNumber, checkedOf, marked, passes, taken, waiting, fresh, done, raised, offered, valuesOf, beside, numberTo, answerTo, nextOf}
 use Rattle.ledger.specs.Papers.{verdictNumber}
 use Rattle.ledger.specs.declared.Ledger.{Ledger}
 use Rattle.ledger.specs.declared.Verdict.{Verdict}
 use Rattle.ledger.specs.declared.Pending.{Pending}
 use Rattle.ledger.specs.declared.Pending.the-variants.{Nothing, Range}
-use Rattle.ledger.proofs.Tests.{pick-cases, pick-false}
+use Rattle.book.proofs.Tests.{pick-cases, pick-false}
 
 -- ---- a ledger and its book
 

@@ -47,9 +47,6 @@ verdictNumber (verdict.Bad r) = numberOf r
 
 -- ---- one paper, one answer: the case is made again from its paper
 
-abbrev pub valueAt : Paper → ℕ → ℕ
-valueAt p i = getD (p .values) i 0
-
 abbrev tickDone : List ℕ → TickAnswer
 tickDone vs = tick.Passed (tickOf (getD vs 0 0)) (getD vs 1 0)
 
@@ -104,4 +101,4 @@ pub paper-one : (x y : Answer) → paperOf x ≡ paperOf y → x ≡ y
 paper-one x y e = number-one x y (ap (λ (p : Paper). p .number) e)
 
 pub count-paper-one : (x y : Answer) (j k : ℕ) → countPaper x j ≡ countPaper y k → (x ≡ y) × (j ≡ k)
-count-paper-one x y j k e = (number-one x y (ap (λ (p : Paper). p .number) e), ap (λ (p : Paper). valueAt p 0) e)
+count-paper-one x y j k e = (number-one x y (ap (λ (p : Paper). p .number) e), ap (λ (p : Paper). getD (p .values) 0 0) e)

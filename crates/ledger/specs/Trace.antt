@@ -1,33 +1,11 @@
--- A row of calls on a fresh ledger, and what the caller sees of it: each call with its answer. And the same row as the code runs it.
+-- A row of calls as the code runs it.
 use mathlib.Core.Path.{_≡_}
 use Prim.Native.Nat.{ℕ}
 use Rattle.terms.specs.Paper.{Paper}
-use Rattle.ledger.specs.State.{Book, bookOf, ledgerOf}
-use Rattle.ledger.specs.Calls.{Call, answerTo, nextOf, fresh}
+use Rattle.book.specs.Calls.{Call, answerTo, nextOf, fresh}
+use Rattle.book.specs.Trace.{Calls, none, _▸_, History, start, _▸_⇒_}
+use Rattle.ledger.specs.State.{bookOf, ledgerOf}
 use Rattle.ledger.specs.declared.Ledger.{Ledger}
-
--- no call, or some calls and then one more
-infixl 20 _▸_
-pub data Calls : Type 0 where
-  none : Calls
-  _▸_ : Calls → Call → Calls
-
--- the book of a channel after the calls
-abbrev pub after : ℕ → Calls → Book
-after channel none = fresh channel
-after channel (calls ▸ call) = nextOf (after channel calls) call
-
--- the calls with their answers, and nothing else: no book is seen in a history
-infixl 20 _▸_⇒_
-pub data History : Type 0 where
-  start : History
-  _▸_⇒_ : History → Call → Paper → History
-
-unfoldable pub trace : ℕ → Calls → History
-trace channel none = start
-trace channel (calls ▸ call) = trace channel calls ▸ call ⇒ answerTo (after channel calls) call
-
--- ---- the code's calls
 
 -- what a call on the ledger l promises of its answer and of the next ledger: `tick-is-step` and the like say it of each call's `ensures`
 pub record Promise (l : Ledger) (call : Call) (next : Ledger) (paper : Paper) : Type 0 where

@@ -33,10 +33,10 @@ use Rattle.ledger.specs.declared.RequestAnswer.{RequestAnswer}
 use Rattle.ledger.specs.declared.RequestAnswer.the-variants as request
 use Rattle.ledger.specs.declared.ReplyAnswer.{ReplyAnswer}
 use Rattle.ledger.specs.declared.ReplyAnswer.the-variants as reply
-use Rattle.ledger.specs.Calls.{Call, Tick}
+use Rattle.book.specs.Calls.{Call, Tick}
 use Rattle.ledger.specs.Papers.{tickPaper, requestPaper, replyPaper, paperOf}
 use Rattle.ledger.specs.Trace.{Promise}
-use Rattle.ledger.specs.Words.{answered}
+use Rattle.book.specs.Words.{answered}
 use Rattle.ledger.proofs.Promised.{refused-gives-back, far-raises-top}
 use Rattle.terms.proofs.OneAnswer as terms
 use Rattle.octets.proofs.OneAnswer as octets
@@ -48,6 +48,7 @@ use Rattle.scrub.proofs.OneAnswer as scrub
 use Rattle.map.proofs.OneAnswer as map
 use Rattle.ledger.proofs.OneAnswer as ledger
 use Rattle.record.proofs.OneAnswer as «record»
+use Rattle.view.proofs.OneAnswer as view
 
 -- "EVERY PUBLIC ENTRY POINT TAKES ALL INPUT": of each public function, the theorem that its promise fixes the answer for all input.
 -- (tools/promises compares these lists with the public functions.)
@@ -109,7 +110,6 @@ frame-answers =
     let body-at-one-answer = frame.body-at-one-answer in
     let write-one-answer = frame.write-one-answer in
     let search-one-answer = frame.search-one-answer in
-    let view-of-one-answer = frame.view-of-one-answer in
     named
 
 -- entries
@@ -165,6 +165,12 @@ record-answers =
     let record-at-one-answer = «record».record-at-one-answer in
     let put-line-one-answer = «record».put-line-one-answer in
     let put-summary-one-answer = «record».put-summary-one-answer in
+    named
+
+-- view
+view-answers : Named
+view-answers =
+    let view-of-one-answer = view.view-of-one-answer in
     named
 
 -- "AND REFUSES WHAT IT CAN'T USE WITH A NUMBER FROM DOCUMENT 01"

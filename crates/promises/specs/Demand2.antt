@@ -15,14 +15,14 @@ use Rattle.octets.specs.Papers.{writtenPaper}
 use Rattle.rules.specs.Table.{kindOf}
 use Rattle.frame.specs.declared.Read.{Read}
 use Rattle.frame.specs.declared.Read.the-variants.{Frame}
-use Rattle.frame.specs.Outcomes.{good, good-reads}
-use Rattle.frame.specs.Frame.{msgType, sendingTime, msgSeqNum, bodyLength, body, plain, checkSum, readOf, bodyRead}
-use Rattle.frame.specs.Given.{Reads, Reads0}
-use Rattle.frame.specs.GivenRead.{read-given, read-given-0}
+use Rattle.wire.specs.Outcomes.{good, good-reads}
+use Rattle.wire.specs.Frame.{msgType, sendingTime, msgSeqNum, bodyLength, body, plain, checkSum, readOf, bodyRead}
+use Rattle.wire.specs.Given.{Reads, Reads0}
+use Rattle.wire.specs.GivenRead.{read-given, read-given-0}
 use Rattle.frame.specs.Papers.{readPaper, read-one}
-use Rattle.frame.specs.Places.{body-of}
-use Rattle.frame.specs.Write.{Message, message, messageOf, writeOf, leftOf}
-use Rattle.frame.specs.RoundTrip.{Widths, write-read, read-then-write, write-then-read, write-then-body}
+use Rattle.wire.specs.Places.{body-of}
+use Rattle.wire.specs.Write.{Message, message, messageOf, writeOf, leftOf}
+use Rattle.wire.specs.RoundTrip.{Widths, write-read, read-then-write, write-then-read, write-then-body}
 use Rattle.scrub.specs.Scrub.{scrubbed, scrubAnswer}
 use Rattle.scrub.specs.Laws.{scrub-number, scrub-length, scrub-keeps, scrub-fills, scrub-reads, scrub-sum, refused-same, answer-as}
 use Rattle.scrub.specs.PrivateLaws.{PrivateByte, private-is}

@@ -2,13 +2,15 @@
 -- the calls, each meeting its promise; h has the calls and their answers alone. Words.antt of `ledger` tells each word from h.
 use Prim.Native.Nat.{ℕ, _+_, _≤_}
 use mathlib.Core.Path.{_≡_}
-use Rattle.ledger.specs.State.{StateRules, bookOf}
-use Rattle.ledger.specs.Calls.{Request, answerTo}
-use Rattle.ledger.specs.Trace.{Calls, Ran, History}
-use Rattle.ledger.specs.Answers.{Answers}
-use Rattle.ledger.specs.Demand3.{Demand3, Deliveries, MissingNumbers, Requests, Counts, Shown}
+use Rattle.book.specs.State.{StateRules}
+use Rattle.ledger.specs.State.{bookOf}
+use Rattle.book.specs.Calls.{Request, answerTo}
+use Rattle.book.specs.Trace.{Calls, History}
+use Rattle.ledger.specs.Trace.{Ran}
+use Rattle.book.specs.Answers.{Answers}
+use Rattle.book.specs.Demand3.{Demand3, Deliveries, MissingNumbers, Requests, Counts, Shown}
 use Rattle.ledger.specs.declared.Ledger.{Ledger}
-use Rattle.ledger.proofs.Answers as Answered
+use Rattle.book.proofs.Answers as Answered
 use Rattle.ledger.proofs.Promised.{ran-demand-3}
 
 module _ (channel : ℕ) (opens : channel ≤ 9999) {calls : Calls} {l : Ledger} {h : History} (ran : Ran channel calls l h) where

@@ -12,12 +12,12 @@ use Rattle.terms.specs.Paper.{Paper, answer, refusal, pick}
 use Rattle.octets.specs.Octets.{numeral, digitsOf, sum8, sumOf}
 use Rattle.rules.specs.Table.{kindOf, suits, measureOf}
 use Rattle.rules.specs.Fields.{fieldsOk, judgeOf}
-use Rattle.frame.specs.Frame.{bodyLength, checked, readOf}
-use Rattle.frame.specs.Examples.{startOfA, frameA, headerM101}
+use Rattle.wire.specs.Frame.{bodyLength, checked, readOf}
+use Rattle.wire.specs.Examples.{startOfA, frameA, headerM101}
 use Rattle.map.specs.Bits.{run, bit, tally}
 use Rattle.map.proofs.Digits.{ones-tally}
-use Rattle.ledger.specs.State.{Asked, nothing, range, Book, has, rangeRules, mapRules, soundOf}
-use Rattle.ledger.specs.Calls.{Call, Tick, Announce, Request, Missing, ownNumber, checkedOf, numberTo, passes, taken, raised, waiting, asked, done, missingCount, valuesOf, answerTo, nextOf, fresh}
+use Rattle.book.specs.State.{Asked, nothing, range, Book, has, rangeRules, mapRules, soundOf}
+use Rattle.book.specs.Calls.{Call, Tick, Announce, Request, Missing, ownNumber, checkedOf, numberTo, passes, taken, raised, waiting, asked, done, missingCount, valuesOf, answerTo, nextOf, fresh}
 
 -- a line of an example over a ledger: a call and its answer, or what the ledger's top then is
 pub data Line : Type 0 where

@@ -19,20 +19,20 @@ use Rattle.octets.specs.Places.{laid-before, laid-in, laid-after}
 use Rattle.octets.specs.Overlays.{length-laid, laid-append, laid-front, laid-again, laid-same, take-laid, take-front}
 use Rattle.rules.specs.Table.{kindOf}
 use Rattle.rules.specs.Outcomes.{measure-same}
-use Rattle.frame.specs.Frame.{msgType, sendingTime, msgSeqNum, bodyLength, body, plain, checkSum, readOf}
-use Rattle.frame.specs.Outcomes.{good, good-reads}
-use Rattle.frame.specs.Measures.{fits}
-use Rattle.frame.specs.Places.{body-length}
-use Rattle.frame.specs.Write.{Message, message, messageOf, plainOf, frameOf}
-use Rattle.frame.specs.WriteLaws.{Sound, plain-length, frame-length}
-use Rattle.frame.specs.RoundTrip.{Widths, read-written, message-written}
+use Rattle.wire.specs.Frame.{msgType, sendingTime, msgSeqNum, bodyLength, body, plain, checkSum, readOf}
+use Rattle.wire.specs.Outcomes.{good, good-reads}
+use Rattle.wire.specs.Measures.{fits}
+use Rattle.wire.specs.Places.{body-length}
+use Rattle.wire.specs.Write.{Message, message, messageOf, plainOf, frameOf}
+use Rattle.wire.specs.WriteLaws.{Sound, plain-length, frame-length}
+use Rattle.wire.specs.RoundTrip.{Widths, read-written, message-written}
 use Rattle.scrub.specs.declared.Span.{Span}
 use Rattle.rules.specs.declared.Kind.{Kind}
 use Rattle.scrub.specs.Private.{privateOf}
 use Rattle.scrub.specs.Within.{bodyIn}
 use Rattle.scrub.specs.Scrub.{painted, spansOf, cleanBody, summed, scrubbed, scrubAnswer}
 use Rattle.scrub.specs.Paint.{Inside, Within, Agree, length-painted, painted-outside, painted-inside, painted-agrees, painted-same}
-use Rattle.frame.specs.View.{viewOf}
+use Rattle.view.specs.View.{viewOf}
 use Rattle.scrub.specs.PrivateLaws.{view-same, private-few, private-within, private-filled, private-same, judged-same}
 
 -- the message without what is private

@@ -1,9 +1,9 @@
 -- `body_at`: the paper of a frame that reads tells its length, and that its body lies within the bytes. Assumes nothing.
 use native.Mathlib.Omega.{arith}
-use Rattle.frame.specs.Places.{part-body, body-of, body-none, inside-at}
-use Rattle.frame.specs.Outcomes.{good, read-done, read-length}
+use Rattle.wire.specs.Places.{part-body, body-of, body-none, inside-at}
+use Rattle.wire.specs.Outcomes.{good, read-done, read-length}
 use Rattle.frame.specs.Papers.{readPaper}
-use Rattle.frame.specs.Frame.{bodyLength, readOf}
+use Rattle.wire.specs.Frame.{bodyLength, readOf}
 use Rattle.terms.specs.Refusals.{refusal-pos}
 use Rattle.terms.specs.Paper.{answer, one-number}
 use lib.ListN.{length, drop}

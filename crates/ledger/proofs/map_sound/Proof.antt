@@ -6,7 +6,7 @@ use lib.Dec.{eqb}
 use Rattle.map.specs.Bits.{Words, bitsIn, isSet}
 use Rattle.map.specs.declared.Map.{Map}
 use Rattle.map.proofs.Words.{list-lt}
-use Rattle.ledger.specs.State.{mapRules}
+use Rattle.book.specs.State.{mapRules}
 use Rattle.ledger.proofs.Seam.{dropped-empty}
 use Rattle.ledger.proofs.map_sound.Statement.{statement}
 use Rattle.ledger.proofs.map_sound.Tie as tie

@@ -3,10 +3,10 @@
 use Rattle.scrub.specs.Scrub.{summed}
 use native.Mathlib.Omega.{arith}
 use Rattle.scrub.specs.Laws.{scrub-as, answer-as, answer-refused, refused-same}
-use Rattle.frame.specs.Measures.{fits}
-use Rattle.frame.specs.Outcomes.{good, read-done, read-values, read-length}
+use Rattle.wire.specs.Measures.{fits}
+use Rattle.wire.specs.Outcomes.{good, read-done, read-values, read-length}
 use Rattle.frame.specs.Papers.{readPaper}
-use Rattle.frame.specs.Frame.{msgType, bodyLength, readOf}
+use Rattle.wire.specs.Frame.{msgType, bodyLength, readOf}
 use Rattle.rules.specs.Table.{kindOf, kind-is, suits}
 use Rattle.terms.specs.Refusals.{numberOf, refusal-pos}
 use Rattle.terms.specs.Paper.{Paper, answer, refusal, one-number}

@@ -4,8 +4,9 @@ use Prim.Native.Nat.{ℕ}
 use borrow.Author.Needs.{needs}
 use Rattle.terms.specs.Refusals.{numberOf}
 use Rattle.map.specs.Bits.{Words}
-use Rattle.ledger.specs.State.{Book, bookOf, ledgerOf}
-use Rattle.ledger.specs.Calls.{Call, ownNumber, numberTo, valuesOf, done, raised, Announce}
+use Rattle.book.specs.State.{Book}
+use Rattle.ledger.specs.State.{bookOf, ledgerOf}
+use Rattle.book.specs.Calls.{Call, ownNumber, numberTo, valuesOf, done, raised, Announce}
 use Rattle.ledger.specs.Papers.{verdictNumber}
 use Rattle.ledger.proofs.Seam.{ledger-of, judged, done-answer, done-next, refused-answer, refused-same, announce-not-12}
 use Rattle.ledger.proofs.Ledger.announce.Statement.{statement}

@@ -6,8 +6,9 @@ use borrow.Author.Needs.{needs}
 use Rattle.terms.specs.declared.TickNumber.{TickNumber}
 use Rattle.terms.specs.Counters.{tickOf}
 use Rattle.terms.specs.Paper.{answer}
-use Rattle.ledger.specs.State.{range, bookOf, ledgerOf}
-use Rattle.ledger.specs.Calls.{waiting, asked}
+use Rattle.book.specs.State.{range}
+use Rattle.ledger.specs.State.{bookOf, ledgerOf}
+use Rattle.book.specs.Calls.{waiting, asked}
 use Rattle.ledger.proofs.Ledger.granted.Statement.{statement}
 use Rattle.ledger.proofs.Ledger.granted.Tie as tie
 

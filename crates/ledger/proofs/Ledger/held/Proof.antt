@@ -4,8 +4,9 @@ use mathlib.Core.Path.{_≡_, sym, _∙_}
 use borrow.Author.Tests.{not-true, not-false}
 use borrow.Author.Needs.{needs}
 use Rattle.map.specs.Bits.{Words}
-use Rattle.ledger.specs.State.{bookOf, soundOf}
-use Rattle.ledger.specs.Calls.{ownNumber, checkedOf, numberTo, answerTo, nextOf, valuesOf, done, taken, heldCount}
+use Rattle.book.specs.State.{soundOf}
+use Rattle.ledger.specs.State.{bookOf}
+use Rattle.book.specs.Calls.{ownNumber, checkedOf, numberTo, answerTo, nextOf, valuesOf, done, taken, heldCount}
 use Rattle.ledger.proofs.Seam.{ledger-of}
 use Rattle.ledger.proofs.Ledger.held.Statement.{statement}
 use Rattle.ledger.proofs.Ledger.held.Tie as tie

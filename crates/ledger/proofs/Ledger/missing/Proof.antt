@@ -6,10 +6,11 @@ use native.Mathlib.Omega.{arith}
 use borrow.Author.Tests.{not-true, not-false}
 use borrow.Author.Needs.{needs}
 use Rattle.map.specs.Bits.{Words}
-use Rattle.ledger.specs.State.{bookOf, soundOf}
-use Rattle.ledger.specs.Calls.{ownNumber, checkedOf, numberTo, answerTo, nextOf, valuesOf, done, taken, missingCount}
+use Rattle.book.specs.State.{soundOf}
+use Rattle.ledger.specs.State.{bookOf}
+use Rattle.book.specs.Calls.{ownNumber, checkedOf, numberTo, answerTo, nextOf, valuesOf, done, taken, missingCount}
 use Rattle.ledger.proofs.Seam.{ledger-of}
-use Rattle.ledger.proofs.Rules.{rules-facts, held-fits}
+use Rattle.book.proofs.Rules.{rules-facts, held-fits}
 use Rattle.ledger.proofs.Ledger.missing.Statement.{statement}
 use Rattle.ledger.proofs.Ledger.missing.Tie as tie
 

@@ -4,11 +4,12 @@ use native.Mathlib.Omega.{arith}
 use borrow.Author.Needs.{needs}
 use Rattle.terms.specs.Refusals.{numberOf}
 use Rattle.map.specs.Bits.{Words}
-use Rattle.ledger.specs.State.{Book, bookOf, ledgerOf}
-use Rattle.ledger.specs.Calls.{Call, ownNumber, numberTo, valuesOf, done, Request}
+use Rattle.book.specs.State.{Book}
+use Rattle.ledger.specs.State.{bookOf, ledgerOf}
+use Rattle.book.specs.Calls.{Call, ownNumber, numberTo, valuesOf, done, Request}
 use Rattle.ledger.specs.Papers.{verdictNumber}
 use Rattle.ledger.proofs.Seam.{ledger-of, judged, done-answer, done-next, refused-answer, refused-same, request-not-12}
-use Rattle.ledger.proofs.Numbers.{checked-facts}
+use Rattle.book.proofs.Numbers.{checked-facts}
 use Rattle.ledger.proofs.Ledger.request.Statement.{statement}
 use Rattle.ledger.proofs.Ledger.request.Tie as tie
 

@@ -5,7 +5,8 @@ use native.Mathlib.Omega.{arith}
 use borrow.Author.Tests.{not-true, not-false, le-leb, lt-leb}
 use borrow.Author.Needs.{needs}
 use Rattle.map.specs.Bits.{bitsIn}
-use Rattle.ledger.specs.State.{largest, bookOf, askedOf, rangeRules, mapRules, soundOf}
+use Rattle.book.specs.State.{largest, rangeRules, mapRules, soundOf}
+use Rattle.ledger.specs.State.{bookOf, askedOf}
 use Rattle.ledger.proofs.Ledger.sound.Statement.{statement}
 use Rattle.ledger.proofs.Ledger.sound.Tie as tie
 

@@ -11,7 +11,7 @@ use Rattle.terms.specs.Paper.{answer}
 use Rattle.map.specs.Bits.{Words, bitsIn, run, mapOf}
 use Rattle.map.proofs.Laws.{run-le}
 use Rattle.ledger.specs.State.{bookOf}
-use Rattle.ledger.specs.Calls.{passes, marked}
+use Rattle.book.specs.Calls.{passes, marked}
 use Rattle.ledger.proofs.Seam.{marked-of, taken-of}
 use Rattle.ledger.proofs.Ledger.taken.Statement.{statement}
 use Rattle.ledger.proofs.Ledger.taken.Tie as tie

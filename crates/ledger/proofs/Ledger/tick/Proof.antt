@@ -7,12 +7,13 @@ use borrow.Author.Needs.{needs}
 use lib.Dec.{eqb}
 use Rattle.terms.specs.Paper.{answer, pick}
 use Rattle.terms.specs.Refusals.{numberOf}
-use Rattle.ledger.specs.State.{Book, largest, bookOf, ledgerOf}
-use Rattle.ledger.specs.Calls.{Call, ownNumber, numberTo, valuesOf, done, raised, taken, passes, Tick}
+use Rattle.book.specs.State.{Book, largest}
+use Rattle.ledger.specs.State.{bookOf, ledgerOf}
+use Rattle.book.specs.Calls.{Call, ownNumber, numberTo, valuesOf, done, raised, taken, passes, Tick}
 use Rattle.ledger.specs.Papers.{verdictNumber}
 use Rattle.ledger.proofs.Seam.{judged, done-answer, done-next, refused-answer, refused-next}
-use Rattle.ledger.proofs.Rules.{above-floor}
-use Rattle.ledger.proofs.Numbers.{tick-done}
+use Rattle.book.proofs.Rules.{above-floor}
+use Rattle.book.proofs.Numbers.{tick-done}
 use Rattle.ledger.proofs.Ledger.tick.Statement.{statement}
 use Rattle.ledger.proofs.Ledger.tick.Tie as tie
 

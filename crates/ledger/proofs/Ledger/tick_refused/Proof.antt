@@ -6,9 +6,9 @@ use borrow.Author.Needs.{needs}
 use Rattle.terms.specs.Refusals.{numberOf}
 use Rattle.map.specs.Bits.{Words}
 use Rattle.ledger.specs.State.{ledgerOf}
-use Rattle.ledger.specs.Calls.{raised}
+use Rattle.book.specs.Calls.{raised}
 use Rattle.ledger.proofs.Seam.{ledger-of}
-use Rattle.ledger.proofs.Tests.{pick-true, pick-false}
+use Rattle.book.proofs.Tests.{pick-true, pick-false}
 use Rattle.ledger.proofs.Ledger.tick_refused.Statement.{statement}
 use Rattle.ledger.proofs.Ledger.tick_refused.Tie as tie
 

@@ -6,8 +6,9 @@ use native.Mathlib.Omega.{arith}
 use borrow.Author.Tests.{lt-ltb, le-ltb, le-leb, lt-leb}
 use borrow.Author.Needs.{needs}
 use Rattle.map.specs.Bits.{bitsIn, isSet}
-use Rattle.ledger.specs.State.{bookOf, has}
-use Rattle.ledger.specs.Calls.{ownNumber}
+use Rattle.book.specs.State.{has}
+use Rattle.ledger.specs.State.{bookOf}
+use Rattle.book.specs.Calls.{ownNumber}
 use Rattle.ledger.proofs.Ledger.tick_verdict.Statement.{statement}
 use Rattle.ledger.proofs.Ledger.tick_verdict.Tie as tie
 

@@ -1,0 +1,9 @@
+pub mod Agree
+pub mod Answers
+pub mod Demand3
+pub mod Given
+pub mod Numbers
+pub mod Places
+pub mod Rules
+pub mod Steps
+pub mod Tests

@@ -1,0 +1,7 @@
+pub mod State
+pub mod Calls
+pub mod Trace
+pub mod Words
+pub mod Given
+pub mod Answers
+pub mod Demand3

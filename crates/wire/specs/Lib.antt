@@ -1,0 +1,15 @@
+pub mod Frame
+pub mod Write
+pub mod Search
+pub mod Outcomes
+pub mod Places
+pub mod Measures
+pub mod WriteLaws
+pub mod SearchLaws
+pub mod RoundTrip
+pub mod Stable
+pub mod Lowest
+pub mod Given
+pub mod GivenRead
+pub mod GivenWrite
+pub mod Examples
