@@ -73,3 +73,31 @@ pub record Listing : Type 0 where
 pub listing : Listing
 unfolding lineOf firstColumns lastColumns summaryOf typeColumn column named blankOf decimalOf digitsOf widthIn
 listing = record { line-1 = refl; line-2 = refl; line-3 = refl; line-4 = refl }
+
+-- In document 01's lines some numbers are equal. A record and a last line whose numbers all differ tell each column from every other.
+abbrev pub recordC : Record
+recordC =
+    record {
+      place = 1;
+      «msg_type» = 0x4D323031;
+      answer = 2;
+      seq = sessionOf 3;
+      tick = tickOf 5;
+      channel = channelOf 4;
+      «body_len» = 6;
+      floor = tickOf 7;
+      top = tickOf 8;
+    }
+
+abbrev pub summaryC : Summary
+summaryC = record { frames = 1; refused = 2; floor = tickOf 3; top = tickOf 4; missing = 5 }
+
+pub record ToldApart : Type 0 where
+  -- 1 M201 2 3 4 5 7 8
+  pub line : lineOf recordC ≡ 0x31 ∷ 0x20 ∷ 0x4D ∷ 0x32 ∷ 0x30 ∷ 0x31 ∷ 0x20 ∷ 0x32 ∷ 0x20 ∷ 0x33 ∷ 0x20 ∷ 0x34 ∷ 0x20 ∷ 0x35 ∷ 0x20 ∷ 0x37 ∷ 0x20 ∷ 0x38 ∷ 0x0A ∷ []
+  -- frames 1 refused 2 floor 3 top 4 missing 5
+  pub last-line : summaryOf summaryC ≡ 0x66 ∷ 0x72 ∷ 0x61 ∷ 0x6D ∷ 0x65 ∷ 0x73 ∷ 0x20 ∷ 0x31 ∷ 0x20 ∷ 0x72 ∷ 0x65 ∷ 0x66 ∷ 0x75 ∷ 0x73 ∷ 0x65 ∷ 0x64 ∷ 0x20 ∷ 0x32 ∷ 0x20 ∷ 0x66 ∷ 0x6C ∷ 0x6F ∷ 0x6F ∷ 0x72 ∷ 0x20 ∷ 0x33 ∷ 0x20 ∷ 0x74 ∷ 0x6F ∷ 0x70 ∷ 0x20 ∷ 0x34 ∷ 0x20 ∷ 0x6D ∷ 0x69 ∷ 0x73 ∷ 0x73 ∷ 0x69 ∷ 0x6E ∷ 0x67 ∷ 0x20 ∷ 0x35 ∷ 0x0A ∷ []
+
+pub told-apart : ToldApart
+unfolding lineOf firstColumns lastColumns summaryOf typeColumn column named decimalOf digitsOf widthIn
+told-apart = record { line = refl; last-line = refl }
