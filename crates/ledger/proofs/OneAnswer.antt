@@ -3,7 +3,7 @@ use mathlib.Core.Path.{_≡_, sym, ap, ap₂, _∙_}
 use Prim.Native.Nat.{ℕ}
 use Rattle.terms.specs.OneAnswer.{OneAnswer}
 use Rattle.terms.specs.Paper.{Paper}
-use Rattle.ledger.specs.Papers.{paperOf, countPaper, tick-paper-one, request-paper-one, reply-paper-one, paper-one, count-paper-one}
+use Rattle.ledger.specs.Papers.{paperOf, countPaper, tick-paper-one, request-paper-one, reply-paper-one, paper-one, count-paper-one, pending-paper-one}
 use Rattle.ledger.specs.declared.Ledger.{Ledger}
 use Rattle.ledger.specs.declared.Noted.{Noted}
 use Rattle.ledger.specs.declared.Counted.{Counted}
@@ -78,4 +78,4 @@ pub Ledger-top-one-answer : OneAnswer _ top-kinds.ps top-kinds.r top.Post
 Ledger-top-one-answer κs a x y s t p q = p ∙ sym q
 
 pub Ledger-pending-one-answer : OneAnswer _ pending-kinds.ps pending-kinds.r pending.Post
-Ledger-pending-one-answer κs a x y s t p q = p ∙ sym q
+Ledger-pending-one-answer κs a x y s t p q = pending-paper-one x y (p ∙ sym q)

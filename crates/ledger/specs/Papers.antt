@@ -14,6 +14,10 @@ use Rattle.ledger.specs.declared.ReplyAnswer.{ReplyAnswer}
 use Rattle.ledger.specs.declared.ReplyAnswer.the-variants as reply
 use Rattle.ledger.specs.declared.Answer.{Answer}
 use Rattle.ledger.specs.declared.Answer.the-variants as plain
+use Rattle.book.specs.State.{Asked, nothing, range}
+use Rattle.ledger.specs.State.{askedOf}
+use Rattle.ledger.specs.declared.Pending.{Pending}
+use Rattle.ledger.specs.declared.Pending.the-variants.{Nothing, Range}
 use Rattle.ledger.specs.declared.Verdict.{Verdict}
 use Rattle.ledger.specs.declared.Verdict.the-variants as verdict
 
@@ -39,6 +43,19 @@ paperOf (plain.Refused r) = refusal (numberOf r)
 -- a count stands beside its answer, a refused one too
 abbrev pub countPaper : Answer → ℕ → Paper
 countPaper a count = answer (paperOf a .number) (count ∷ [])
+
+-- the pending request, and none
+abbrev pub pendingPaper : Pending → Paper
+pendingPaper Nothing = answer 0 []
+pendingPaper (Range first last) = answer 0 (first .0 ∷ last .0 ∷ [])
+
+abbrev pub askedPaper : Asked → Paper
+askedPaper nothing = answer 0 []
+askedPaper (range first last) = answer 0 (first ∷ last ∷ [])
+
+pub pending-asked : (p : Pending) → pendingPaper p ≡ askedPaper (askedOf p)
+pending-asked Nothing = refl
+pending-asked (Range first last) = refl
 
 -- what the checks of a call come to: no paper yet, its number alone
 abbrev pub verdictNumber : Verdict → ℕ
@@ -85,6 +102,17 @@ reply-back (reply.Refused r) = told-refused (λ vs. reply.Cleared) (λ w. reply.
 
 pub reply-paper-one : (x y : ReplyAnswer) → replyPaper x ≡ replyPaper y → x ≡ y
 reply-paper-one x y e = sym (reply-back x) ∙ ap replyBack e ∙ reply-back y
+
+abbrev pendingTold : List ℕ → Pending
+pendingTold [] = Nothing
+pendingTold (first ∷ vs) = Range (tickOf first) (tickOf (getD vs 0 0))
+
+pending-told : (p : Pending) → pendingTold (pendingPaper p .values) ≡ p
+pending-told Nothing = refl
+pending-told (Range first last) = refl
+
+pub pending-paper-one : (x y : Pending) → pendingPaper x ≡ pendingPaper y → x ≡ y
+pending-paper-one x y e = sym (pending-told x) ∙ ap (λ (p : Paper). pendingTold (p .values)) e ∙ pending-told y
 
 abbrev plainBack : ℕ → Answer
 plainBack n = told (λ vs. plain.Done) (λ r. plain.Refused r) (answer n [])

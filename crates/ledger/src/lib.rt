@@ -11,7 +11,7 @@ ghost use Rattle.map.specs.Bits.{bitsIn};
 ghost use Rattle.book.specs.State.{range, largest, rangeRules, mapRules, soundOf};
 ghost use Rattle.ledger.specs.State.{askedOf, bookOf, ledgerOf};
 ghost use Rattle.book.specs.Calls.{Tick, Announce, Request, Reply, Missing, Held, replyStatus, startsAt, ownNumber, checkedOf, passes, taken, raised, waiting, asked, answerTo, nextOf, openNumber, openOf, fresh};
-ghost use Rattle.ledger.specs.Papers.{tickPaper, requestPaper, replyPaper, paperOf, countPaper, verdictNumber};
+ghost use Rattle.ledger.specs.Papers.{tickPaper, requestPaper, replyPaper, paperOf, countPaper, verdictNumber, pendingPaper, askedPaper};
 use map::Map;
 use terms::ChannelNumber;
 use terms::Refusal;
@@ -529,7 +529,7 @@ impl Ledger {
     }
 
     pub fn pending(self) -> Pending
-        ensures { λ r. ⌜ r ≡ self .pending ⌝ }
+        ensures { λ r. ⌜ pendingPaper r ≡ askedPaper (bookOf self .pending) ⌝ }
     {
         self.pending // the range granted and not answered
     }
