@@ -1,0 +1,4 @@
+pub mod Seen
+pub mod Offers
+pub mod OfferLaws
+pub mod SeenLaws

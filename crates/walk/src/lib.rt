@@ -1,0 +1,143 @@
+// A closed capture to records, counts and ledger. Document 01, "Fault records and the listing".
+ghost use mathlib.Core.Path.{_≡_};
+ghost use Prim.Native.Nat.{_+_, _<_};
+ghost use lib.ListN.{length, drop};
+ghost use Rattle.ledger.specs.State.{bookOf, ledgerOf};
+ghost use Rattle.ledger.specs.Calls.{Tick, Announce, numberTo, nextOf};
+ghost use Rattle.walk.specs.Seen.{seenOf};
+ghost use Rattle.walk.specs.Offers.{offerOf};
+use frame::Read;
+use ledger::Answer;
+use ledger::Ledger;
+use ledger::TickAnswer;
+use rules::Kind;
+use terms::ChannelNumber;
+use terms::SessionNumber;
+use terms::TickNumber;
+
+// All that a reading tells the layers above, and nothing private. A refused reading shows its number alone: four spaces,
+// and zeros. size is the frame's length, 0 where none was read.
+pub struct Seen {
+    pub answer: u32,
+    pub msg_type: u32,
+    pub seq: SessionNumber,
+    pub channel: ChannelNumber,
+    pub tick: TickNumber,
+    pub status: u8,
+    pub body_len: u32,
+    pub size: usize,
+}
+
+// What offering a reading to the ledger comes to: the record's answer, and the ledger after it.
+pub struct Offered {
+    pub answer: u32,
+    pub ledger: Ledger,
+}
+
+// The reading at a place. A place beyond the end reads as no bytes: 1.
+pub fn see(bytes: &[u8], at: usize) -> Seen
+    ensures { λ r. ⌜ r ≡ seenOf (drop at (now (bytes .entry))) ⌝ }
+{
+    match frame::read_at(bytes, at) {
+        Read::Refused(why) => Seen {
+            answer: why.number(),
+            msg_type: 0x20202020,
+            seq: SessionNumber::new(0),
+            channel: ChannelNumber::new(0),
+            tick: TickNumber::new(0),
+            status: 0,
+            body_len: 0,
+            size: 0,
+        },
+        Read::Frame {
+            msg_type,
+            sending_time: _,
+            seq,
+            body_len,
+        } => {
+            let first = at + 24;
+            let behind = first + body_len;
+            let view = frame::view_of(rules::kind_of(msg_type), &bytes[first..behind]);
+            let channel = view.channel;
+            let tick = view.tick;
+            Seen {
+                answer: 0,
+                msg_type,
+                seq,
+                channel,
+                tick,
+                status: view.status,
+                body_len: body_len as u32,
+                size: 28 + body_len,
+            }
+        }
+    }
+}
+
+// The ledger as it is, beside an answer that is not its own.
+fn kept(ledger: Ledger, answer: u32) -> Offered
+    ensures { λ r. ⌜ (r .answer ≡ answer) × (r .ledger ≡ ledgerOf (bookOf ledger)) ⌝ }
+{
+    Offered { answer, ledger }
+}
+
+// The ledger after a tick, and what it answered.
+fn ticked(ledger: Ledger, channel: ChannelNumber, tick: TickNumber) -> Offered
+    ensures { λ r. ⌜ (r .answer ≡ numberTo (bookOf ledger) (Tick (channel .0) (tick .0))) × (r .ledger ≡ ledgerOf (nextOf (bookOf ledger) (Tick (channel .0) (tick .0)))) ⌝ }
+{
+    let after = ledger.tick(channel, tick);
+    let next = after.next;
+    let answer = after.answer;
+    match answer {
+        TickAnswer::Passed { first: _, count: _ } => Offered {
+            answer: 0,
+            ledger: next,
+        },
+        TickAnswer::Refused(why) => Offered {
+            answer: why.number(),
+            ledger: next,
+        },
+    }
+}
+
+// The ledger after an announcement, and what it answered.
+fn announced(ledger: Ledger, channel: ChannelNumber, last: TickNumber) -> Offered
+    ensures { λ r. ⌜ (r .answer ≡ numberTo (bookOf ledger) (Announce (channel .0) (last .0))) × (r .ledger ≡ ledgerOf (nextOf (bookOf ledger) (Announce (channel .0) (last .0)))) ⌝ }
+{
+    let after = ledger.announce(channel, last);
+    let next = after.next;
+    let answer = after.answer;
+    match answer {
+        Answer::Done => Offered {
+            answer: 0,
+            ledger: next,
+        },
+        Answer::Refused(why) => Offered {
+            answer: why.number(),
+            ledger: next,
+        },
+    }
+}
+
+// The ledger after a reading was offered to it: an M201 as a tick, a P001 as an announcement. Any other reading changes
+// nothing and keeps its own answer: a refused one, and a P002, which the walk never offers.
+pub fn offer(ledger: Ledger, seen: Seen) -> Offered
+    ensures { λ r. ⌜ (r .answer ≡ offerOf (bookOf ledger) seen .number) × (r .ledger ≡ ledgerOf (offerOf (bookOf ledger) seen .book)) ⌝ }
+{
+    let channel = seen.channel;
+    let tick = seen.tick;
+    if seen.answer != 0 {
+        return kept(ledger, seen.answer);
+    }
+    match rules::kind_of(seen.msg_type) {
+        Kind::S001 => kept(ledger, 0),
+        Kind::S002 => kept(ledger, 0),
+        Kind::S003 => kept(ledger, 0),
+        Kind::P001 => announced(ledger, channel, tick),
+        Kind::P002 => kept(ledger, 0),
+        Kind::M101 => kept(ledger, 0),
+        Kind::M102 => kept(ledger, 0),
+        Kind::M201 => ticked(ledger, channel, tick),
+        Kind::Unknown => kept(ledger, 0),
+    }
+}
