@@ -2,3 +2,4 @@ pub mod Seen
 pub mod Offers
 pub mod OfferLaws
 pub mod SeenLaws
+pub mod Onward

@@ -6,6 +6,8 @@ ghost use Rattle.ledger.specs.State.{bookOf, ledgerOf};
 ghost use Rattle.ledger.specs.Calls.{Tick, Announce, numberTo, nextOf};
 ghost use Rattle.walk.specs.Seen.{seenOf};
 ghost use Rattle.walk.specs.Offers.{offerOf};
+ghost use Rattle.walk.specs.Onward.{Goes};
+use frame::Found;
 use frame::Read;
 use ledger::Answer;
 use ledger::Ledger;
@@ -139,5 +141,21 @@ pub fn offer(ledger: Ledger, seen: Seen) -> Offered
         Kind::M102 => kept(ledger, 0),
         Kind::M201 => ticked(ledger, channel, tick),
         Kind::Unknown => kept(ledger, 0),
+    }
+}
+
+// The place of the next reading, behind the one at p: past the frame, or where the search from the next byte on finds one; the
+// end where it finds none. A refused frame's BodyLength is never stepped by.
+fn onward(capture: &[u8], p: usize, seen: Seen) -> usize
+    requires { ⌜ (p < length (now capture)) × (seen ≡ seenOf (drop p (now capture))) ⌝ }
+    ensures { λ r. ⌜ Goes (now (capture .entry)) p r ⌝ }
+{
+    if seen.answer == 0 {
+        return p + seen.size;
+    }
+    match frame::search(capture, p + 1) {
+        Found::At(q) => q,
+        Found::Nothing => capture.len(),
+        Found::Beyond => capture.len(),
     }
 }
