@@ -3,3 +3,7 @@ pub mod Offers
 pub mod OfferLaws
 pub mod SeenLaws
 pub mod Onward
+pub mod Walk
+pub mod Tables
+pub mod Counts
+pub mod Passes

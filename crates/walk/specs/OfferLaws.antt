@@ -1,15 +1,14 @@
 -- Each offer from the facts that lead to it.
-use Prim.Native.Nat.{ℕ}
-use mathlib.Core.Path.{_≡_, ap₂}
-use mathlib.Core.List.{List, []}
+use mathlib.Core.Path.{_≡_}
+use mathlib.Core.List.{List, [], _∷_}
 use borrow.Author.Tests.{eq-eqb, ne-eqb}
 use Rattle.rules.specs.Table.{kindOf}
 use Rattle.rules.specs.declared.Kind.{Kind}
 use Rattle.ledger.specs.State.{Book, ledgerOf}
-use Rattle.ledger.specs.Calls.{Call}
+use Rattle.ledger.specs.Calls.{Call, numberTo, nextOf}
 use Rattle.walk.specs.declared.Seen.{Seen}
 use Rattle.walk.specs.declared.Offered.{Offered}
-use Rattle.walk.specs.Offers.{callsFor, callsBy, Offer, answered, offerOf}
+use Rattle.walk.specs.Offers.{callsFor, callsBy, answered, offerOf}
 
 module _ (x : Seen) where
   -- a refused reading makes no call
@@ -22,9 +21,13 @@ module _ (x : Seen) where
   unfolding callsBy
   calls-of k z e = rw (eq-eqb (x .answer) 0 z, e)
 
--- what the code gives, where the calls are known
-pub offer-is : (o : Offered) (b : Book) (x : Seen) (n : ℕ) (calls : List Call) → x .answer ≡ n → callsBy x ≡ calls
-    → o .answer ≡ answered b n calls .number → o .ledger ≡ ledgerOf (answered b n calls .book)
-    → (o .answer ≡ offerOf b x .number) × (o .ledger ≡ ledgerOf (offerOf b x .book))
-unfolding offerOf
-offer-is o b x n calls e f p q = let k : offerOf b x ≡ answered b n calls = ap₂ (answered b) e f in rw k (p, q)
+-- what the code gives where no call is made, and where one is
+module _ (o : Offered) (b : Book) (x : Seen) where
+  pub offer-none : callsBy x ≡ [] → o .answer ≡ x .answer → o .ledger ≡ ledgerOf b → (o .answer ≡ offerOf b x .number) × (o .ledger ≡ ledgerOf (offerOf b x .book))
+  unfolding offerOf answered
+  offer-none e p q = rw e (p, q)
+
+  pub offer-one : (call : Call) → callsBy x ≡ call ∷ [] → o .answer ≡ numberTo b call → o .ledger ≡ ledgerOf (nextOf b call)
+      → (o .answer ≡ offerOf b x .number) × (o .ledger ≡ ledgerOf (offerOf b x .book))
+  unfolding offerOf answered
+  offer-one call e p q = rw e (p, q)

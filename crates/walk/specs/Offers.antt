@@ -33,9 +33,9 @@ pub record Offer : Type 0 where
   pub book : Book
 
 -- the ledger's where a call is made, else the reading's
-abbrev pub answered : Book → ℕ → List Call → Offer
-answered b reading [] = record { number = reading; book = b }
-answered b reading (call ∷ calls) = record { number = numberTo b call; book = nextOf b call }
+unfoldable pub answered : Book → ℕ → List Call → Offer
+answered b number [] = record { number = number; book = b }
+answered b number (call ∷ calls) = answered (nextOf b call) (numberTo b call) calls
 
 unfoldable pub offerOf : Book → Seen → Offer
 offerOf b x = answered b (x .answer) (callsBy x)

@@ -1,10 +1,10 @@
 -- `offer`: the reading's answer and its type tell the calls, and each arm gives what they come to. Assumes nothing.
-use mathlib.Core.Path.{_≡_, refl, sym, _∙_}
+use mathlib.Core.Path.{_≡_, sym, _∙_}
 use borrow.Author.Needs.{needs}
 use Rattle.rules.specs.Table.{kind-is}
 use Rattle.rules.specs.declared.Kind.{Kind}
 use Rattle.walk.specs.Offers.{callsFor, callsBy}
-use Rattle.walk.specs.OfferLaws.{calls-refused, calls-of, offer-is}
+use Rattle.walk.specs.OfferLaws.{calls-refused, calls-of, offer-none, offer-one}
 use Rattle.walk.proofs.offer.Statement.{statement}
 use Rattle.walk.proofs.offer.Tie as tie
 
@@ -20,7 +20,7 @@ kept-requires : tie.Need-kept-requires
 kept-requires c κs = search needs
 
 returns : tie.Need-returns
-returns c = offer-is _ _ _ _ _ refl (calls-refused _ (c .before .if1 .taken)) (c .kept .ensures .0) (c .kept .ensures .1)
+returns c = offer-none _ _ _ (calls-refused _ (c .before .if1 .taken)) (c .kept .ensures .0) (c .kept .ensures .1)
 
 kind-of-requires : tie.Need-kind-of-requires
 kind-of-requires c κs = search needs
@@ -80,31 +80,31 @@ kept-requires-8 : tie.Need-kept-requires-8
 kept-requires-8 c κs = search needs
 
 returns-2 : tie.Need-returns-2
-returns-2 c = offer-is _ _ _ _ _ (zero (c .before .before .before)) (calls (c .before .before .before) _ (c .before .enum-told .given .1)) (c .kept2 .ensures .0) (c .kept2 .ensures .1)
+returns-2 c = offer-none _ _ _ (calls (c .before .before .before) _ (c .before .enum-told .given .1)) (c .kept2 .ensures .0 ∙ sym (zero (c .before .before .before))) (c .kept2 .ensures .1)
 
 returns-3 : tie.Need-returns-3
-returns-3 c = offer-is _ _ _ _ _ (zero (c .before .before .before)) (calls (c .before .before .before) _ (c .before .enum-told2 .given .1)) (c .kept3 .ensures .0) (c .kept3 .ensures .1)
+returns-3 c = offer-none _ _ _ (calls (c .before .before .before) _ (c .before .enum-told2 .given .1)) (c .kept3 .ensures .0 ∙ sym (zero (c .before .before .before))) (c .kept3 .ensures .1)
 
 returns-4 : tie.Need-returns-4
-returns-4 c = offer-is _ _ _ _ _ (zero (c .before .before .before)) (calls (c .before .before .before) _ (c .before .enum-told3 .given .1)) (c .kept4 .ensures .0) (c .kept4 .ensures .1)
+returns-4 c = offer-none _ _ _ (calls (c .before .before .before) _ (c .before .enum-told3 .given .1)) (c .kept4 .ensures .0 ∙ sym (zero (c .before .before .before))) (c .kept4 .ensures .1)
 
 returns-5 : tie.Need-returns-5
-returns-5 c = offer-is _ _ _ _ _ (zero (c .before .before .before)) (calls (c .before .before .before) _ (c .before .enum-told4 .given .1)) (c .announced .ensures .0) (c .announced .ensures .1)
+returns-5 c = offer-one _ _ _ _ (calls (c .before .before .before) _ (c .before .enum-told4 .given .1)) (c .announced .ensures .0) (c .announced .ensures .1)
 
 returns-6 : tie.Need-returns-6
-returns-6 c = offer-is _ _ _ _ _ (zero (c .before .before .before)) (calls (c .before .before .before) _ (c .before .enum-told5 .given .1)) (c .kept5 .ensures .0) (c .kept5 .ensures .1)
+returns-6 c = offer-none _ _ _ (calls (c .before .before .before) _ (c .before .enum-told5 .given .1)) (c .kept5 .ensures .0 ∙ sym (zero (c .before .before .before))) (c .kept5 .ensures .1)
 
 returns-7 : tie.Need-returns-7
-returns-7 c = offer-is _ _ _ _ _ (zero (c .before .before .before)) (calls (c .before .before .before) _ (c .before .enum-told6 .given .1)) (c .kept6 .ensures .0) (c .kept6 .ensures .1)
+returns-7 c = offer-none _ _ _ (calls (c .before .before .before) _ (c .before .enum-told6 .given .1)) (c .kept6 .ensures .0 ∙ sym (zero (c .before .before .before))) (c .kept6 .ensures .1)
 
 returns-8 : tie.Need-returns-8
-returns-8 c = offer-is _ _ _ _ _ (zero (c .before .before .before)) (calls (c .before .before .before) _ (c .before .enum-told7 .given .1)) (c .kept7 .ensures .0) (c .kept7 .ensures .1)
+returns-8 c = offer-none _ _ _ (calls (c .before .before .before) _ (c .before .enum-told7 .given .1)) (c .kept7 .ensures .0 ∙ sym (zero (c .before .before .before))) (c .kept7 .ensures .1)
 
 returns-9 : tie.Need-returns-9
-returns-9 c = offer-is _ _ _ _ _ (zero (c .before .before .before)) (calls (c .before .before .before) _ (c .before .enum-told8 .given .1)) (c .ticked .ensures .0) (c .ticked .ensures .1)
+returns-9 c = offer-one _ _ _ _ (calls (c .before .before .before) _ (c .before .enum-told8 .given .1)) (c .ticked .ensures .0) (c .ticked .ensures .1)
 
 returns-10 : tie.Need-returns-10
-returns-10 c = offer-is _ _ _ _ _ (zero (c .before .before .before)) (calls (c .before .before .before) _ (c .before .enum-told9 .given .1)) (c .kept8 .ensures .0) (c .kept8 .ensures .1)
+returns-10 c = offer-none _ _ _ (calls (c .before .before .before) _ (c .before .enum-told9 .given .1)) (c .kept8 .ensures .0 ∙ sym (zero (c .before .before .before))) (c .kept8 .ensures .1)
 
 pub offer-spec : {M : Type 1} → statement M
 offer-spec =

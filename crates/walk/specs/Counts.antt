@@ -1,0 +1,25 @@
+-- Each reading is a frame or refused, and so the counts make all records.
+use Prim.Native.Nat.{ℕ, zero, suc, _+_, _-_, _≤_}
+use mathlib.Core.Path.{_≡_, refl, sym, ap, _∙_}
+use mathlib.Core.Bool.{Bool, true, false}
+use mathlib.Core.List.{List, [], _∷_}
+use native.Mathlib.Omega.{arith}
+use lib.Dec.{eqb}
+use lib.ListN.{length}
+use Rattle.terms.specs.Paper.{pick}
+use Rattle.steps.specs.Walk.{Sight}
+use Rattle.walk.specs.declared.Seen.{Seen}
+use Rattle.walk.specs.Walk.{accepts, refuses, framesOf, refusedOf}
+
+one : (b : Bool) → pick b 1 0 + pick b 0 1 ≡ 1
+one true = refl
+one false = refl
+
+pub each : (x : Seen) → accepts x + refuses x ≡ 1
+unfolding accepts refuses
+each x = one (eqb (x .answer) 0)
+
+pub counts : (xs : List (Sight Seen)) → framesOf xs + refusedOf xs ≡ length xs
+unfolding framesOf refusedOf
+counts [] = refl
+counts (x ∷ xs) = omega (arith, each (x .read), counts xs)
