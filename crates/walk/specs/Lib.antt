@@ -7,3 +7,4 @@ pub mod Walk
 pub mod Tables
 pub mod Counts
 pub mod Passes
+pub mod WalkLaws

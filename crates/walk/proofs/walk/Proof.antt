@@ -1,44 +1,44 @@
+-- `walk`: the ledger is opened for channel 100; then either the records do not fit, or the pass wrote them all. Assumes nothing.
+use native.Mathlib.Omega.{arith}
+use mathlib.Core.Path.{_≡_, sym, ap, _∙_}
+use Rattle.terms.specs.declared.ChannelNumber.{ChannelNumber}
+use Rattle.ledger.specs.State.{ledgerOf}
+use Rattle.ledger.specs.Calls.{openOf, fresh}
+use Rattle.walk.specs.WalkLaws.{frames-few, walk-done, walk-full}
 use borrow.Author.Needs.{needs}
+use borrow.Author.Tests.{not-true, not-false}
 use Rattle.walk.proofs.walk.Statement.{statement}
 use Rattle.walk.proofs.walk.Tie as tie
-use Rattle.walk.proofs.walk.Reads as reads
-use Rattle.walk.proofs.walk.Lts as lts
-use Rattle.ledger.proofs.Ledger.opened.Reads as opened-reads
-use Rattle.terms.proofs.ChannelNumber.new.Reads as new-reads
-use Rattle.walk.proofs.pass.Reads as pass-reads
-use Rattle.walk.proofs.takes_all.Reads as takes-all-reads
 
--- src/lib.rt:277:33
+opened-fresh : (c : tie.After-opened) → c .opened .result .next ≡ ledgerOf (fresh 100)
+unfolding openOf
+opened-fresh c = c .opened .ensures .1 ∙ ap (λ (k : ChannelNumber). ledgerOf (openOf (k .0))) (c .before .new .ensures)
+
 new-requires : tie.Need-new-requires
 new-requires c κs = search needs
 
--- src/lib.rt:277:9
 opened-requires : tie.Need-opened-requires
 opened-requires c κs = search needs
 
--- src/lib.rt:279:9
 takes-all-requires : tie.Need-takes-all-requires
-takes-all-requires c κs = ?
+takes-all-requires c κs = opened-fresh (c .before)
 
--- src/lib.rt:280:9
 returns : tie.Need-returns
-returns c = ?
+returns c = walk-full _ _ _ (sym (c .before .takes-all .ensures) ∙ not-true _ (c .if1 .taken)) (opened-fresh (c .before .before .before))
 
--- src/lib.rt:288:9
 pass-requires : tie.Need-pass-requires
-pass-requires c κs = ?
+pass-requires c κs = opened-fresh (c .before .before .before .before)
 
--- src/lib.rt:294:18
 sub-t9 : tie.Need-sub-t9
-sub-t9 c = ?
+sub-t9 c = frames-few _ _ (c .before .before .before .before .pass .ensures .0)
 
--- src/lib.rt:272:1
 same-length : tie.Need-same-length
 same-length c = search needs
 
--- src/lib.rt:272:1
 returns-2 : tie.Need-returns-2
-returns-2 c = ?
+returns-2 c =
+    walk-done _ _ (c .before .before .before .before .pass .ensures .0) _ _ (sym (c .before .before .before .before .before .before .before .takes-all .ensures) ∙ not-false _ (c .before .before .before .before .before .before .if1 .left))
+    (c .before .before .before .before .pass .ensures .1)
 
 pub walk-spec : {M : Type 1} → statement M
 walk-spec =
