@@ -8,3 +8,4 @@ pub mod Tables
 pub mod Counts
 pub mod Passes
 pub mod WalkLaws
+pub mod Answers
