@@ -9,3 +9,6 @@ pub mod Counts
 pub mod Passes
 pub mod WalkLaws
 pub mod Answers
+pub mod Literal
+pub mod FrameLaws
+pub mod Promises
