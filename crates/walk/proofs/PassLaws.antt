@@ -20,17 +20,12 @@ use Rattle.walk.specs.declared.Offered.{Offered}
 use Rattle.walk.specs.declared.Passed.{Passed}
 use Rattle.walk.specs.Seen.{seenOf, saysOf}
 use Rattle.walk.specs.Offers.{callsBy, answered, offerOf}
+use Rattle.walk.specs.CallLaws.{book-added}
 use Rattle.walk.specs.Onward.{Goes}
 use Rattle.walk.specs.Walk.{madeOf, recordBy, bookBy, walkOf, sights, added, accepts, framesOf}
 use Rattle.walk.specs.Tables.{notedAt, writtenFrom, noted-length}
 use Rattle.walk.specs.Counts.{each}
 use Rattle.walk.specs.Passes.{passedOf}
-
--- the calls of a reading, made on the book after some calls
-pub book-added : (channel : ℕ) (calls : Calls) (n : ℕ) (more : List Call) → answered (after channel calls) n more .book ≡ after channel (added calls more)
-unfolding answered
-book-added channel calls n [] = refl
-book-added channel calls n (call ∷ more) = book-added channel (calls ▸ call) (numberTo (after channel calls) call) more
 
 -- the walk from a place on, with the book b
 abbrev leftOf : Book → ℕ → List ℕ → Account Book Record

@@ -9,6 +9,7 @@ pub mod Counts
 pub mod Passes
 pub mod WalkLaws
 pub mod Answers
+pub mod CallLaws
 pub mod Literal
 pub mod FrameLaws
 pub mod Promises
