@@ -1,2 +1,3 @@
 pub mod PassLaws
 pub mod OneAnswer
+pub mod Demand3
