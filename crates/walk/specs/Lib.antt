@@ -13,3 +13,5 @@ pub mod CallLaws
 pub mod Literal
 pub mod FrameLaws
 pub mod Promises
+pub mod Private
+pub mod Records
