@@ -1,6 +1,7 @@
 -- What the walk of the code's promise is: document 01's walk, word for word.
-use Prim.Native.Nat.{ℕ, zero, suc, _+_, _≤_, _<_}
+use Prim.Native.Nat.{ℕ, zero, suc, _+_, _*_, _/_, _≤_, _<_}
 use mathlib.Core.Path.{_≡_, refl, sym, ap, _∙_}
+use mathlib.Core.Bool.{true, false}
 use mathlib.Core.Logic.{⊎-elim}
 use mathlib.Core.List.{List, [], _∷_}
 use native.Mathlib.Nat.{zero-add}
@@ -8,24 +9,27 @@ use native.Mathlib.Omega.{arith}
 use lib.Dec.{leb, eqb}
 use lib.ListN.{length, drop}
 use borrow.Author.Tests.{le-leb, lt-leb, eq-eqb, ne-eqb}
-use Rattle.terms.specs.Paper.{Paper, pick}
+use Rattle.terms.specs.Paper.{Paper, answer, pick, one-number}
 use Rattle.terms.specs.Cases.{less, same}
 use Rattle.frame.specs.Frame.{bodyLength, readOf}
 use Rattle.frame.specs.Search.{searchOf}
 use Rattle.frame.specs.Lowest.{Lowest, l-at, l-none, lowest}
-use Rattle.ledger.specs.State.{Book}
+use Rattle.octets.specs.Octets.{laid}
+use Rattle.ledger.specs.State.{Book, ledgerOf}
 use Rattle.ledger.specs.Calls.{fresh}
+use Rattle.ledger.specs.Papers.{paperOf, valueAt}
 use Rattle.record.specs.Record.{blankOf}
 use Rattle.steps.specs.Walk.{Sight}
 use Rattle.steps.specs.Account as Account
 use Rattle.steps.specs.Account.{accountOf}
 use Rattle.steps.specs.Literal.{fromOf, sightAt, from-end}
 use Rattle.walk.specs.declared.Seen.{Seen}
+use Rattle.walk.specs.declared.Walked.{Walked}
 use Rattle.walk.specs.Seen.{seenOf, saysOf}
 use Rattle.walk.specs.SeenLaws.{seen-answer, seen-size}
 use Rattle.walk.specs.Offers.{offerOf}
 use Rattle.walk.specs.Onward.{Goes, goes-frame, goes-found, goes-none}
-use Rattle.walk.specs.Walk.{recordBy, bookBy, sights, walkOf, accepts, refuses, framesOf, refusedOf}
+use Rattle.walk.specs.Walk.{recordBy, bookBy, sights, walkOf, accepts, refuses, framesOf, refusedOf, walkPaper, fitsIn, walkAnswer, walkBook, tableOf, walkLeaves}
 use Rattle.walk.specs.Literal.{lengthIn, ledgerAfter, frameRecord, Walk, stopped, aFrame, aRefusal, goOn, walkFrom, literalWalk}
 use Rattle.walk.specs.FrameLaws.{offer-book, frame-record, refused-book, refused-record}
 
@@ -92,3 +96,56 @@ walk-from (suc k) s p b l =
 pub literal-walk : (s : List ℕ) → literalWalk s ≡ record { records = walkOf s .records; frames = framesOf (sights s); refused = refusedOf (sights s); ledger = walkOf s .ledger }
 unfolding literalWalk Account.walkOf
 literal-walk s = walk-from (length s) s 0 (fresh 100) (omega arith)
+
+-- WHAT THE CODE'S PROMISE COMES TO, of a capture s, a buffer d that is d′ later, and the answer x
+
+-- with room for all records of the walk w: 0, its counts and its ledger, and its records one behind the other at the front of the buffer
+pub record Listed (w : Walk) (d d′ : List ℕ) (x : Walked) : Type 0 where
+  pub number : paperOf (x .answer) .number ≡ 0
+  pub records : x .records ≡ length (w .records)
+  pub frames : x .frames ≡ w .frames
+  pub refused : x .refused ≡ w .refused
+  pub ledger : x .ledger ≡ ledgerOf (w .ledger)
+  pub buffer : d′ ≡ laid 0 (tableOf (w .records)) d
+
+-- "if it can't take all of them, 8, nothing is written, and the ledger answered is the one just opened"
+pub record Untouched (d d′ : List ℕ) (x : Walked) : Type 0 where
+  pub number : paperOf (x .answer) .number ≡ 8
+  pub records : x .records ≡ 0
+  pub frames : x .frames ≡ 0
+  pub refused : x .refused ≡ 0
+  pub ledger : x .ledger ≡ ledgerOf (fresh 100)
+  pub buffer : d′ ≡ d
+
+module _ (s d d′ : List ℕ) (x : Walked) (p : walkPaper x ≡ walkAnswer s (length d)) (l : x .ledger ≡ ledgerOf (walkBook s (length d))) (o : d′ ≡ walkLeaves s d) where
+  as-many : length (literalWalk s .records) ≡ length (walkOf s .records)
+  as-many = ap (λ (w : Walk). length (w .records)) (literal-walk s)
+
+  pub with-room : 64 * length (literalWalk s .records) ≤ length d → Listed (literalWalk s) d d′ x
+  unfolding walkAnswer walkBook walkLeaves fitsIn
+  with-room h =
+      let f : leb (length (walkOf s .records)) (length d / 64) ≡ true = le-leb (length (walkOf s .records)) (length d / 64) (omega (arith, as-many)) in
+      let q : walkPaper x ≡ answer 0 (length (walkOf s .records) ∷ framesOf (sights s) ∷ refusedOf (sights s) ∷ []) = p ∙ rw f in
+      rw (literal-walk s)
+      (record {
+        number = one-number q;
+        records = ap (λ (y : Paper). valueAt y 0) q;
+        frames = ap (λ (y : Paper). valueAt y 1) q;
+        refused = ap (λ (y : Paper). valueAt y 2) q;
+        ledger = l ∙ rw f;
+        buffer = o ∙ rw f;
+      })
+
+  pub without-room : length d < 64 * length (literalWalk s .records) → Untouched d d′ x
+  unfolding walkAnswer walkBook walkLeaves fitsIn
+  without-room h =
+      let f : leb (length (walkOf s .records)) (length d / 64) ≡ false = lt-leb (length (walkOf s .records)) (length d / 64) (omega (arith, as-many)) in
+      let q : walkPaper x ≡ answer 8 (0 ∷ 0 ∷ 0 ∷ []) = p ∙ rw f in
+      record {
+        number = one-number q;
+        records = ap (λ (y : Paper). valueAt y 0) q;
+        frames = ap (λ (y : Paper). valueAt y 1) q;
+        refused = ap (λ (y : Paper). valueAt y 2) q;
+        ledger = l ∙ rw f;
+        buffer = o ∙ rw f;
+      }
