@@ -103,13 +103,13 @@ module _ (s : List ℕ) (p r : ℕ) (calls : Calls) (l : Ledger) (x : Seen) (o :
   unfolding accountOf bookBy
   left-next = rw (g .rest, ← made-is, ← xe, next-book)
 
-  frames-next : framesOf (fromOf seenOf saysOf p s) ≡ accepts x + framesOf (fromOf seenOf saysOf r s)
+  frames-next : framesOf (fromOf seenOf saysOf p s) ≡ accepts (x .answer) + framesOf (fromOf seenOf saysOf r s)
   unfolding framesOf
   frames-next = rw (g .rest, xe)
 
 pub left-step : {s out₀ out out′ : List ℕ} {p r records frames k : ℕ} {l : Ledger} {x : Seen} {o : Offered} {m : Record} (w : Left s out₀ out p records frames l)
     → x ≡ seenOf (drop p s) → (o .answer ≡ offerOf (bookOf l) x .number) × (o .ledger ≡ ledgerOf (offerOf (bookOf l) x .book))
-    → m ≡ madeOf p x (o .answer) (o .ledger .floor) (o .ledger .top) → out′ ≡ notedAt records m out → Goes s p r → k ≡ accepts x
+    → m ≡ madeOf p x (o .answer) (o .ledger .floor) (o .ledger .top) → out′ ≡ notedAt records m out → Goes s p r → k ≡ accepts (x .answer)
     → Left s out₀ out′ r (records + 1) (frames + k) (o .ledger)
 unfolding writtenFrom
 left-step {s} {out₀} {out} {out′} {p} {r} {records} {frames} {k} {l} {x} {o} {m} w xe oe me n g ke =
@@ -118,7 +118,7 @@ left-step {s} {out₀} {out} {out′} {p} {r} {records} {frames} {k} {l} {x} {o}
     record {
       inside = g .inside;
       few = omega (arith, g .further, w .few);
-      frames-few = omega (arith, w .frames-few, each x);
+      frames-few = omega (arith, w .frames-few, each (x .answer));
       room = ap length n ∙ noted-length records m out ∙ w .room;
       calls = added (w .calls) (callsBy x);
       ledger-is = ledger-next s p r (w .calls) l x o m (w .ledger-is) xe (oe .0) (oe .1) me g;

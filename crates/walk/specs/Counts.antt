@@ -15,11 +15,11 @@ one : (b : Bool) → pick b 1 0 + pick b 0 1 ≡ 1
 one true = refl
 one false = refl
 
-pub each : (x : Seen) → accepts x + refuses x ≡ 1
+pub each : (reading : ℕ) → accepts reading + refuses reading ≡ 1
 unfolding accepts refuses
-each x = one (eqb (x .answer) 0)
+each reading = one (eqb reading 0)
 
 pub counts : (xs : List (Sight Seen)) → framesOf xs + refusedOf xs ≡ length xs
 unfolding framesOf refusedOf
 counts [] = refl
-counts (x ∷ xs) = omega (arith, each (x .read), counts xs)
+counts (x ∷ xs) = omega (arith, each (x .read .answer), counts xs)

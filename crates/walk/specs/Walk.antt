@@ -74,19 +74,19 @@ callsOf s = callsFrom none (sights s)
 -- ---- counts
 
 -- "`frames` counts readings answered 0, `refused` recorded reading refusals only"
-unfoldable pub accepts : Seen → ℕ
-accepts x = pick (eqb (x .answer) 0) 1 0
+unfoldable pub accepts : ℕ → ℕ
+accepts reading = pick (eqb reading 0) 1 0
 
-unfoldable pub refuses : Seen → ℕ
-refuses x = pick (eqb (x .answer) 0) 0 1
+unfoldable pub refuses : ℕ → ℕ
+refuses reading = pick (eqb reading 0) 0 1
 
 unfoldable pub framesOf : List (Sight Seen) → ℕ
 framesOf [] = 0
-framesOf (x ∷ xs) = accepts (x .read) + framesOf xs
+framesOf (x ∷ xs) = accepts (x .read .answer) + framesOf xs
 
 unfoldable pub refusedOf : List (Sight Seen) → ℕ
 refusedOf [] = 0
-refusedOf (x ∷ xs) = refuses (x .read) + refusedOf xs
+refusedOf (x ∷ xs) = refuses (x .read .answer) + refusedOf xs
 
 -- ---- what the walk answers and leaves
 

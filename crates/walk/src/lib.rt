@@ -215,11 +215,11 @@ fn note(out: &mut [u8], k: usize, r: Record)
     }
 }
 
-// 1 for a frame, whatever the ledger says to it; 0 for a refused reading.
-fn accepted(seen: Seen) -> usize
-    ensures { λ r. ⌜ r ≡ accepts seen ⌝ }
+// 1 for a reading that answered 0, else 0.
+fn accepted(answer: u32) -> usize
+    ensures { λ r. ⌜ r ≡ accepts answer ⌝ }
 {
-    if seen.answer == 0 { 1 } else { 0 }
+    if answer == 0 { 1 } else { 0 }
 }
 
 // The walk from a ledger just opened. It counts every record, and writes those that have room.
@@ -237,7 +237,7 @@ fn pass(capture: &[u8], start: Ledger, out: &mut [u8]) -> Passed
         note(out, records, made(p as u64, seen, after));
         p = onward(capture, p, seen);
         records += 1;
-        frames += accepted(seen);
+        frames += accepted(seen.answer);
         ledger = after.ledger;
     }
     Passed {
