@@ -1,17 +1,16 @@
 -- Demand 3 of the walk's ledger: it is the fresh ledger of channel 100 after the calls that the capture's readings make. Assumes nothing.
-use mathlib.Core.Path.{_≡_, sym, ap, ap₂, _∙_}
-use mathlib.Core.Bool.{Bool, _&&_, not}
+use mathlib.Core.Path.{_≡_, sym, ap, _∙_}
+use mathlib.Core.Bool.{not}
 use mathlib.Core.List.{List, [], _∷_}
-use Prim.Native.Nat.{ℕ, _+_, _<_, _≤_}
+use Prim.Native.Nat.{ℕ, _+_, _≤_}
 use native.Mathlib.Omega.{arith}
-use lib.Dec.{leb}
 use borrow.Author.Tests.{le-leb}
 use Rattle.terms.specs.Paper.{answer}
 use Rattle.map.proofs.Digits.{tally-ext}
-use Rattle.ledger.specs.State.{Book, bookOf, ledgerOf}
+use Rattle.ledger.specs.State.{bookOf, ledgerOf}
 use Rattle.ledger.specs.Calls.{Missing, answerTo}
 use Rattle.ledger.specs.Trace.{after, History, trace}
-use Rattle.ledger.specs.Words.{received, knownTop, missing, one, count}
+use Rattle.ledger.specs.Words.{knownTop, missing, one, count}
 use Rattle.ledger.specs.Demand3.{Demand3}
 use Rattle.ledger.specs.declared.Ledger.{Ledger}
 use Rattle.ledger.proofs.Agree.{agrees}

@@ -1,6 +1,6 @@
 -- For each public function: two answers that its promise allows are equal; where it is lent a buffer, so are two later contents of it, and a
 -- refusal leaves it as it was. Assumes nothing.
-use mathlib.Core.Path.{_≡_, sym, ap, ap₂, _∙_}
+use mathlib.Core.Path.{sym, ap₂, _∙_}
 use Prim.Native.Nat.{ℕ}
 use denote.Ref.{now}
 use Rattle.terms.specs.OneAnswer.{OneAnswer}

@@ -1,13 +1,13 @@
 -- The walk's loop: behind what is done, what is left at a place gives what the whole walk gives. Assumes nothing.
-use Prim.Native.Nat.{ℕ, _+_, _/_, _≤_, _<_}
-use mathlib.Core.Path.{_≡_, refl, sym, ap, ap₂, _∙_}
+use Prim.Native.Nat.{ℕ, _+_, _≤_}
+use mathlib.Core.Path.{_≡_, refl, ap, _∙_}
 use mathlib.Core.List.{List, [], _∷_}
 use native.Mathlib.Omega.{arith}
 use lib.ListN.{length, drop}
 use Rattle.terms.specs.Counters.{tickOf}
 use Rattle.ledger.specs.State.{Book, bookOf, ledgerOf}
-use Rattle.ledger.specs.Calls.{Call, numberTo, fresh}
-use Rattle.ledger.specs.Trace.{Calls, none, _▸_, after}
+use Rattle.ledger.specs.Calls.{fresh}
+use Rattle.ledger.specs.Trace.{Calls, none, after}
 use Rattle.ledger.specs.declared.Ledger.{Ledger}
 use Rattle.ledger.proofs.Agree.{agrees}
 use Rattle.ledger.proofs.Seam.{book-of}
@@ -19,7 +19,7 @@ use Rattle.walk.specs.declared.Seen.{Seen}
 use Rattle.walk.specs.declared.Offered.{Offered}
 use Rattle.walk.specs.declared.Passed.{Passed}
 use Rattle.walk.specs.Seen.{seenOf, saysOf}
-use Rattle.walk.specs.Offers.{callsBy, answered, offerOf}
+use Rattle.walk.specs.Offers.{callsBy, offerOf}
 use Rattle.walk.specs.CallLaws.{book-added}
 use Rattle.walk.specs.Onward.{Goes}
 use Rattle.walk.specs.Walk.{madeOf, recordBy, bookBy, walkOf, sights, added, accepts, framesOf}

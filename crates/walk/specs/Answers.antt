@@ -4,16 +4,15 @@ use mathlib.Core.Path.{_≡_, sym, ap, _∙_}
 use mathlib.Core.Bool.{true, false}
 use mathlib.Core.Logic.{⊎-elim}
 use mathlib.Core.List.{List, [], _∷_}
-use native.Mathlib.Omega.{arith}
 use lib.ListN.{length}
 use Rattle.terms.specs.Paper.{Paper, answer, one-number}
 use Rattle.terms.specs.Cases.{two}
-use Rattle.terms.specs.Refusals.{numberOf, refusal-pos}
+use Rattle.terms.specs.Refusals.{refusal-pos}
 use Rattle.terms.specs.declared.Refusal.{Refusal}
 use Rattle.ledger.specs.declared.Answer.{Answer}
 use Rattle.ledger.specs.declared.Answer.the-variants.{Refused}
 use Rattle.ledger.specs.declared.Ledger.{Ledger}
-use Rattle.ledger.specs.Papers.{paperOf, countPaper, count-paper-one, valueAt}
+use Rattle.ledger.specs.Papers.{paperOf, count-paper-one, valueAt}
 use Rattle.walk.specs.declared.Walked.{Walked}
 use Rattle.walk.specs.Walk.{fitsIn, walkPaper, walkAnswer, walkLeaves}
 

@@ -1,6 +1,6 @@
 -- The walk's ledger is the fresh one after the calls that its readings make; and what those calls receive, its records tell.
 use Prim.Native.Nat.{ℕ}
-use mathlib.Core.Path.{_≡_, refl, sym, ap, ap₂, _∙_}
+use mathlib.Core.Path.{_≡_, refl, _∙_}
 use mathlib.Core.Bool.{Bool, true, false, _&&_}
 use mathlib.Core.Logic.{⊎-elim}
 use mathlib.Core.List.{List, [], _∷_}
@@ -10,8 +10,8 @@ use Rattle.terms.specs.Cases.{same}
 use Rattle.rules.specs.Table.{kindOf}
 use Rattle.rules.specs.declared.Kind.{Kind}
 use Rattle.rules.specs.declared.Kind.the-variants.{S001, S002, S003, P001, P002, M101, M102, M201, Unknown}
-use Rattle.ledger.specs.State.{Book, orElse}
-use Rattle.ledger.specs.Calls.{Call, Tick, numberTo, answerTo, nextOf, fresh}
+use Rattle.ledger.specs.State.{orElse}
+use Rattle.ledger.specs.Calls.{Call, numberTo, answerTo, fresh}
 use Rattle.ledger.specs.Trace.{Calls, none, _▸_, after, trace}
 use Rattle.ledger.specs.Words.{received}
 use Rattle.record.specs.declared.Record.{Record}

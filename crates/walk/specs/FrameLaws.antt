@@ -2,9 +2,9 @@
 use Prim.Native.Nat.{ℕ, _+_, _≤_}
 use mathlib.Core.Path.{_≡_, refl, sym, ap, ap₂, _∙_}
 use mathlib.Core.Bool.{true}
-use mathlib.Core.List.{List, [], _∷_}
+use mathlib.Core.List.{List}
 use native.Mathlib.Omega.{arith}
-use lib.ListN.{length, take, drop}
+use lib.ListN.{drop}
 use borrow.Author.Tests.{eqb-true, leb-true}
 use Rattle.terms.specs.Counters.{tickOf, channelOf}
 use Rattle.octets.specs.Octets.{be}
@@ -12,7 +12,7 @@ use Rattle.octets.specs.Numerals.{numeral-drop, numeral-take}
 use Rattle.rules.specs.Table.{kindOf, suits}
 use Rattle.rules.specs.declared.Kind.{Kind}
 use Rattle.rules.specs.declared.Kind.the-variants.{S001, S002, S003, P001, P002, M101, M102, M201, Unknown}
-use Rattle.frame.specs.Frame.{msgType, bodyLength, body, readOf}
+use Rattle.frame.specs.Frame.{bodyLength, body, readOf}
 use Rattle.frame.specs.View.{viewOf}
 use Rattle.frame.specs.Measures.{fits}
 use Rattle.frame.specs.Outcomes.{good}
@@ -21,7 +21,7 @@ use Rattle.record.specs.Record.{blankOf}
 use Rattle.terms.specs.declared.ChannelNumber.{ChannelNumber}
 use Rattle.terms.specs.declared.TickNumber.{TickNumber}
 use Rattle.walk.specs.declared.Seen.{Seen}
-use Rattle.walk.specs.Seen.{shown, blank, seenOf}
+use Rattle.walk.specs.Seen.{seenOf}
 use Rattle.walk.specs.SeenLaws.{seen-frame, seen-blank, seen-answer}
 use Rattle.walk.specs.Offers.{callsFor, callsBy, Offer, answered, offerOf}
 use Rattle.walk.specs.OfferLaws.{calls-refused, calls-of}

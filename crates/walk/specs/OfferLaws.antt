@@ -1,6 +1,6 @@
 -- Each offer from the facts that lead to it.
 use mathlib.Core.Path.{_≡_}
-use mathlib.Core.List.{List, [], _∷_}
+use mathlib.Core.List.{[], _∷_}
 use borrow.Author.Tests.{eq-eqb, ne-eqb}
 use Rattle.rules.specs.Table.{kindOf}
 use Rattle.rules.specs.declared.Kind.{Kind}

@@ -1,10 +1,9 @@
 -- Nothing private is seen: frames that agree in all but private fields and checksum are seen alike. Records and ledger calls are made of what is
 -- seen, by the types of `recordBy : Book → Sight Seen → Record` and `callsBy : Seen → List Call`: so they are alike too.
 use Prim.Native.Nat.{ℕ, _+_, _≤_}
-use mathlib.Core.Path.{_≡_, refl, sym, ap, _∙_}
+use mathlib.Core.Path.{_≡_, sym, ap, _∙_}
 use mathlib.Core.List.{List}
 use native.Mathlib.Omega.{arith}
-use lib.ListN.{take}
 use Rattle.octets.specs.Octets.{be}
 use Rattle.octets.specs.Numerals.{numeral-take}
 use Rattle.rules.specs.Table.{kindOf}

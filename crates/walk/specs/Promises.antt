@@ -6,12 +6,12 @@ use mathlib.Core.Logic.{⊎-elim}
 use mathlib.Core.List.{List, [], _∷_}
 use native.Mathlib.Nat.{zero-add}
 use native.Mathlib.Omega.{arith}
-use lib.Dec.{leb, eqb}
+use lib.Dec.{leb}
 use lib.ListN.{length, drop}
 use borrow.Author.Tests.{le-leb, lt-leb, eq-eqb, ne-eqb}
-use Rattle.terms.specs.Paper.{Paper, answer, pick, one-number}
+use Rattle.terms.specs.Paper.{Paper, answer, one-number}
 use Rattle.terms.specs.Cases.{less, same}
-use Rattle.frame.specs.Frame.{bodyLength, readOf}
+use Rattle.frame.specs.Frame.{readOf}
 use Rattle.frame.specs.Search.{searchOf}
 use Rattle.frame.specs.Lowest.{Lowest, l-at, l-none, lowest}
 use Rattle.octets.specs.Octets.{laid}
@@ -27,7 +27,6 @@ use Rattle.walk.specs.declared.Seen.{Seen}
 use Rattle.walk.specs.declared.Walked.{Walked}
 use Rattle.walk.specs.Seen.{seenOf, saysOf}
 use Rattle.walk.specs.SeenLaws.{seen-answer, seen-size}
-use Rattle.walk.specs.Offers.{offerOf}
 use Rattle.walk.specs.Onward.{Goes, goes-frame, goes-found, goes-none}
 use Rattle.walk.specs.Walk.{recordBy, bookBy, sights, walkOf, accepts, refuses, framesOf, refusedOf, walkPaper, fitsIn, walkAnswer, walkBook, tableOf, walkLeaves}
 use Rattle.walk.specs.Literal.{lengthIn, ledgerAfter, frameRecord, Walk, stopped, aFrame, aRefusal, goOn, walkFrom, literalWalk}

@@ -1,7 +1,7 @@
 -- What the records of a walk are, all together: each is a frame's, with its numbers, or a refusal's, which shows no byte of it; their places rise;
 -- no frame is lost.
 use Prim.Native.Nat.{ℕ, zero, suc, _+_, _-_, _≤_, _<_}
-use mathlib.Core.Path.{_≡_, refl, sym, ap, _∙_}
+use mathlib.Core.Path.{_≡_, refl, ap, _∙_}
 use mathlib.Core.Logic.{_⊎_, inl, inr, ⊎-elim}
 use mathlib.Core.List.{List, [], _∷_}
 use native.Mathlib.Omega.{arith}
@@ -15,13 +15,13 @@ use Rattle.ledger.specs.State.{Book}
 use Rattle.ledger.specs.Calls.{fresh}
 use Rattle.record.specs.declared.Record.{Record}
 use Rattle.record.specs.Record.{blankOf}
-use Rattle.steps.specs.Walk.{Sight, frame, within}
+use Rattle.steps.specs.Walk.{Sight, within}
 use Rattle.steps.specs.Account as Account
 use Rattle.steps.specs.Account.{accountOf}
 use Rattle.steps.specs.Seen.{Rising, r-nil, r-cons, places-rise, Has, h-at, h-in, h-later, none-lost}
 use Rattle.walk.specs.declared.Seen.{Seen}
 use Rattle.walk.specs.Seen.{seenOf, saysOf}
-use Rattle.walk.specs.SeenLaws.{says-frame, frame-says, seen-answer, seen-size}
+use Rattle.walk.specs.SeenLaws.{says-frame, frame-says, seen-answer}
 use Rattle.walk.specs.Walk.{madeOf, recordBy, bookBy, sights, walkOf}
 use Rattle.walk.specs.Literal.{lengthIn, ledgerAfter, frameRecord, Walk, stopped, goOn, walkFrom, literalWalk}
 use Rattle.walk.specs.Promises.{literal-walk}

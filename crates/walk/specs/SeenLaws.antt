@@ -1,11 +1,11 @@
 -- What is seen from the facts that lead to it, and the laws of reading as `steps` wants them.
 use Prim.Native.Nat.{ℕ, _+_, _≤_}
 use mathlib.Core.Path.{_≡_, refl, sym, ap, _∙_}
-use mathlib.Core.Bool.{true, false}
+use mathlib.Core.Bool.{false}
 use mathlib.Core.Logic.{⊎-elim}
 use mathlib.Core.List.{List, [], _∷_, _++_}
 use native.Mathlib.Omega.{arith}
-use lib.ListN.{length, getD, take, drop, length-drop}
+use lib.ListN.{length, getD, drop, length-drop}
 use lib.Seq.{take-append-le, drop-append-le}
 use borrow.Author.Tests.{eq-eqb, ne-eqb}
 use Rattle.terms.specs.Paper.{Paper, answer, refusal, one-number}
@@ -67,9 +67,6 @@ says-more x z = rw z
 pub says-bad : (x : Seen) → (x .answer ≡ 0 → ⊥) → (x .answer ≡ 1 → ⊥) → saysOf x ≡ bad
 unfolding saysOf
 says-bad x ne nm = rw (ne-eqb (x .answer) 0 ne, ne-eqb (x .answer) 1 nm)
-
-frame-bad : (w : Says) (n : ℕ) → w ≡ frame n → w ≡ bad → ⊥
-frame-bad w n e f = let z : _≡_ {A = ℕ} 0 1 = cc in omega arith
 
 frame-more : (w : Says) (n : ℕ) → w ≡ frame n → w ≡ more → ⊥
 frame-more w n e f = let z : _≡_ {A = ℕ} 0 1 = cc in omega arith

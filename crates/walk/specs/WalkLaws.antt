@@ -9,7 +9,7 @@ use lib.ListN.{length}
 use borrow.Author.Tests.{le-leb, leb-true}
 use Rattle.terms.specs.Paper.{answer}
 use Rattle.octets.specs.Octets.{laid}
-use Rattle.ledger.specs.State.{Book, ledgerOf}
+use Rattle.ledger.specs.State.{ledgerOf}
 use Rattle.ledger.specs.Calls.{fresh}
 use Rattle.ledger.specs.declared.Ledger.{Ledger}
 use Rattle.steps.specs.Account as Account

@@ -2,7 +2,6 @@
 -- whole walk gives (`Left`). The measure is what is left of the capture. Assumes nothing.
 use native.Mathlib.Omega.{arith}
 use Prim.Native.Nat.{_-_}
-use mathlib.Core.Path.{_≡_, sym, ap, _∙_}
 use lib.ListN.{length}
 use borrow.Author.Needs.{needs}
 use Rattle.walk.specs.Counts.{each}
