@@ -1,9 +1,8 @@
--- A number of 64 bits laid as text where there is room for 20 digits: it is laid whole.
+-- How many digits a number has at most; and a number laid as text where there is room for them: it is laid whole.
 use Prim.Native.Nat.{ℕ, _+_, _<_, _≤_, _^_}
 use mathlib.Core.Path.{_≡_, sym, ap, _∙_}
 use mathlib.Core.List.{[], _∷_}
 use native.Mathlib.Omega.{arith}
-use lib.Dec.{lit≤}
 use lib.ListN.{length, getD}
 use borrow.Author.Tests.{le-leb}
 use Rattle.terms.specs.Paper.{Paper, answer}
@@ -13,8 +12,8 @@ use Rattle.octets.specs.Papers.{writtenPaper, Refuses, roomFor, room-there}
 use Rattle.digits.specs.Digits.{widthOf}
 use Rattle.digits.specs.Widths.{width-of, width-most}
 
-pub few-digits : (v : ℕ) → v < 10 ^ 20 → widthOf v ≤ 20
-few-digits v h = width-most 20 (width-of v h) (lit≤ tt) h
+pub few-digits : (w v : ℕ) → 1 ≤ w → v < 10 ^ 20 → v < 10 ^ w → widthOf v ≤ w
+few-digits w v p h k = width-most w (width-of v h) p k
 
 module _ (at n len : ℕ) (w : Written) (h : at + n ≤ len) (p : writtenPaper w ≡ roomFor at n len) where
   all-written : writtenPaper w ≡ answer 0 (n ∷ [])

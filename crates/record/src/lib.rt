@@ -1,7 +1,6 @@
 // The fault record of 64 bytes, made and read back; its line of the listing, and the listing's last line.
 // Every function takes all input. What is written is made aside first: without room nothing is written and the answer is 8.
 ghost use mathlib.Core.Path.{_≡_};
-ghost use mathlib.Core.List.{_++_};
 ghost use Prim.Native.Nat.{_+_, _≤_};
 ghost use lib.ListN.{length, take};
 ghost use Rattle.octets.specs.Papers.{writtenPaper, roomFor, laidIfRoom};
@@ -35,9 +34,10 @@ pub struct Summary {
     pub missing: u64,
 }
 
-// The type of a refused reading, four spaces, and what stands for it in a line.
+// The type of a refused reading: four spaces.
 const BLANK: u32 = 0x20202020;
 
+// What stands for it in a line.
 const DASHES: u32 = 0x2D2D2D2D;
 
 // Lays the first n bytes of src over out from at on.
@@ -179,8 +179,8 @@ pub fn put_line(out: &mut [u8], at: usize, r: Record) -> Written
 {
     let mut d: [u8; 160] = [0; 160];
     let a = store_columns(&mut d, r);
-    let n = store_last(&mut d, a, r);
-    lay_front(out, at, &d, n)
+    let e = store_last(&mut d, a, r);
+    lay_front(out, at, &d, e)
 }
 
 // Lays a word, its number and the byte behind it over d from at on, and gives the place behind them.

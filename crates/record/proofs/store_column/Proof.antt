@@ -22,7 +22,7 @@ enum-known-n c = search needs
 
 -- no more than 20 digits, and so there is room for them all
 few : (c : tie.After-known-told) → widthOf (c .before .before .before .before .before .before .before .before .args .v) ≤ 20
-few c = few-digits _ (omega arith)
+few c = few-digits 20 _ (omega arith) (omega arith) (omega arith)
 
 long : (c : tie.After-known-told) → c .before .n .given .0 .0 ≡ widthOf (c .before .before .before .before .before .before .before .before .args .v)
 long c = as-many _ _ _ _ (omega (arith, few c)) (c .before .before .before .before .before .put-decimal .ensures .0) _ (c .before .n .given .1)
@@ -42,7 +42,7 @@ same-length c = search needs
 returns : tie.Need-returns
 returns c =
     let told = c .enum-told .given in
-    absurd (not-refused _ _ _ _ (omega (arith, few-digits (c .before .before .before .before .before .before .before .args .v) (omega arith))) (c .before .before .before .before .put-decimal .ensures .0) (told .0 .0, told .1))
+    absurd (not-refused _ _ _ _ (omega (arith, few-digits 20 (c .before .before .before .before .before .before .before .args .v) (omega arith) (omega arith) (omega arith))) (c .before .before .before .before .put-decimal .ensures .0) (told .0 .0, told .1))
 
 same-length-2 : tie.Need-same-length-2
 same-length-2 c = search needs

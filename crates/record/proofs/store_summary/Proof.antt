@@ -1,5 +1,5 @@
 -- `store_summary`: five words with their numbers, each laid just behind the one before. Assumes nothing.
-use Rattle.record.specs.Text.{summaryOf}
+use Rattle.record.specs.Text.{space, frames, refused, named, summaryOf}
 use Rattle.record.specs.Stored.{stored-both}
 use borrow.Author.Needs.{needs}
 use Rattle.record.proofs.store_summary.Statement.{statement}
@@ -52,9 +52,10 @@ returns c =
     let p3 = p4 .before .before .before .before .before .before in
     let p2 = p3 .before .before .before .before .before .before in
     let p1 = p2 .before .before .before .before .before in
+    let s = p1 .before .before .before .before .args .s in
     rw (← p3 .before .value .ensures, ← p4 .before .value2 .ensures)
-    (stored-both (p1 .store-named .ensures .0)
-    (stored-both (p2 .store-named2 .ensures .0)
+    (stored-both {bs = named frames (s .frames) space} (p1 .store-named .ensures .0)
+    (stored-both {bs = named refused (s .refused) space} (p2 .store-named2 .ensures .0)
     (stored-both (p3 .store-named3 .ensures .0)
     (stored-both (p4 .store-named4 .ensures .0)
     (p5 .store-named5 .ensures .0)))))
