@@ -24,7 +24,7 @@ use Rattle.walk.specs.CallLaws.{book-added}
 use Rattle.walk.specs.Onward.{Goes}
 use Rattle.walk.specs.Walk.{madeOf, recordBy, bookBy, walkOf, sights, added, accepts, framesOf}
 use Rattle.walk.specs.Tables.{notedAt, writtenFrom, noted-length}
-use Rattle.walk.specs.Counts.{each}
+use Rattle.walk.specs.Counts.{accepts-one}
 use Rattle.walk.specs.Passes.{passedOf}
 
 -- the walk from a place on, with the book b
@@ -118,7 +118,7 @@ left-step {s} {out₀} {out} {out′} {p} {r} {records} {frames} {k} {l} {x} {o}
     record {
       inside = g .inside;
       few = omega (arith, g .further, w .few);
-      frames-few = omega (arith, w .frames-few, each (x .answer));
+      frames-few = omega (arith, w .frames-few, accepts-one (x .answer) k ke);
       room = ap length n ∙ noted-length records m out ∙ w .room;
       calls = added (w .calls) (callsBy x);
       ledger-is = ledger-next s p r (w .calls) l x o m (w .ledger-is) xe (oe .0) (oe .1) me g;

@@ -1,5 +1,5 @@
 -- Each reading is a frame or refused, and so the counts make all records.
-use Prim.Native.Nat.{ℕ, _+_}
+use Prim.Native.Nat.{ℕ, _+_, _≤_}
 use mathlib.Core.Path.{_≡_, refl}
 use mathlib.Core.Bool.{Bool, true, false}
 use mathlib.Core.List.{List, [], _∷_}
@@ -18,6 +18,9 @@ one false = refl
 pub each : (reading : ℕ) → accepts reading + refuses reading ≡ 1
 unfolding accepts refuses
 each reading = one (eqb reading 0)
+
+pub accepts-one : (reading n : ℕ) → n ≡ accepts reading → n ≤ 1
+accepts-one reading n e = omega (arith, each reading)
 
 pub counts : (xs : List (Sight Seen)) → framesOf xs + refusedOf xs ≡ length xs
 unfolding framesOf refusedOf

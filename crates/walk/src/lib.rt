@@ -85,6 +85,8 @@ pub fn see(bytes: &[u8], at: usize) -> Seen
             let view = frame::view_of(rules::kind_of(msg_type), &bytes[first..behind]);
             let channel = view.channel;
             let tick = view.tick;
+            let length = body_len as u32;
+            let size = 28 + body_len;
             Seen {
                 answer: 0,
                 msg_type,
@@ -92,8 +94,8 @@ pub fn see(bytes: &[u8], at: usize) -> Seen
                 channel,
                 tick,
                 status: view.status,
-                body_len: body_len as u32,
-                size: 28 + body_len,
+                body_len: length,
+                size,
             }
         }
     }

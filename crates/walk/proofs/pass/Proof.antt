@@ -4,7 +4,7 @@ use native.Mathlib.Omega.{arith}
 use Prim.Native.Nat.{_-_}
 use lib.ListN.{length}
 use borrow.Author.Needs.{needs}
-use Rattle.walk.specs.Counts.{each}
+use Rattle.walk.specs.Counts.{accepts-one}
 use Rattle.walk.proofs.PassLaws.{Left, left-start, left-step, left-end}
 use Rattle.walk.proofs.pass.Statement.{statement}
 use Rattle.walk.proofs.pass.Tie as tie
@@ -40,7 +40,7 @@ accepted-requires : tie.Need-accepted-requires Inv-loop μ-loop
 accepted-requires c κs = search needs
 
 add-frames : tie.Need-add-frames Inv-loop μ-loop
-add-frames c = omega (arith, c .before .before .before .before .before .before .before .before .before .before .loop .inv .few, c .before .before .before .before .before .before .before .before .before .before .loop .inv .frames-few, each (c .before .before .before .before .before .before .before .before .see .result .answer))
+add-frames c = omega (arith, c .before .before .before .before .before .before .before .before .before .before .loop .inv .few, c .before .before .before .before .before .before .before .before .before .before .loop .inv .frames-few, accepts-one _ _ (c .accepted .ensures))
 
 loop-less : tie.Need-loop-less Inv-loop μ-loop
 loop-less c = omega (arith, c .before .before .onward .ensures .further, c .before .before .onward .ensures .inside)

@@ -81,11 +81,11 @@ part-view-of-end c = omega (arith, inside (c .before .before))
 view-of-requires : tie.Need-view-of-requires
 view-of-requires c κs = search needs
 
-cast-t23 : tie.Need-cast-t23
-cast-t23 c = omega (arith, small (c .before .before .before .before .before .before))
+cast-length : tie.Need-cast-length
+cast-length c = omega (arith, small (c .before .before .before .before .before .before))
 
-add-t20 : tie.Need-add-t20
-add-t20 c = omega (arith, small (c .before .before .before .before .before .before))
+add-size : tie.Need-add-size
+add-size c = omega (arith, small (c .before .before .before .before .before .before))
 
 returns : tie.Need-returns
 returns c =
@@ -118,7 +118,7 @@ see-spec =
     part-view-of-start
     part-view-of-end
     view-of-requires
-    cast-t23
-    add-t20
+    cast-length
+    add-size
     returns
     returns-2)
