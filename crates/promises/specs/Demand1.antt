@@ -49,6 +49,7 @@ use Rattle.map.proofs.OneAnswer as map
 use Rattle.ledger.proofs.OneAnswer as ledger
 use Rattle.record.proofs.OneAnswer as «record»
 use Rattle.view.proofs.OneAnswer as view
+use Rattle.walk.proofs.OneAnswer as walk
 
 -- "EVERY PUBLIC ENTRY POINT TAKES ALL INPUT": of each public function, the theorem that its promise fixes the answer for all input.
 -- (tools/promises compares these lists with the public functions.)
@@ -173,6 +174,14 @@ view-answers =
     let view-of-one-answer = view.view-of-one-answer in
     named
 
+-- walk
+walk-answers : Named
+walk-answers =
+    let see-one-answer = walk.see-one-answer in
+    let offer-one-answer = walk.offer-one-answer in
+    let walk-one-answer = walk.walk-one-answer in
+    named
+
 -- "AND REFUSES WHAT IT CAN'T USE WITH A NUMBER FROM DOCUMENT 01"
 
 -- the numbers of document 01's table: 1 to 6, 8 to 18, 20
@@ -279,6 +288,12 @@ record-buffers =
     let put-line-refused-keeps = «record».put-line-refused-keeps in
     let put-summary-one-buffer = «record».put-summary-one-buffer in
     let put-summary-refused-keeps = «record».put-summary-refused-keeps in
+    named
+
+walk-buffers : Named
+walk-buffers =
+    let walk-one-buffer = walk.walk-one-buffer in
+    let walk-refused-keeps = walk.walk-refused-keeps in
     named
 
 -- "ONLY A TICK NUMBER TOO FAR AHEAD CHANGES THE LEDGER, AND ONLY ITS KNOWN TOP."
