@@ -15,3 +15,4 @@ pub mod FrameLaws
 pub mod Promises
 pub mod Private
 pub mod Records
+pub mod Listed
