@@ -20,7 +20,7 @@ use Rattle.record.specs.Fields.{Fits}
 use Rattle.record.specs.Back.{back}
 use Rattle.record.specs.Lengths.{line-most, summary-most}
 use Rattle.record.specs.Listing.{recordA, recordFF, recordB, summary, listing}
-use Rattle.record.specs.Text.{lineOf, summaryOf}
+use Rattle.record.specs.Text.{summaryOf}
 use Rattle.lines.specs.Listing.{recordsFrom, recordsIn, linesOf, listingOf}
 
 -- each record's numbers fit their widths
@@ -86,6 +86,13 @@ pub record LastFits (s : Summary) : Type 0 where
   pub top : s .top .0 < 256 ^ 8
   pub missing : s .missing < 256 ^ 8
 
+-- k records make at most 127 k bytes of lines
+pub lines-most : (rs : List Record) → AllFit rs → length (linesOf rs) ≤ 127 * length rs
+unfolding linesOf
+lines-most [] all-none = omega arith
+lines-most (r ∷ rs) (all-more f g) = simp length-append (omega (arith, line-most r f, lines-most rs g))
+
+-- the numbers of a record that is read fit their widths
 module _ (s : List ℕ) (b : Bytes s) where
   record-fits : (at : ℕ) → Fits (recordAt at s)
   unfolding recordAt
@@ -102,17 +109,22 @@ module _ (s : List ℕ) (b : Bytes s) where
         top = numeral-below 256 8 (at + 48) s b;
       }
 
-  from-most : (k n : ℕ) → length (linesOf (recordsFrom k n s)) ≤ 127 * n
-  unfolding recordsFrom linesOf
-  from-most k zero = omega arith
-  from-most k (suc n) = simp length-append (omega (arith, line-most (recordAt (64 * k) s) (record-fits (64 * k)), from-most (k + 1) n))
+  from-fit : (k n : ℕ) → AllFit (recordsFrom k n s)
+  unfolding recordsFrom
+  from-fit k zero = all-none
+  from-fit k (suc n) = all-more (record-fits (64 * k)) (from-fit (k + 1) n)
 
-  -- k records make at most 127 k + 138 bytes
+  from-many : (k n : ℕ) → length (recordsFrom k n s) ≡ n
+  unfolding recordsFrom
+  from-many k zero = refl
+  from-many k (suc n) = ap suc (from-many (k + 1) n)
+
+  -- and the whole listing of k records at most 127 k + 138
   pub listing-most : (last : Summary) → LastFits last → length (listingOf s last) ≤ 127 * (length s / 64) + 138
   unfolding listingOf recordsIn
   listing-most last f =
       simp length-append
-      (omega (arith, from-most 0 (length s / 64), summary-most last (f .frames) (f .refused) (f .floor) (f .top) (f .missing)))
+      (omega (arith, lines-most (recordsFrom 0 (length s / 64) s) (from-fit 0 (length s / 64)), from-many 0 (length s / 64), summary-most last (f .frames) (f .refused) (f .floor) (f .top) (f .missing)))
 
 -- DOCUMENT 01'S EXAMPLE: the records of A, FF and B, and what the ledger says in the end. "the whole output is:"
 pub four-lines : listingOf (tableOf (recordA ∷ recordFF ∷ recordB ∷ [])) summary

@@ -2,15 +2,14 @@
 use Prim.Native.Nat.{ℕ, suc, _+_, _*_, _/_, _-_, _≤_, _<_}
 use mathlib.Core.Path.{_≡_, refl, sym, ap, _∙_}
 use mathlib.Core.Bool.{false}
-use mathlib.Core.List.{List, [], _++_, append-assoc}
-use native.Mathlib.Nat.{add-zero, zero-add, add-comm}
+use mathlib.Core.List.{List, _++_, append-assoc}
+use native.Mathlib.Nat.{zero-add}
 use native.Mathlib.Omega.{arith}
 use lib.Dec.{leb}
 use lib.ListN.{length, length-append}
 use borrow.Author.Tests.{lt-leb}
 use Rattle.octets.specs.Octets.{laid}
 use Rattle.octets.specs.Overlays.{laid-append, room-test}
-use Rattle.record.specs.declared.Record.{Record}
 use Rattle.record.specs.declared.Summary.{Summary}
 use Rattle.record.specs.Record.{recordAt}
 use Rattle.record.specs.Text.{lineOf, summaryOf}
