@@ -50,6 +50,7 @@ use Rattle.ledger.proofs.OneAnswer as ledger
 use Rattle.record.proofs.OneAnswer as «record»
 use Rattle.view.proofs.OneAnswer as view
 use Rattle.walk.proofs.OneAnswer as walk
+use Rattle.lines.proofs.OneAnswer as lines
 
 -- "EVERY PUBLIC ENTRY POINT TAKES ALL INPUT": of each public function, the theorem that its promise fixes the answer for all input.
 -- (tools/promises compares these lists with the public functions.)
@@ -182,6 +183,12 @@ walk-answers =
     let walk-one-answer = walk.walk-one-answer in
     named
 
+-- lines
+lines-answers : Named
+lines-answers =
+    let put-listing-one-answer = lines.put-listing-one-answer in
+    named
+
 -- "AND REFUSES WHAT IT CAN'T USE WITH A NUMBER FROM DOCUMENT 01"
 
 -- the numbers of document 01's table: 1 to 6, 8 to 18, 20
@@ -294,6 +301,12 @@ walk-buffers : Named
 walk-buffers =
     let walk-one-buffer = walk.walk-one-buffer in
     let walk-refused-keeps = walk.walk-refused-keeps in
+    named
+
+lines-buffers : Named
+lines-buffers =
+    let put-listing-one-buffer = lines.put-listing-one-buffer in
+    let put-listing-refused-keeps = lines.put-listing-refused-keeps in
     named
 
 -- "ONLY A TICK NUMBER TOO FAR AHEAD CHANGES THE LEDGER, AND ONLY ITS KNOWN TOP."

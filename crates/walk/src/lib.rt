@@ -113,16 +113,16 @@ fn ticked(ledger: Ledger, channel: ChannelNumber, tick: TickNumber) -> Offered
     ensures { λ r. ⌜ (r .answer ≡ numberTo (bookOf ledger) (Tick (channel .0) (tick .0))) × (r .ledger ≡ ledgerOf (nextOf (bookOf ledger) (Tick (channel .0) (tick .0)))) ⌝ }
 {
     let after = ledger.tick(channel, tick);
-    let next = after.next;
+    let later = after.next;
     let answer = after.answer;
     match answer {
         TickAnswer::Passed { first: _, count: _ } => Offered {
             answer: 0,
-            ledger: next,
+            ledger: later,
         },
         TickAnswer::Refused(why) => Offered {
             answer: why.number(),
-            ledger: next,
+            ledger: later,
         },
     }
 }

@@ -1,0 +1,45 @@
+-- Document 01, "Fault records and the listing": what the program prints for an input.
+use Prim.Native.Nat.{ℕ}
+use mathlib.Core.List.{List, [], _∷_, _++_}
+use lib.Dec.{leb}
+use lib.ListN.{length}
+use Rattle.terms.specs.Paper.{pick}
+use Rattle.terms.specs.Counters.{tickOf}
+use Rattle.book.specs.State.{Book}
+use Rattle.ledger.specs.State.{bookOf}
+use Rattle.book.specs.Calls.{Missing, answerTo}
+use Rattle.book.specs.Words.{valueAt}
+use Rattle.record.specs.declared.Summary.{Summary}
+use Rattle.record.specs.Text.{summaryOf}
+use Rattle.walk.specs.declared.Walked.{Walked}
+use Rattle.walk.specs.Literal.{literalWalk}
+use Rattle.lines.specs.Listing.{linesOf}
+
+-- "`missing` is the ledger's"
+abbrev pub lastAt : ℕ → ℕ → Book → Summary
+lastAt frames refused b =
+    record {
+      frames = frames;
+      refused = refused;
+      floor = tickOf (b .floor);
+      top = tickOf (b .top);
+      missing = valueAt (answerTo b Missing) 0;
+    }
+
+-- of what the code's walk hands back
+unfoldable pub lastBy : Walked → Summary
+lastBy w = lastAt (w .frames) (w .refused) (bookOf (w .ledger))
+
+-- the line of each record of document 01's walk, and the last line
+unfoldable pub listedOf : List ℕ → List ℕ
+listedOf s = linesOf (literalWalk s .records) ++ summaryOf (lastAt (literalWalk s .frames) (literalWalk s .refused) (literalWalk s .ledger))
+
+-- `capture over 65536 bytes`, and a newline
+abbrev pub over : List ℕ
+over =
+    0x63 ∷ 0x61 ∷ 0x70 ∷ 0x74 ∷ 0x75 ∷ 0x72 ∷ 0x65 ∷ 0x20 ∷ 0x6F ∷ 0x76 ∷ 0x65 ∷ 0x72 ∷ 0x20
+    ∷ 0x36 ∷ 0x35 ∷ 0x35 ∷ 0x33 ∷ 0x36 ∷ 0x20 ∷ 0x62 ∷ 0x79 ∷ 0x74 ∷ 0x65 ∷ 0x73 ∷ 0x0A ∷ []
+
+-- "The program `listing` takes at most 65,536 bytes from standard input, else prints `capture over 65536 bytes`."
+unfoldable pub outputOf : List ℕ → List ℕ
+outputOf s = pick (leb (length s) 65536) (listedOf s) over
