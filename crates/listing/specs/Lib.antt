@@ -1,3 +1,4 @@
 pub mod Output
 pub mod Fit
 pub mod Listed
+pub mod Example

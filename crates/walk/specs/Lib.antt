@@ -12,7 +12,7 @@ pub mod Answers
 pub mod CallLaws
 pub mod Literal
 pub mod FrameLaws
+pub mod Marked
 pub mod Promises
 pub mod Private
 pub mod Records
-pub mod Listed

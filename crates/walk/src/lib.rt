@@ -5,7 +5,7 @@ ghost use lib.Dec.{leb};
 ghost use lib.ListN.{length, drop};
 ghost use Rattle.ledger.specs.State.{bookOf, ledgerOf};
 ghost use Rattle.book.specs.Calls.{Tick, Announce, numberTo, nextOf, fresh};
-ghost use Rattle.walk.specs.Seen.{seenOf};
+ghost use Rattle.walk.specs.Seen.{blank, seenOf};
 ghost use Rattle.walk.specs.Offers.{offerOf};
 ghost use Rattle.walk.specs.Onward.{Goes};
 ghost use Rattle.walk.specs.Walk.{madeOf, accepts, walkOf, fitsIn, walkPaper, walkAnswer, walkBook, walkLeaves};
@@ -59,21 +59,28 @@ struct Passed {
     ledger: Ledger,
 }
 
+// A refused reading: its number, four spaces, and zeros. No byte of it is handed on.
+fn blank(answer: u32) -> Seen
+    ensures { λ r. ⌜ r ≡ blank answer ⌝ }
+{
+    Seen {
+        answer,
+        msg_type: 0x20202020,
+        seq: SessionNumber::new(0),
+        channel: ChannelNumber::new(0),
+        tick: TickNumber::new(0),
+        status: 0,
+        body_len: 0,
+        size: 0,
+    }
+}
+
 // The reading at a place. A place beyond the end reads as no bytes: 1.
 pub fn see(bytes: &[u8], at: usize) -> Seen
     ensures { λ r. ⌜ r ≡ seenOf (drop at (now (bytes .entry))) ⌝ }
 {
     match frame::read_at(bytes, at) {
-        Read::Refused(why) => Seen {
-            answer: why.number(),
-            msg_type: 0x20202020,
-            seq: SessionNumber::new(0),
-            channel: ChannelNumber::new(0),
-            tick: TickNumber::new(0),
-            status: 0,
-            body_len: 0,
-            size: 0,
-        },
+        Read::Refused(why) => blank(why.number()),
         Read::Frame {
             msg_type,
             sending_time: _,
@@ -112,17 +119,17 @@ fn kept(ledger: Ledger, answer: u32) -> Offered
 fn ticked(ledger: Ledger, channel: ChannelNumber, tick: TickNumber) -> Offered
     ensures { λ r. ⌜ (r .answer ≡ numberTo (bookOf ledger) (Tick (channel .0) (tick .0))) × (r .ledger ≡ ledgerOf (nextOf (bookOf ledger) (Tick (channel .0) (tick .0)))) ⌝ }
 {
-    let after = ledger.tick(channel, tick);
-    let later = after.next;
-    let answer = after.answer;
+    let ticked = ledger.tick(channel, tick);
+    let next = ticked.next;
+    let answer = ticked.answer;
     match answer {
         TickAnswer::Passed { first: _, count: _ } => Offered {
             answer: 0,
-            ledger: later,
+            ledger: next,
         },
         TickAnswer::Refused(why) => Offered {
             answer: why.number(),
-            ledger: later,
+            ledger: next,
         },
     }
 }
@@ -131,9 +138,9 @@ fn ticked(ledger: Ledger, channel: ChannelNumber, tick: TickNumber) -> Offered
 fn announced(ledger: Ledger, channel: ChannelNumber, last: TickNumber) -> Offered
     ensures { λ r. ⌜ (r .answer ≡ numberTo (bookOf ledger) (Announce (channel .0) (last .0))) × (r .ledger ≡ ledgerOf (nextOf (bookOf ledger) (Announce (channel .0) (last .0)))) ⌝ }
 {
-    let after = ledger.announce(channel, last);
-    let next = after.next;
-    let answer = after.answer;
+    let noted = ledger.announce(channel, last);
+    let next = noted.next;
+    let answer = noted.answer;
     match answer {
         Answer::Done => Offered {
             answer: 0,

@@ -13,6 +13,7 @@ use Rattle.view.specs.View.{viewOf}
 use Rattle.wire.specs.Outcomes.{good, read-done, read-length}
 use Rattle.wire.specs.Measures.{fits}
 use Rattle.wire.specs.Places.{part-body, inside-at}
+use Rattle.walk.specs.Seen.{blank}
 use Rattle.walk.specs.SeenLaws.{seen-refused, seen-read}
 use Rattle.walk.proofs.see.Statement.{statement}
 use Rattle.walk.proofs.see.Tie as tie
@@ -48,14 +49,8 @@ enum-known-why c = search needs
 number-requires : tie.Need-number-requires
 number-requires c κs = search needs
 
-new-requires : tie.Need-new-requires
-new-requires c κs = search needs
-
-new-requires-2 : tie.Need-new-requires-2
-new-requires-2 c κs = search needs
-
-new-requires-3 : tie.Need-new-requires-3
-new-requires-3 c κs = search needs
+blank-requires : tie.Need-blank-requires
+blank-requires c κs = search needs
 
 enum-known-msg-type : tie.Need-enum-known-msg-type
 enum-known-msg-type c = search needs
@@ -89,9 +84,9 @@ add-size c = omega (arith, small (c .before .before .before .before .before .bef
 
 returns : tie.Need-returns
 returns c =
-    let w = c .before .before .before .before .before in
-    rw (c .before .before .before .number .ensures, c .before .before .new .ensures, c .before .new2 .ensures, c .new3 .ensures)
-    (seen-refused _ (w .why .given .0 .0) (sym (ap readPaper (w .why .given .1)) ∙ w .before .before .read-at .ensures))
+    let w = c .before .before .before in
+    c .blank .ensures ∙ ap blank (c .before .number .ensures)
+    ∙ seen-refused _ (w .why .given .0 .0) (sym (ap readPaper (w .why .given .1)) ∙ w .before .before .read-at .ensures)
 
 returns-2 : tie.Need-returns-2
 returns-2 c =
@@ -107,9 +102,7 @@ see-spec =
     read-at-requires
     enum-known-why
     number-requires
-    new-requires
-    new-requires-2
-    new-requires-3
+    blank-requires
     enum-known-msg-type
     add-first
     add-behind
