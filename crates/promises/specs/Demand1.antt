@@ -1,9 +1,10 @@
 -- Demand 1, sentence by sentence. "Every public entry point takes all input, ends": no public function has a `requires` (the gate's
 -- tools/promises looks), and the checker accepts a function only where it ends and does nothing undefined for all input that its contract
 -- admits. What is left to say are the answers.
-use Prim.Native.Nat.{ℕ, max}
+use Prim.Native.Nat.{ℕ, zero, suc, max}
 use mathlib.Core.Path.{_≡_, refl}
 use mathlib.Core.Bool.{Bool, true, false, _&&_, _||_}
+use mathlib.Core.List.{List}
 use lib.Dec.{eqb, leb}
 use Rattle.terms.specs.Counters.{tickOf}
 use Rattle.terms.specs.Paper.{Paper}
@@ -14,6 +15,13 @@ use Rattle.octets.specs.declared.Written.{Written}
 use Rattle.octets.specs.declared.Written.the-variants as written
 use Rattle.octets.specs.Papers.{writtenPaper}
 use Rattle.rules.specs.declared.Verdict.{Verdict}
+use Rattle.rules.specs.declared.Verdict.the-variants as verdict
+use Rattle.rules.specs.Verdicts.{verdictNumber}
+use Rattle.wire.specs.Frame.{readOf}
+use Rattle.wire.specs.Given.{Reads}
+use Rattle.wire.specs.GivenRead.{read-given}
+use Rattle.walk.specs.Seen.{seenOf}
+use Rattle.walk.specs.SeenLaws.{seen-answer}
 use Rattle.frame.specs.declared.Read.{Read}
 use Rattle.frame.specs.declared.Read.the-variants as read
 use Rattle.frame.specs.declared.Found.{Found}
@@ -33,7 +41,10 @@ use Rattle.ledger.specs.declared.RequestAnswer.{RequestAnswer}
 use Rattle.ledger.specs.declared.RequestAnswer.the-variants as request
 use Rattle.ledger.specs.declared.ReplyAnswer.{ReplyAnswer}
 use Rattle.ledger.specs.declared.ReplyAnswer.the-variants as reply
-use Rattle.book.specs.Calls.{Call, Tick}
+use Rattle.book.specs.State.{Book}
+use Rattle.book.specs.Calls.{Call, Tick, offered, answerTo, nextOf}
+use Rattle.book.specs.Answers.{OnlyTop}
+use Rattle.book.proofs.Answers.{keeps}
 use Rattle.ledger.specs.Papers.{tickPaper, requestPaper, replyPaper, paperOf}
 use Rattle.ledger.specs.Trace.{Promise}
 use Rattle.book.specs.Words.{answered}
@@ -217,42 +228,62 @@ refusal-in-table Channel = refl
 refusal-in-table Entries = refl
 
 -- an answer's number is 0, or one of the table
-pub data Numbered : Paper → Type 0 where
-  done : {p : Paper} → p .number ≡ 0 → Numbered p
-  refused : {p : Paper} → inTable (p .number) ≡ true → Numbered p
+pub data Numbered : ℕ → Type 0 where
+  done : {n : ℕ} → n ≡ 0 → Numbered n
+  refused : {n : ℕ} → inTable n ≡ true → Numbered n
 
-pub read-numbered : (x : Read) → Numbered (readPaper x)
+pub read-numbered : (x : Read) → Numbered (readPaper x .number)
 read-numbered (read.Frame t time q n) = done refl
 read-numbered (read.Refused w) = refused (refusal-in-table w)
 
-pub written-numbered : (x : Written) → Numbered (writtenPaper x)
+pub written-numbered : (x : Written) → Numbered (writtenPaper x .number)
 written-numbered (written.Bytes n) = done refl
 written-numbered (written.Refused w) = refused (refusal-in-table w)
 
-pub found-numbered : (x : Found) → Numbered (foundPaper x)
+pub found-numbered : (x : Found) → Numbered (foundPaper x .number)
 found-numbered (found.At p) = done refl
 found-numbered found.Nothing = done refl
 found-numbered found.Beyond = refused (refusal-in-table Place)
 
-pub entry-numbered : (x : EntryAnswer) → Numbered (answerPaper x)
+pub entry-numbered : (x : EntryAnswer) → Numbered (answerPaper x .number)
 entry-numbered (entry.Done (an.Short kind price)) = done refl
 entry-numbered (entry.Done (an.Long kind price size position)) = done refl
 entry-numbered (entry.Refused w) = refused (refusal-in-table w)
 
-pub tick-numbered : (x : TickAnswer) → Numbered (tickPaper x)
+pub tick-numbered : (x : TickAnswer) → Numbered (tickPaper x .number)
 tick-numbered (tick.Passed first count) = done refl
 tick-numbered (tick.Refused w) = refused (refusal-in-table w)
 
-pub request-numbered : (x : RequestAnswer) → Numbered (requestPaper x)
+pub request-numbered : (x : RequestAnswer) → Numbered (requestPaper x .number)
 request-numbered (request.Granted first last) = done refl
 request-numbered (request.Refused w) = refused (refusal-in-table w)
 
-pub reply-numbered : (x : ReplyAnswer) → Numbered (replyPaper x)
+pub reply-numbered : (x : ReplyAnswer) → Numbered (replyPaper x .number)
 reply-numbered reply.Cleared = done refl
 reply-numbered (reply.Refused w) = refused (refusal-in-table w)
 
+-- opening the entry reader, and the checks of a message
+pub verdict-numbered : (x : Verdict) → Numbered (verdictNumber x)
+verdict-numbered verdict.Fine = done refl
+verdict-numbered (verdict.Refused w) = refused (refusal-in-table w)
+
+-- what the walk sees at a place has reading's number
+reads-numbered : (n : ℕ) (s : List ℕ) → Reads n s → Numbered n
+unfolding inTable
+reads-numbered zero s h = done refl
+reads-numbered (suc zero) s h = refused refl
+reads-numbered (suc (suc zero)) s h = refused refl
+reads-numbered (suc (suc (suc zero))) s h = refused refl
+reads-numbered (suc (suc (suc (suc zero)))) s h = refused refl
+reads-numbered (suc (suc (suc (suc (suc zero))))) s h = refused refl
+reads-numbered (suc (suc (suc (suc (suc (suc zero)))))) s h = refused refl
+reads-numbered (suc (suc (suc (suc (suc (suc (suc n))))))) s h = absurd h
+
+pub seen-numbered : (s : List ℕ) → Numbered (seenOf s .answer)
+seen-numbered s = rw (seen-answer s) (reads-numbered (readOf s .number) s (read-given (readOf s .number) s .0 refl))
+
 -- opening, announcing, the counts, and the walk
-pub plain-numbered : (x : Answer) → Numbered (paperOf x)
+pub plain-numbered : (x : Answer) → Numbered (paperOf x .number)
 plain-numbered plain.Done = done refl
 plain-numbered (plain.Refused w) = refused (refusal-in-table w)
 
@@ -311,7 +342,7 @@ lines-buffers =
 
 -- "ONLY A TICK NUMBER TOO FAR AHEAD CHANGES THE LEDGER, AND ONLY ITS KNOWN TOP."
 -- For every state that is passed in, sound or not, and every call of the ledger that meets its promise: a refusal other than 12 gives back the
--- very ledger; 12, which only a tick is answered, gives it back with its top raised to that tick if it was lower, and nothing else changed.
+-- very ledger; 12 gives it back with its top raised to that tick if it was lower, and nothing else changed.
 
 pub refusals-keep-the-ledger : (l next : Ledger) (call : Call) (paper : Paper) → Words (l .map .words) → Promise l call next paper
     → answered paper 0 ≡ false → answered paper 12 ≡ false → next ≡ l
@@ -320,3 +351,7 @@ refusals-keep-the-ledger = refused-gives-back
 pub far-raises-the-top : (l next : Ledger) (channel n : ℕ) (paper : Paper) → Words (l .map .words) → Promise l (Tick channel n) next paper
     → answered paper 12 ≡ true → next ≡ record { channel = l .channel; floor = l .floor; top = tickOf (max (l .top .0) n); map = l .map; pending = l .pending }
 far-raises-the-top = far-raises-top
+
+-- and of any call answered 12 on any state: the top is raised to the number offered, and nothing else changes
+pub far-changes-the-top-alone : (b : Book) (call : Call) → answered (answerTo b call) 12 ≡ true → OnlyTop b (nextOf b call) (offered call)
+far-changes-the-top-alone b call = keeps b call .far

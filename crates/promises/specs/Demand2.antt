@@ -26,7 +26,10 @@ use Rattle.wire.specs.RoundTrip.{Widths, write-read, read-then-write, write-the
 use Rattle.scrub.specs.Scrub.{scrubbed, scrubAnswer}
 use Rattle.scrub.specs.Laws.{scrub-number, scrub-length, scrub-keeps, scrub-fills, scrub-reads, scrub-sum, refused-same, answer-as}
 use Rattle.scrub.specs.PrivateLaws.{PrivateByte, private-is}
-use Rattle.promises.specs.Calls.{Reading, Body, Writing, Scrubbing}
+use Rattle.frame.specs.declared.Found.{Found}
+use Rattle.frame.specs.Papers.{foundPaper}
+use Rattle.wire.specs.Lowest.{ReadsAt, LowestPlace, search-given-place, search-given-none, search-given-9}
+use Rattle.promises.specs.Calls.{Reading, Body, Writing, Searching, Scrubbing}
 
 -- the bytes from a place on are bytes
 small-drop : (at : ℕ) (s : List ℕ) → Bytes s → Bytes (drop at s)
@@ -125,3 +128,18 @@ pub record PassedOn (buf left : List ℕ) (x : Written) : Type 0 where
 
 pub passed-on : (buf left : List ℕ) (x : Written) → Scrubbing buf x left → (readOf buf .number ≡ 0 → ⊥) → PassedOn buf left x
 passed-on buf left x c n = record { number = one-number (c .paper) ∙ scrub-number buf; same = c .buffer ∙ refused-same buf n }
+
+-- The search rule: "the lowest place at or after the given one where a frame reads 0, to the end of a closed capture, or that none exists"; 9 for a
+-- start beyond the end.
+pub record FindsLowest (bytes : List ℕ) (from : ℕ) (x : Found) : Type 0 where
+  pub place : from ≤ length bytes → (p : ℕ) → (foundPaper x ≡ answer 0 (p ∷ [])) ↔ LowestPlace bytes from p
+  pub none : from ≤ length bytes → (foundPaper x ≡ answer 0 []) ↔ ((j : ℕ) → from ≤ j → ReadsAt bytes j → ⊥)
+  pub beyond : (foundPaper x .number ≡ 9) ↔ (length bytes < from)
+
+pub finds-lowest : (bytes : List ℕ) (from : ℕ) (x : Found) → Searching bytes from x → FindsLowest bytes from x
+finds-lowest bytes from x r =
+    record {
+      place = λ h p. rw (r .paper) (search-given-place bytes from p h);
+      none = λ h. rw (r .paper) (search-given-none bytes from h);
+      beyond = rw (r .paper) (search-given-9 bytes from);
+    }

@@ -1,17 +1,21 @@
 -- Demand 3, of every row of calls of the code on a ledger that it opened. `Ran channel calls l h` says that the ledger l and the history h come of
--- the calls, each meeting its promise; h has the calls and their answers alone. Words.antt of `ledger` tells each word from h.
+-- the calls, each meeting its promise; h has the calls and their answers alone. Words.antt of `book` tells each word from h.
 use Prim.Native.Nat.{ℕ, _+_, _≤_}
-use mathlib.Core.Path.{_≡_}
-use Rattle.book.specs.State.{StateRules}
+use mathlib.Core.Path.{_≡_, ap, _∙_}
+use Rattle.book.specs.State.{Book, StateRules}
 use Rattle.ledger.specs.State.{bookOf}
-use Rattle.book.specs.Calls.{Request, answerTo}
-use Rattle.book.specs.Trace.{Calls, History}
-use Rattle.ledger.specs.Trace.{Ran}
+use Rattle.terms.specs.Paper.{Paper}
+use Rattle.book.specs.Calls.{Call, Request, answerTo}
+use Rattle.book.specs.Trace.{Calls, after, History}
+use Rattle.ledger.specs.Trace.{Promise, Ran}
 use Rattle.book.specs.Answers.{Answers}
 use Rattle.book.specs.Demand3.{Demand3, Deliveries, MissingNumbers, Requests, Counts, Shown}
 use Rattle.ledger.specs.declared.Ledger.{Ledger}
 use Rattle.book.proofs.Answers as Answered
-use Rattle.ledger.proofs.Promised.{ran-demand-3}
+use Rattle.book.proofs.Agree.{agrees}
+use Rattle.ledger.proofs.Seam.{book-of}
+use Rattle.ledger.proofs.Promised as Promised
+use Rattle.ledger.proofs.Promised.{ran-is-trace, ran-demand-3}
 
 module _ (channel : ℕ) (opens : channel ≤ 9999) {calls : Calls} {l : Ledger} {h : History} (ran : Ran channel calls l h) where
   all : Demand3 h channel (bookOf l)
@@ -42,7 +46,28 @@ module _ (channel : ℕ) (opens : channel ≤ 9999) {calls : Calls} {l : Ledger}
   pub state-rules : StateRules (bookOf l)
   state-rules = all .state-rules
 
--- "A number is received once its tick is answered 0": and what each call is answered is told by the calls and answers before it, so that a ledger
--- which answers 12 to every tick, or nods after the first, does not meet it
+  -- whatever a further call of the code is answered is what the calls before it tell
+  pub code-answers : (call : Call) (next : Ledger) (paper : Paper) → Promise l call next paper → paper ≡ answerTo (after channel calls) call
+  code-answers call next paper p =
+      let e : bookOf l ≡ after channel calls = ap bookOf (ran-is-trace channel opens ran .0) ∙ book-of (after channel calls) (agrees channel opens calls .rules .places) in
+      p .paper-is ∙ ap (λ (b : Book). answerTo b call) e
+
+-- "A number is received once its tick is answered 0": and what each call is answered (`code-answers` has it of the code) is told by the calls and
+-- answers before it, so that a ledger which answers 12 to every tick, or nods after the first, does not meet it
 pub each-answer : (channel : ℕ) → channel ≤ 9999 → (calls : Calls) → Answers channel calls
 each-answer = Answered.answers
+
+-- that opening and each call of the code, by the checker's promise of its `ensures`, are the start and the steps that `Ran` is made of
+data Named : Type 0 where
+  named : Named
+
+ties : Named
+ties =
+    let opened-is-fresh = Promised.opened-is-fresh in
+    let tick-is-step = Promised.tick-is-step in
+    let announce-is-step = Promised.announce-is-step in
+    let request-is-step = Promised.request-is-step in
+    let reply-is-step = Promised.reply-is-step in
+    let missing-is-step = Promised.missing-is-step in
+    let held-is-step = Promised.held-is-step in
+    named

@@ -38,3 +38,8 @@ example-view = refl
 pub example-resend : viewOf P002 (0 ∷ 1 ∷ 1 ∷ 0 ∷ 0 ∷ 0 ∷ 0 ∷ 0 ∷ 0 ∷ 0 ∷ 2 ∷ 0 ∷ 0 ∷ 0 ∷ 0 ∷ 0 ∷ 0 ∷ 0 ∷ 3 ∷ 4 ∷ []) ≡ viewed P002 1 2 2 3 4
 unfolding viewOf numeral
 example-resend = refl
+
+-- and of a tick: channel 1, tick number 2
+pub example-tick : viewOf M201 (13 ∷ 0 ∷ 1 ∷ 0 ∷ 0 ∷ 0 ∷ 0 ∷ 0 ∷ 0 ∷ 0 ∷ 2 ∷ []) ≡ viewed M201 1 2 0 0 0
+unfolding viewOf numeral
+example-tick = refl
