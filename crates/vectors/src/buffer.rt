@@ -15,6 +15,21 @@ pub fn put(b: &mut [u8], at: usize, w: usize, v: u64) {
     octets::put(b, at, w, v);
 }
 
+// Field i of a list: its place behind `at`, its width and its value.
+fn field(b: &mut [u8], at: usize, list: &[[u64; 3]], i: usize) {
+    if i < list.len() {
+        let place = list[i][0] as usize;
+        let w = list[i][1] as usize;
+        put(b, sums::add(at, place), w, list[i][2]);
+    }
+}
+
+pub fn fields(b: &mut [u8], at: usize, list: &[[u64; 3]]) {
+    for i in 0..list.len() {
+        field(b, at, list, i);
+    }
+}
+
 pub fn fill(b: &mut [u8], at: usize, n: usize, v: u8) {
     let end = sums::add(at, n);
     if at <= end {

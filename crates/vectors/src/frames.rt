@@ -9,63 +9,61 @@ use crate::text;
 use frame::Found;
 use frame::Read;
 use octets::Written;
+use terms::Refusal;
 use terms::SessionNumber;
 
 const TYPES: [u64; 10] = [0, 1, 2, 3, 4, 11, 12, 13, 14, 15];
 
-const STREAMS: [u64; 13] = [
-    0x4D44303031,
-    0x4D44303032,
-    0x4D44303033,
-    0x4D44303034,
-    0x4D44333031,
-    0x4D44313031,
-    0x4D44313032,
-    0x4D44323031,
-    0x4D44323130,
-    0x4D44453031,
-    0x4D44323131,
-    0x4D44323137,
-    0x4D44303030,
-];
+// The streams that the page tries, but for the ten that an M102 may have.
+const OTHERS: [u64; 3] = [0x4D44323131, 0x4D44323137, 0x4D44303030];
 
-// The line `read` of the first len bytes.
-fn read_line(t: &mut [u8], b: &[u8], case: u64, len: usize) {
-    let mut n = 0;
-    let bytes = buffer::part(b, 0, len);
-    text::word(t, &mut n, b"read");
-    text::number(t, &mut n, case);
+pub fn number_of(why: Refusal) -> u64 {
+    why.number() as u64
+}
+
+// The items of a line `read` behind its case.
+fn read_items(t: &mut [u8], n: usize, bytes: &[u8]) -> usize {
     match frame::read_at(bytes, 0) {
-        Read::Refused(why) => text::number(t, &mut n, why.number() as u64),
+        Read::Refused(why) => text::number(t, n, number_of(why)),
         Read::Frame {
             msg_type,
             sending_time,
             seq,
             body_len,
         } => {
-            text::number(t, &mut n, 0);
-            text::number(t, &mut n, sums::add(28, body_len) as u64);
-            text::msg_type(t, &mut n, msg_type as u64);
-            text::number(t, &mut n, sending_time);
-            text::number(t, &mut n, seq.value());
-            text::number(t, &mut n, body_len as u64);
-            text::hex(t, &mut n, frame::body_at(bytes, 0));
+            let size = body_len as u64;
+            let told = text::numbers(t, n, &[0, sums::plus(28, size)]);
+            let typed = text::msg_type(t, told, msg_type as u64);
+            let headed = text::numbers(t, typed, &[sending_time, seq.value(), size]);
+            text::hex(t, headed, frame::body_at(bytes, 0))
         }
     }
+}
+
+// The line `read` of the first len bytes.
+fn read_line(t: &mut [u8], b: &[u8], case: u64, len: usize) {
+    let started = text::start(t, b"read", &[case]);
+    let n = read_items(t, started, buffer::part(b, 0, len));
     text::end(t, n);
 }
 
 pub fn read_row(t: &mut [u8], b: &mut [u8], r: &[u8], i: usize) {
-    let len = hand::piece(b, 0, r, rows::READ, 9, i, 0);
+    let len = hand::piece(b, 0, r, rows::READ, (i % 65536) * 9);
     read_line(t, b, i as u64, len);
 }
 
 // SecurityType and stream of an M102, all pairs.
 pub fn read_pair(t: &mut [u8], b: &mut [u8], case: u64) {
     let k = sums::minus(case, 500);
+    let j = k % 13;
+    let stream = if j < 10 {
+        made::stream_of(j)
+    } else {
+        sums::entry_of(&OTHERS, sums::minus(j, 10))
+    };
     let len = hand::base(b, 0, 10);
-    buffer::put(b, 24, 1, sums::entry_of(&TYPES, k / 13));
-    buffer::put(b, 34, 5, sums::entry_of(&STREAMS, k % 13));
+    let list = [[24, 1, sums::entry_of(&TYPES, k / 13)], [34, 5, stream]];
+    buffer::fields(b, 0, &list);
     buffer::mend(b, 0, len);
     read_line(t, b, case, len);
 }
@@ -78,11 +76,16 @@ fn any_frame(b: &mut [u8], s: u64, case: u64, x: &mut u64) -> usize {
     made::some(b, 0, chan, num, x)
 }
 
-pub fn read_made(t: &mut [u8], b: &mut [u8], case: u64) {
+// The same, perhaps damaged.
+fn damaged_frame(b: &mut [u8], s: u64, case: u64) -> usize {
     let mut x = 0;
-    let len = any_frame(b, 1, case, &mut x);
-    let left = made::damage(b, 0, len, &mut x);
-    read_line(t, b, case, left);
+    let len = any_frame(b, s, case, &mut x);
+    made::damage(b, 0, len, &mut x)
+}
+
+pub fn read_made(t: &mut [u8], b: &mut [u8], case: u64) {
+    let len = damaged_frame(b, 1, case);
+    read_line(t, b, case, len);
 }
 
 // Writes the message of the frame at 0, with a body of n bytes, into the first `room` bytes of `out`.
@@ -97,6 +100,21 @@ fn write_message(b: &[u8], n: usize, out: &mut [u8], room: usize) -> Written {
     Written::Bytes(0)
 }
 
+// The items of a line `write` behind its case. The bytes lent were all 0xA5, as those of `was` are.
+fn write_items(t: &mut [u8], n: usize, answer: Written, lent: &[u8], was: &[u8]) -> usize {
+    match answer {
+        Written::Refused(why) => text::numbers(
+            t,
+            n,
+            &[number_of(why), buffer::changed(lent, was, 0, lent.len())],
+        ),
+        Written::Bytes(len) => {
+            let told = text::numbers(t, n, &[0, len as u64]);
+            text::hex(t, told, lent)
+        }
+    }
+}
+
 // The line `write`.
 fn write_line(
     t: &mut [u8],
@@ -107,22 +125,11 @@ fn write_line(
     size: usize,
     room: usize,
 ) {
-    let mut n = 0;
     buffer::fill_from(out, 0, 0xA5);
     buffer::fill_from(was, 0, 0xA5);
-    text::word(t, &mut n, b"write");
-    text::number(t, &mut n, case);
-    match write_message(b, size, out, room) {
-        Written::Refused(why) => {
-            text::number(t, &mut n, why.number() as u64);
-            text::number(t, &mut n, buffer::changed(out, was, 0, room));
-        }
-        Written::Bytes(len) => {
-            text::number(t, &mut n, 0);
-            text::number(t, &mut n, len as u64);
-            text::hex(t, &mut n, buffer::part(out, 0, room));
-        }
-    }
+    let started = text::start(t, b"write", &[case]);
+    let answer = write_message(b, size, out, room);
+    let n = write_items(t, started, answer, buffer::part(out, 0, room), was);
     text::end(t, n);
 }
 
@@ -131,8 +138,8 @@ fn given(v: u64, other: usize) -> usize {
     if v == 9999 { other } else { v as usize }
 }
 
-// A base in a buffer of spaces, and the spaces behind its body where its length is told. Answers its BodyLength.
-fn bare_base(b: &mut [u8], i: u64, told: u64) -> usize {
+// A base in a buffer of spaces, with spaces behind its body too where another length is told. Answers its BodyLength.
+pub fn bare_base(b: &mut [u8], i: u64, told: u64) -> usize {
     buffer::fill_from(b, 0, 0x20);
     let len = hand::base(b, 0, i);
     if told != 9999 {
@@ -142,14 +149,12 @@ fn bare_base(b: &mut [u8], i: u64, told: u64) -> usize {
 }
 
 pub fn write_row(t: &mut [u8], b: &mut [u8], out: &mut [u8], was: &mut [u8], r: &[u8], i: usize) {
-    let told = rows::cell(r, rows::WRITE, 9, i, 7);
-    let n = given(
-        told,
-        bare_base(b, rows::cell(r, rows::WRITE, 9, i, 0), told),
-    );
-    hand::change(b, 0, r, rows::WRITE, 9, i, 1);
-    hand::change(b, 0, r, rows::WRITE, 9, i, 4);
-    let room = given(rows::cell(r, rows::WRITE, 9, i, 8), sums::add(n, 28));
+    let row = (i % 65536) * 9;
+    let told = rows::cell(r, rows::WRITE, row, 7);
+    let n = given(told, bare_base(b, rows::cell(r, rows::WRITE, row, 0), told));
+    hand::change(b, 0, r, rows::WRITE, row, 1);
+    hand::change(b, 0, r, rows::WRITE, row, 4);
+    let room = given(rows::cell(r, rows::WRITE, row, 8), sums::add(n, 28));
     write_line(t, b, out, was, i as u64, n, room);
 }
 
@@ -157,20 +162,17 @@ pub fn write_row(t: &mut [u8], b: &mut [u8], out: &mut [u8], was: &mut [u8], r: 
 fn rewritten(b: &mut [u8], n: usize, x: &mut u64) -> usize {
     match generator::pick(x, 8) {
         3 => {
-            let i = generator::place(x, 4);
-            buffer::raise(b, i, x);
+            made::raised(b, 0, 4, x);
             n
         }
         4 => {
             if n != 0 {
-                let i = generator::place(x, n);
-                buffer::raise(b, sums::add(24, i), x);
+                made::raised(b, 24, n, x);
             }
             n
         }
         5 => {
-            let g = 1 + generator::pick(x, 20);
-            let more = g as usize;
+            let more = generator::more(x, 20);
             buffer::fill(b, sums::add(24, n), more, 32);
             sums::add(n, more)
         }
@@ -205,33 +207,42 @@ fn scrub_front(b: &mut [u8], len: usize) -> Written {
     Written::Bytes(0)
 }
 
-// The answer's number.
-fn number_of(w: Written) -> u64 {
-    match w {
+// The second scrubbing of a buffer that was scrubbed: its number.
+fn scrub_again(b: &mut [u8], was: &mut [u8], lent: usize) -> u64 {
+    octets::lay(was, 0, b);
+    match scrub_front(b, lent) {
         Written::Bytes(_) => 0,
-        Written::Refused(why) => why.number() as u64,
+        Written::Refused(why) => number_of(why),
+    }
+}
+
+// The items of a line `scrub` behind its case, but for CHANGED. The first scrubbing has given `answer`.
+fn scrub_items(
+    t: &mut [u8],
+    n: usize,
+    answer: Written,
+    b: &mut [u8],
+    was: &mut [u8],
+    lent: usize,
+) -> usize {
+    match answer {
+        Written::Refused(why) => text::number(t, n, number_of(why)),
+        Written::Bytes(len) => {
+            let told = text::numbers(t, n, &[0, len as u64]);
+            let shown = text::hex(t, told, buffer::part(b, 0, lent));
+            text::number(t, shown, scrub_again(b, was, lent))
+        }
     }
 }
 
 // The line `scrub`, of the first `lent` bytes.
 fn scrub_line(t: &mut [u8], b: &mut [u8], was: &mut [u8], case: u64, lent: usize) {
-    let mut n = 0;
     octets::lay(was, 0, b);
-    text::word(t, &mut n, b"scrub");
-    text::number(t, &mut n, case);
-    match scrub_front(b, lent) {
-        Written::Refused(why) => text::number(t, &mut n, why.number() as u64),
-        Written::Bytes(len) => {
-            text::number(t, &mut n, 0);
-            text::number(t, &mut n, len as u64);
-            text::hex(t, &mut n, buffer::part(b, 0, lent));
-            octets::lay(was, 0, b);
-            let again = scrub_front(b, lent);
-            text::number(t, &mut n, number_of(again));
-        }
-    }
-    text::number(t, &mut n, buffer::changed(b, was, 0, lent));
-    text::end(t, n);
+    let started = text::start(t, b"scrub", &[case]);
+    let answer = scrub_front(b, lent);
+    let n = scrub_items(t, started, answer, b, was, lent);
+    let changed = text::number(t, n, buffer::changed(b, was, 0, lent));
+    text::end(t, changed);
 }
 
 pub fn scrub_base(t: &mut [u8], b: &mut [u8], was: &mut [u8], i: u64) {
@@ -242,34 +253,38 @@ pub fn scrub_base(t: &mut [u8], b: &mut [u8], was: &mut [u8], i: u64) {
 }
 
 pub fn scrub_made(t: &mut [u8], b: &mut [u8], was: &mut [u8], case: u64) {
-    let mut x = 0;
-    let len = any_frame(b, 3, case, &mut x);
-    let left = made::damage(b, 0, len, &mut x);
-    scrub_line(t, b, was, case, left);
+    let len = damaged_frame(b, 3, case);
+    scrub_line(t, b, was, case, len);
 }
 
-// The line `search`. Answers the place to search from next, or a place beyond all where none was found.
-fn search_line(t: &mut [u8], b: &[u8], case: u64, size: usize, from: usize) -> usize {
-    let mut n = 0;
-    let mut next = 18446744073709551615;
-    text::word(t, &mut n, b"search");
-    text::number(t, &mut n, case);
-    text::number(t, &mut n, size as u64);
-    text::number(t, &mut n, from as u64);
-    match frame::search(buffer::part(b, 0, size), from) {
-        Found::At(place) => {
-            text::number(t, &mut n, 0);
-            text::number(t, &mut n, place as u64);
-            next = sums::add(place, 1);
-        }
+// The items of a line `search` behind its place.
+fn search_items(t: &mut [u8], n: usize, found: Found) -> usize {
+    match found {
+        Found::At(place) => text::numbers(t, n, &[0, place as u64]),
         Found::Nothing => {
-            text::number(t, &mut n, 0);
-            text::word(t, &mut n, b"none");
+            let told = text::number(t, n, 0);
+            text::word(t, told, b"none")
         }
-        Found::Beyond => text::number(t, &mut n, 9),
+        Found::Beyond => text::number(t, n, 9),
     }
+}
+
+// The place behind the one found; where none was, one beyond all.
+fn after(found: Found) -> usize {
+    match found {
+        Found::At(place) => sums::add(place, 1),
+        Found::Nothing => 18446744073709551615,
+        Found::Beyond => 18446744073709551615,
+    }
+}
+
+// The line `search`. Answers the place to search from next.
+fn search_line(t: &mut [u8], b: &[u8], case: u64, size: usize, from: usize) -> usize {
+    let found = frame::search(buffer::part(b, 0, size), from);
+    let started = text::start(t, b"search", &[case, size as u64, from as u64]);
+    let n = search_items(t, started, found);
     text::end(t, n);
-    next
+    after(found)
 }
 
 fn search_from_each(t: &mut [u8], b: &[u8], case: u64, size: usize, end: usize) {
@@ -281,7 +296,7 @@ fn search_from_each(t: &mut [u8], b: &[u8], case: u64, size: usize, end: usize) 
 // From 0, and as long as a place is found from the place after it.
 fn search_on(t: &mut [u8], b: &[u8], case: u64, size: usize) {
     let mut from = 0;
-    for _ in 0..=size {
+    for _ in 0..size {
         from = search_line(t, b, case, size, from);
         if size < from {
             break;

@@ -55,6 +55,11 @@ pub fn place(x: &mut u64, n: usize) -> usize {
     pick(x, n as u64) as usize
 }
 
+// 1 to n, for a length.
+pub fn more(x: &mut u64, n: u64) -> usize {
+    sums::add(1, pick(x, n) as usize)
+}
+
 pub fn wide(x: &mut u64) -> u64 {
     let high = next(x) % 4294967296;
     let low = next(x);

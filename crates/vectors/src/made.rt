@@ -35,34 +35,90 @@ pub fn name_of(kind: u64) -> u64 {
     sums::entry_of(&NAMES, kind)
 }
 
-fn header(b: &mut [u8], at: usize, kind: u64, x: &mut u64) {
-    buffer::put(b, at, 4, name_of(kind));
-    let d = generator::date(x) % 100000000;
-    let c = generator::clock(x);
-    buffer::put(b, sums::add(at, 4), 8, sums::plus(d * 1000000000, c));
-    buffer::put(b, sums::add(at, 12), 8, 1 + generator::pick(x, 1000000));
+pub fn stream_of(k: u64) -> u64 {
+    sums::entry_of(&STREAMS, k)
 }
 
+// How a field is drawn.
+const LETTERS: u64 = 0;
+
+const FROM_0: u64 = 1;
+
+const FROM_1: u64 = 2;
+
+const DECIMAL: u64 = 3;
+
+const DATE: u64 = 4;
+
+const CLOCK: u64 = 5;
+
+const DIGIT: u64 = 6;
+
+fn drawn(how: u64, n: u64, x: &mut u64) -> u64 {
+    match how {
+        FROM_0 => generator::pick(x, n),
+        FROM_1 => sums::plus(1, generator::pick(x, n)),
+        DECIMAL => generator::dec(x, n),
+        DATE => generator::date(x),
+        CLOCK => generator::clock(x),
+        _ => sums::plus(48, generator::pick(x, n)),
+    }
+}
+
+// Field i of a list: its place behind `at`, its width, and how it is drawn.
+fn draw_field(b: &mut [u8], at: usize, list: &[[u64; 4]], i: usize, x: &mut u64) {
+    if i < list.len() {
+        let place = sums::add(at, list[i][0] as usize);
+        let w = list[i][1] as usize;
+        if list[i][2] == LETTERS {
+            buffer::letters(b, place, w, x);
+        } else {
+            buffer::put(b, place, w, drawn(list[i][2], list[i][3], x));
+        }
+    }
+}
+
+// All fields of a list, in its order.
+fn draw_fields(b: &mut [u8], at: usize, list: &[[u64; 4]], x: &mut u64) {
+    for i in 0..list.len() {
+        draw_field(b, at, list, i, x);
+    }
+}
+
+fn header(b: &mut [u8], at: usize, kind: u64, x: &mut u64) {
+    let d = generator::date(x) % 100000000;
+    let time = sums::plus(d * 1000000000, generator::clock(x));
+    let list = [
+        [0, 4, name_of(kind)],
+        [4, 8, time],
+        [12, 8, 1 + generator::pick(x, 1000000)],
+    ];
+    buffer::fields(b, at, &list);
+}
+
+const LOGON: [[u64; 4]; 3] = [
+    [0, 32, LETTERS, 0],
+    [32, 32, LETTERS, 0],
+    [64, 2, FROM_1, 65535],
+];
+
 fn logon(b: &mut [u8], o: usize, x: &mut u64) -> usize {
-    buffer::letters(b, o, 32, x);
-    buffer::letters(b, sums::add(o, 32), 32, x);
-    buffer::put(b, sums::add(o, 64), 2, 1 + generator::pick(x, 65535));
-    octets::lay(b, sums::add(o, 66), b"0.62    ");
+    draw_fields(b, o, &LOGON, x);
+    buffer::put(b, sums::add(o, 66), 8, 0x302E363220202020);
     74
 }
 
+const LOGOUT: [[u64; 4]; 2] = [[0, 4, FROM_0, 10000], [4, 256, LETTERS, 0]];
+
 fn logout(b: &mut [u8], o: usize, x: &mut u64) -> usize {
-    buffer::put(b, o, 4, generator::pick(x, 10000));
-    buffer::letters(b, sums::add(o, 4), 256, x);
+    draw_fields(b, o, &LOGOUT, x);
     260
 }
 
 fn announcement(b: &mut [u8], o: usize, chan: u64, num: u64, x: &mut u64) -> usize {
-    buffer::put(b, o, 1, 13);
-    buffer::put(b, sums::add(o, 1), 2, chan);
-    buffer::put(b, sums::add(o, 3), 8, num);
     let e = if generator::pick(x, 2) == 0 { 78 } else { 89 };
-    buffer::put(b, sums::add(o, 11), 1, e);
+    let list = [[0, 1, 13], [1, 2, chan], [3, 8, num], [11, 1, e]];
+    buffer::fields(b, o, &list);
     12
 }
 
@@ -79,13 +135,17 @@ fn resend_end(status: u64, num: u64, x: &mut u64) -> u64 {
 }
 
 fn resend(b: &mut [u8], o: usize, chan: u64, num: u64, x: &mut u64) -> usize {
-    buffer::put(b, o, 2, chan);
-    buffer::put(b, sums::add(o, 2), 1, 1);
-    buffer::put(b, sums::add(o, 3), 8, num);
     let s = generator::pick(x, 7);
     let status = if s == 6 { 99 } else { s };
-    buffer::put(b, sums::add(o, 11), 8, resend_end(status, num, x));
-    buffer::put(b, sums::add(o, 19), 1, status);
+    let last = resend_end(status, num, x);
+    let list = [
+        [0, 2, chan],
+        [2, 1, 1],
+        [3, 8, num],
+        [11, 8, last],
+        [19, 1, status],
+    ];
+    buffer::fields(b, o, &list);
     buffer::letters(b, sums::add(o, 20), 32, x);
     52
 }
@@ -96,16 +156,18 @@ fn status(b: &mut [u8], o: usize, x: &mut u64) -> usize {
     n
 }
 
+const ENTRY: [[u64; 4]; 2] = [[0, 1, DIGIT, 10], [2, 8, DECIMAL, 13]];
+
+const LONG_ENTRY: [[u64; 4]; 2] = [[10, 8, DECIMAL, 12], [18, 1, FROM_0, 100]];
+
 // One entry of an M102; answers the place behind it.
 fn entry(b: &mut [u8], e: usize, k: u64, x: &mut u64) -> usize {
-    buffer::put(b, e, 1, 48 + generator::pick(x, 10));
+    draw_fields(b, e, &ENTRY, x);
     buffer::put(b, sums::add(e, 1), 1, 32);
-    buffer::put(b, sums::add(e, 2), 8, generator::dec(x, 13));
     if k == 0 {
         return sums::add(e, 10);
     }
-    buffer::put(b, sums::add(e, 10), 8, generator::dec(x, 12));
-    buffer::put(b, sums::add(e, 18), 1, generator::pick(x, 100));
+    draw_fields(b, e, &LONG_ENTRY, x);
     sums::add(e, 19)
 }
 
@@ -117,26 +179,29 @@ fn entries(b: &mut [u8], from: usize, k: u64, count: u64, x: &mut u64) -> usize 
     e
 }
 
-fn snapshot_front(b: &mut [u8], o: usize, k: u64, x: &mut u64) {
-    buffer::put(b, o, 1, sums::entry_of(&SECURITIES, k));
-    buffer::put(b, sums::add(o, 1), 1, 1 + generator::pick(x, 3));
-    buffer::put(b, sums::add(o, 2), 4, generator::date(x));
-    buffer::put(b, sums::add(o, 6), 4, generator::clock(x));
-    buffer::put(b, sums::add(o, 10), 5, sums::entry_of(&STREAMS, k));
-    buffer::letters(b, sums::add(o, 15), 8, x);
-    buffer::letters(b, sums::add(o, 23), 8, x);
-}
+const SNAPSHOT: [[u64; 4]; 10] = [
+    [1, 1, FROM_1, 3],
+    [2, 4, DATE, 0],
+    [6, 4, CLOCK, 0],
+    [15, 8, LETTERS, 0],
+    [23, 8, LETTERS, 0],
+    [31, 8, DECIMAL, 13],
+    [39, 8, DECIMAL, 16],
+    [47, 8, DECIMAL, 16],
+    [55, 8, DECIMAL, 16],
+    [63, 8, LETTERS, 0],
+];
 
 fn snapshot(b: &mut [u8], o: usize, x: &mut u64) -> usize {
     let k = generator::pick(x, 10);
-    snapshot_front(b, o, k, x);
-    buffer::put(b, sums::add(o, 31), 8, generator::dec(x, 13));
-    buffer::put(b, sums::add(o, 39), 8, generator::dec(x, 16));
-    buffer::put(b, sums::add(o, 47), 8, generator::dec(x, 16));
-    buffer::put(b, sums::add(o, 55), 8, generator::dec(x, 16));
-    buffer::letters(b, sums::add(o, 63), 8, x);
+    draw_fields(b, o, &SNAPSHOT, x);
     let m = generator::pick(x, 6);
-    buffer::put(b, sums::add(o, 71), 2, m);
+    let list = [
+        [0, 1, sums::entry_of(&SECURITIES, k)],
+        [10, 5, stream_of(k)],
+        [71, 2, m],
+    ];
+    buffer::fields(b, o, &list);
     let end = entries(b, sums::add(o, 73), k, m, x);
     sums::sub(end, o)
 }
@@ -164,24 +229,31 @@ fn tail_of(c: u64, x: &mut u64) -> usize {
     }
 }
 
+const ORDER: [[u64; 4]; 4] = [
+    [16, 8, LETTERS, 0],
+    [24, 4, CLOCK, 0],
+    [29, 8, DECIMAL, 13],
+    [37, 8, DECIMAL, 15],
+];
+
 fn order(b: &mut [u8], o: usize, chan: u64, num: u64, x: &mut u64) -> usize {
     let c = generator::pick(x, 8);
     let exec = exec_of(c, x);
     let tail = tail_of(c, x);
-    buffer::put(b, o, 1, 13);
-    buffer::put(b, sums::add(o, 1), 2, chan);
-    buffer::put(b, sums::add(o, 3), 8, num);
     let stream = if c < 7 {
         0x4D44323131 + c
     } else {
         0x4D44323939
     };
-    buffer::put(b, sums::add(o, 11), 5, stream);
-    buffer::letters(b, sums::add(o, 16), 8, x);
-    buffer::put(b, sums::add(o, 24), 4, generator::clock(x));
-    buffer::put(b, sums::add(o, 28), 1, exec);
-    buffer::put(b, sums::add(o, 29), 8, generator::dec(x, 13));
-    buffer::put(b, sums::add(o, 37), 8, generator::dec(x, 15));
+    let list = [
+        [0, 1, 13],
+        [1, 2, chan],
+        [3, 8, num],
+        [11, 5, stream],
+        [28, 1, exec],
+    ];
+    buffer::fields(b, o, &list);
+    draw_fields(b, o, &ORDER, x);
     buffer::noise(b, sums::add(o, 45), tail, x);
     sums::add(45, tail)
 }
@@ -246,8 +318,7 @@ fn false_length(n: u64, x: &mut u64) -> u64 {
 
 // A body with g spaces more.
 fn lengthened(b: &mut [u8], at: usize, n: usize, x: &mut u64) -> usize {
-    let g = 1 + generator::pick(x, 20);
-    let more = g as usize;
+    let more = generator::more(x, 20);
     buffer::fill(b, sums::add(at, sums::add(24, n)), more, 32);
     buffer::seal(b, at, sums::add(n, more))
 }
@@ -264,15 +335,14 @@ fn shortened(b: &mut [u8], at: usize, n: usize, x: &mut u64) -> usize {
 // A byte of the body changed, and the frame mended.
 fn altered(b: &mut [u8], at: usize, len: usize, n: usize, x: &mut u64) -> usize {
     if n != 0 {
-        let i = generator::place(x, n);
-        buffer::raise(b, sums::add(at, sums::add(24, i)), x);
+        raised(b, sums::add(at, 24), n, x);
         buffer::mend(b, at, len);
     }
     len
 }
 
-// A byte of the first n changed.
-fn raised(b: &mut [u8], at: usize, n: usize, x: &mut u64) {
+// A byte of the n from a place on changed.
+pub fn raised(b: &mut [u8], at: usize, n: usize, x: &mut u64) {
     let i = generator::place(x, n);
     buffer::raise(b, sums::add(at, i), x);
 }
@@ -284,8 +354,7 @@ fn high_sum(b: &mut [u8], at: usize, len: usize, x: &mut u64) {
 }
 
 fn followed(b: &mut [u8], at: usize, len: usize, x: &mut u64) -> usize {
-    let g = 1 + generator::pick(x, 20);
-    let more = g as usize;
+    let more = generator::more(x, 20);
     buffer::noise(b, sums::add(at, len), more, x);
     sums::add(len, more)
 }
@@ -372,8 +441,7 @@ fn capture_frame(b: &mut [u8], at: usize, c: u64, chan: u64, num: u64, x: &mut u
 fn piece(b: &mut [u8], size: usize, t: &mut u64, x: &mut u64) -> usize {
     let c = generator::pick(x, 10);
     if c == 0 {
-        let g = 1 + generator::pick(x, 12);
-        let more = g as usize;
+        let more = generator::more(x, 12);
         buffer::noise(b, size, more, x);
         return sums::add(size, more);
     }

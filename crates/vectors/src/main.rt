@@ -3,38 +3,67 @@ mod buffer;
 mod frames;
 mod generator;
 mod hand;
+mod ledgers;
 mod made;
+mod readers;
 mod rows;
 mod sums;
 mod text;
 
-// What is run: a kind of case, its first case and how many there are.
-const PLAN: [u64; 21] = [
-    0,
-    0,
-    308,
-    1,
-    500,
-    130,
-    2,
-    1000,
-    1200,
-    3,
-    0,
-    87,
-    4,
-    1000,
-    400,
-    5,
-    0,
-    16,
-    6,
-    1000,
-    300,
-];
+// One part of the page's section 5: what its cases are, the first of them, and how many there are.
+struct Part {
+    what: u64,
+    first: u64,
+    count: u64,
+}
 
-fn run(kind: u64, case: u64, r: &[u8], b: &mut [u8], out: &mut [u8], was: &mut [u8], t: &mut [u8]) {
-    match kind {
+const PARTS: usize = 14;
+
+fn part(what: u64, first: u64, count: u64) -> Part {
+    Part { what, first, count }
+}
+
+// As many cases as a table has rows of a width.
+fn table(what: u64, r: &[u8], name: usize, width: usize) -> Part {
+    let count = if width == 0 {
+        0
+    } else {
+        rows::count(r, name) / width
+    };
+    part(what, 0, count as u64)
+}
+
+// Part i, in the order printed.
+fn part_of(i: usize, r: &[u8]) -> Part {
+    match i {
+        0 => table(0, r, rows::READ, 9),
+        1 => part(1, 500, 130),
+        2 => part(2, 1000, 1200),
+        3 => table(3, r, rows::WRITE, 9),
+        4 => part(4, 1000, 400),
+        5 => part(5, 0, 16),
+        6 => part(6, 1000, 300),
+        7 => part(7, 0, 20),
+        8 => part(8, 1000, 100),
+        9 => part(9, 0, 1),
+        10 => part(10, 1000, 120),
+        11 => part(11, 1000, 6),
+        12 => table(12, r, rows::ENTRY, 5),
+        _ => part(13, 1000, 100),
+    }
+}
+
+// One case of reading, writing, scrubbing or searching.
+fn frame_case(
+    what: u64,
+    case: u64,
+    r: &[u8],
+    b: &mut [u8],
+    out: &mut [u8],
+    was: &mut [u8],
+    t: &mut [u8],
+) {
+    match what {
         0 => frames::read_row(t, b, r, case as usize),
         1 => frames::read_pair(t, b, case),
         2 => frames::read_made(t, b, case),
@@ -47,18 +76,38 @@ fn run(kind: u64, case: u64, r: &[u8], b: &mut [u8], out: &mut [u8], was: &mut [
     }
 }
 
-fn run_all(
-    kind: u64,
-    first: u64,
-    count: u64,
+// One case of any kind.
+fn run_case(
+    what: u64,
+    case: u64,
     r: &[u8],
     b: &mut [u8],
     out: &mut [u8],
     was: &mut [u8],
     t: &mut [u8],
 ) {
+    match what {
+        0..=8 => frame_case(what, case, r, b, out, was, t),
+        9 => ledgers::by_hand(t, r),
+        10 => ledgers::generated(t, case),
+        11 => ledgers::long_run(t, case),
+        12 => readers::row(t, b, r, case as usize),
+        _ => readers::generated(t, b, case),
+    }
+}
+
+fn run_part(p: Part, r: &[u8], b: &mut [u8], out: &mut [u8], was: &mut [u8], t: &mut [u8]) {
+    let what = p.what;
+    let first = p.first;
+    let count = p.count;
     for i in 0..count {
-        run(kind, sums::plus(first, i), r, b, out, was, t);
+        run_case(what, sums::plus(first, i), r, b, out, was, t);
+    }
+}
+
+fn run_all(r: &[u8], b: &mut [u8], out: &mut [u8], was: &mut [u8], t: &mut [u8]) {
+    for i in 0..PARTS {
+        run_part(part_of(i, r), r, b, out, was, t);
     }
 }
 
@@ -71,13 +120,5 @@ fn main() {
     let mut t = [0u8; 20480];
     let n = io::read_full(0, &mut page);
     rows::take(&mut r, &page[..n]);
-    run_all(0, 0, 308, &r, &mut b, &mut out, &mut was, &mut t);
-    run_all(1, 500, 130, &r, &mut b, &mut out, &mut was, &mut t);
-    run_all(2, 1000, 1200, &r, &mut b, &mut out, &mut was, &mut t);
-    run_all(3, 0, 87, &r, &mut b, &mut out, &mut was, &mut t);
-    run_all(4, 1000, 400, &r, &mut b, &mut out, &mut was, &mut t);
-    run_all(5, 0, 16, &r, &mut b, &mut out, &mut was, &mut t);
-    run_all(6, 1000, 300, &r, &mut b, &mut out, &mut was, &mut t);
-    run_all(7, 0, 20, &r, &mut b, &mut out, &mut was, &mut t);
-    run_all(8, 1000, 100, &r, &mut b, &mut out, &mut was, &mut t);
+    run_all(&r, &mut b, &mut out, &mut was, &mut t);
 }

@@ -56,9 +56,9 @@ pub fn count(rows: &[u8], table: usize) -> usize {
     octets::u64_at(rows, sums::add(start_of(table), COUNT_AT)) as usize
 }
 
-// Cell j of row i of a table whose rows have `width` cells.
-pub fn cell(rows: &[u8], table: usize, width: usize, i: usize, j: usize) -> u64 {
-    let at = sums::add((i % 65536) * (width % 65536), j) % 3000;
+// Cell j of the row whose first cell is cell `row` of the table.
+pub fn cell(rows: &[u8], table: usize, row: usize, j: usize) -> u64 {
+    let at = sums::add(row, j) % 3000;
     octets::u64_at(rows, sums::add(start_of(table), at * 8))
 }
 
@@ -168,7 +168,8 @@ fn step(rows: &mut [u8], r: Reader, c: u64) -> Reader {
     if r.fences % 2 == 0 {
         return within(r, BETWEEN, 0);
     }
-    match r.mode {
+    let mode = r.mode;
+    match mode {
         BETWEEN => begun(r, c),
         REMARK => within(r, if c == 10 { BETWEEN } else { REMARK }, 0),
         QUOTED => quoted(rows, r, c),

@@ -1,19 +1,18 @@
 // One line of the text: items with a space between them, laid into `t` as far as `n`, written when the line ends.
+// Each function answers the new n.
 use crate::buffer;
 use crate::sums;
 use octets::Written;
 
-fn space(t: &mut [u8], n: &mut usize) {
-    if *n != 0 {
-        buffer::put(t, *n, 1, 32);
-        *n = sums::add(*n, 1);
-    }
+fn space(t: &mut [u8], n: usize) -> usize {
+    buffer::put(t, n, 1, 32);
+    sums::add(n, 1)
 }
 
-pub fn word(t: &mut [u8], n: &mut usize, w: &[u8]) {
-    space(t, n);
-    octets::lay(t, *n, w);
-    *n = sums::add(*n, w.len());
+pub fn word(t: &mut [u8], n: usize, w: &[u8]) -> usize {
+    let at = space(t, n);
+    octets::lay(t, at, w);
+    sums::add(at, w.len())
 }
 
 // How many bytes were written; none on a refusal.
@@ -24,17 +23,30 @@ pub fn bytes_in(written: Written) -> usize {
     }
 }
 
-pub fn number(t: &mut [u8], n: &mut usize, v: u64) {
-    space(t, n);
-    let k = bytes_in(digits::put_decimal(t, *n, v));
-    *n = sums::add(*n, k);
+pub fn number(t: &mut [u8], n: usize, v: u64) -> usize {
+    let at = space(t, n);
+    sums::add(at, bytes_in(digits::put_decimal(t, at, v)))
+}
+
+pub fn numbers(t: &mut [u8], n: usize, list: &[u64]) -> usize {
+    let mut at = n;
+    for i in 0..list.len() {
+        at = number(t, at, sums::entry_of(list, i as u64));
+    }
+    at
+}
+
+// A line's first word and the numbers behind it.
+pub fn start(t: &mut [u8], w: &[u8], list: &[u64]) -> usize {
+    octets::lay(t, 0, w);
+    numbers(t, w.len(), list)
 }
 
 // The four bytes of a MsgType as they are.
-pub fn msg_type(t: &mut [u8], n: &mut usize, v: u64) {
-    space(t, n);
-    buffer::put(t, *n, 4, v);
-    *n = sums::add(*n, 4);
+pub fn msg_type(t: &mut [u8], n: usize, v: u64) -> usize {
+    let at = space(t, n);
+    buffer::put(t, at, 4, v);
+    sums::add(at, 4)
 }
 
 fn digit(v: u64) -> u64 {
@@ -42,28 +54,28 @@ fn digit(v: u64) -> u64 {
     if d < 10 { 48 + d } else { 87 + d }
 }
 
-fn hex_byte(t: &mut [u8], at: usize, v: u64) {
+// A byte in hex; answers the place behind it.
+fn hex_byte(t: &mut [u8], at: usize, v: u64) -> usize {
     buffer::put(t, at, 1, digit(v / 16));
     buffer::put(t, sums::add(at, 1), 1, digit(v));
-}
-
-// The bytes of s in hex; of no bytes `-`.
-pub fn hex(t: &mut [u8], n: &mut usize, s: &[u8]) {
-    if s.len() == 0 {
-        word(t, n, b"-");
-        return;
-    }
-    space(t, n);
-    *n = hex_bytes(t, *n, s);
+    sums::add(at, 2)
 }
 
 fn hex_bytes(t: &mut [u8], n: usize, s: &[u8]) -> usize {
     let mut at = n;
     for i in 0..s.len() {
-        hex_byte(t, at, buffer::byte(s, i));
-        at = sums::add(at, 2);
+        at = hex_byte(t, at, buffer::byte(s, i));
     }
     at
+}
+
+// The bytes of s in hex; of no bytes `-`.
+pub fn hex(t: &mut [u8], n: usize, s: &[u8]) -> usize {
+    if s.len() == 0 {
+        return word(t, n, b"-");
+    }
+    let at = space(t, n);
+    hex_bytes(t, at, s)
 }
 
 // Writes the first n bytes.
