@@ -142,9 +142,10 @@ fn given(v: u64, other: usize) -> usize {
 pub fn bare_base(b: &mut [u8], i: u64, told: u64) -> usize {
     buffer::fill_from(b, 0, 0x20);
     let len = hand::base(b, 0, i);
-    if told != 9999 {
-        buffer::fill_from(b, sums::sub(len, 4), 0x20);
+    if told == 9999 {
+        return sums::sub(len, 28);
     }
+    buffer::fill_from(b, sums::sub(len, 4), 0x20);
     sums::sub(len, 28)
 }
 

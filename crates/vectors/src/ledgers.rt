@@ -4,6 +4,7 @@ use crate::rows;
 use crate::sums;
 use crate::text;
 use ledger::Answer;
+use ledger::Counted;
 use ledger::Ledger;
 use ledger::Pending;
 use ledger::ReplyAnswer;
@@ -18,7 +19,7 @@ fn channel_of(v: u64) -> ChannelNumber {
     ChannelNumber::new((v % 65536) as u16)
 }
 
-fn wide(v: u16) -> u64 {
+pub fn wide(v: u16) -> u64 {
     v as u64
 }
 
@@ -26,7 +27,7 @@ fn number_of(why: Refusal) -> u64 {
     why.number() as u64
 }
 
-fn answer_of(a: Answer) -> u64 {
+pub fn answer_of(a: Answer) -> u64 {
     match a {
         Answer::Done => 0,
         Answer::Refused(why) => number_of(why),
@@ -61,7 +62,7 @@ pub fn state(t: &mut [u8], n: usize, l: Ledger) -> usize {
 }
 
 // Ends a line with a state, and gives the ledger back.
-fn end(t: &mut [u8], n: usize, l: Ledger) -> Ledger {
+pub fn end(t: &mut [u8], n: usize, l: Ledger) -> Ledger {
     let told = state(t, n, l);
     text::end(t, told);
     l
@@ -69,8 +70,10 @@ fn end(t: &mut [u8], n: usize, l: Ledger) -> Ledger {
 
 fn opened(t: &mut [u8], case: u64, chan: u64) -> Ledger {
     let noted = Ledger::opened(channel_of(chan));
-    let n = text::start(t, b"open", &[case, chan, answer_of(noted.answer)]);
-    end(t, n, noted.next)
+    let answer = noted.answer;
+    let n = text::start(t, b"open", &[case, chan, answer_of(answer)]);
+    let next = noted.next;
+    end(t, n, next)
 }
 
 fn stated(t: &mut [u8], case: u64, l: Ledger) -> Ledger {
@@ -97,13 +100,16 @@ fn ticked(t: &mut [u8], case: u64, l: Ledger, chan: u64, num: u64) -> Ledger {
     let answer = done.answer;
     let started = text::start(t, b"tick", &[case, chan, num, tick_answer(answer)]);
     let n = passed(t, started, answer);
-    end(t, n, done.next)
+    let next = done.next;
+    end(t, n, next)
 }
 
 fn announced(t: &mut [u8], case: u64, l: Ledger, chan: u64, num: u64) -> Ledger {
     let noted = l.announce(channel_of(chan), TickNumber::new(num));
-    let n = text::start(t, b"announce", &[case, chan, num, answer_of(noted.answer)]);
-    end(t, n, noted.next)
+    let answer = noted.answer;
+    let n = text::start(t, b"announce", &[case, chan, num, answer_of(answer)]);
+    let next = noted.next;
+    end(t, n, next)
 }
 
 // The answer of a request and the range asked for, or `none`.
@@ -123,9 +129,11 @@ fn granted(t: &mut [u8], n: usize, a: RequestAnswer) -> usize {
 
 fn requested(t: &mut [u8], case: u64, l: Ledger, chan: u64) -> Ledger {
     let done = l.request(channel_of(chan));
+    let answer = done.answer;
     let started = text::start(t, b"request", &[case, chan]);
-    let n = granted(t, started, done.answer);
-    end(t, n, done.next)
+    let n = granted(t, started, answer);
+    let next = done.next;
+    end(t, n, next)
 }
 
 fn replied(t: &mut [u8], case: u64, l: Ledger, chan: u64, first: u64, status: u64) -> Ledger {
@@ -134,32 +142,22 @@ fn replied(t: &mut [u8], case: u64, l: Ledger, chan: u64, first: u64, status: u6
         TickNumber::new(first),
         (status % 256) as u8,
     );
+    let answer = done.answer;
+    let next = done.next;
     let n = text::start(
         t,
         b"reply",
-        &[case, chan, first, status, reply_answer(done.answer)],
+        &[case, chan, first, status, reply_answer(answer)],
     );
-    end(t, n, done.next)
+    end(t, n, next)
 }
 
-fn missing(t: &mut [u8], case: u64, l: Ledger) -> Ledger {
-    let counted = l.missing();
-    let n = text::start(
-        t,
-        b"missing",
-        &[case, answer_of(counted.answer), counted.count],
-    );
-    end(t, n, counted.next)
-}
-
-fn held(t: &mut [u8], case: u64, l: Ledger) -> Ledger {
-    let counted = l.held();
-    let n = text::start(
-        t,
-        b"held",
-        &[case, answer_of(counted.answer), counted.count],
-    );
-    end(t, n, counted.next)
+// The line of a count.
+fn counted(t: &mut [u8], w: &[u8], case: u64, c: Counted) -> Ledger {
+    let answer = c.answer;
+    let next = c.next;
+    let n = text::start(t, w, &[case, answer_of(answer), c.count]);
+    end(t, n, next)
 }
 
 fn range(first: u64, last: u64) -> Pending {
@@ -222,8 +220,8 @@ fn call(t: &mut [u8], case: u64, l: Ledger, op: u64, a: u64, b: u64, c: u64) -> 
         2 => announced(t, case, l, a, b),
         3 => requested(t, case, l, a),
         4 => replied(t, case, l, a, b, c),
-        5 => missing(t, case, l),
-        _ => held(t, case, l),
+        5 => counted(t, b"missing", case, l.missing()),
+        _ => counted(t, b"held", case, l.held()),
     }
 }
 
@@ -254,26 +252,26 @@ pub fn by_hand(t: &mut [u8], r: &[u8]) {
 }
 
 // A map in the making, and how far its held places reach.
-struct Held {
+struct Reach {
     map: Map,
     high: u64,
 }
 
 // One place more, where it is not above the largest number.
-fn hold(h: Held, floor: u64, x: &mut u64) -> Held {
+fn hold(h: Reach, floor: u64, x: &mut u64) -> Reach {
     let map = h.map;
     let i = 1 + generator::pick(x, 255);
     if generator::MOST < sums::plus(floor, 1 + i) {
         return h;
     }
-    Held {
+    Reach {
         map: map.with(i),
         high: sums::larger(h.high, i + 1),
     }
 }
 
-fn holds(floor: u64, x: &mut u64) -> Held {
-    let mut h = Held {
+fn holds(floor: u64, x: &mut u64) -> Reach {
+    let mut h = Reach {
         map: Map::new(),
         high: 0,
     };
@@ -482,8 +480,8 @@ fn any_call(t: &mut [u8], case: u64, l: Ledger, x: &mut u64) -> Ledger {
             )
         }
         _ => {
-            let next = missing(t, case, l);
-            held(t, case, next)
+            let next = counted(t, b"missing", case, l.missing());
+            counted(t, b"held", case, next.held())
         }
     }
 }
@@ -515,7 +513,8 @@ fn run_tick(run: Run, w: u64, x: &mut u64) -> Run {
     let num = sums::plus(sums::plus(l.floor.value(), 1), generator::pick(x, w));
     let done = l.tick(ChannelNumber::new(100), TickNumber::new(num));
     let next = done.next;
-    let answer = tick_answer(done.answer);
+    let told = done.answer;
+    let answer = tick_answer(told);
     Run {
         ledger: next,
         zero: sums::plus(run.zero, one_if(answer == 0)),

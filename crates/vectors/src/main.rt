@@ -19,7 +19,7 @@ struct Part {
 
 const PARTS: usize = 14;
 
-fn part(what: u64, first: u64, count: u64) -> Part {
+fn cases(what: u64, first: u64, count: u64) -> Part {
     Part { what, first, count }
 }
 
@@ -30,26 +30,26 @@ fn table(what: u64, r: &[u8], name: usize, width: usize) -> Part {
     } else {
         rows::count(r, name) / width
     };
-    part(what, 0, count as u64)
+    cases(what, 0, count as u64)
 }
 
 // Part i, in the order printed.
 fn part_of(i: usize, r: &[u8]) -> Part {
     match i {
         0 => table(0, r, rows::READ, 9),
-        1 => part(1, 500, 130),
-        2 => part(2, 1000, 1200),
+        1 => cases(1, 500, 130),
+        2 => cases(2, 1000, 1200),
         3 => table(3, r, rows::WRITE, 9),
-        4 => part(4, 1000, 400),
-        5 => part(5, 0, 16),
-        6 => part(6, 1000, 300),
-        7 => part(7, 0, 20),
-        8 => part(8, 1000, 100),
-        9 => part(9, 0, 1),
-        10 => part(10, 1000, 120),
-        11 => part(11, 1000, 6),
+        4 => cases(4, 1000, 400),
+        5 => cases(5, 0, 16),
+        6 => cases(6, 1000, 300),
+        7 => cases(7, 0, 20),
+        8 => cases(8, 1000, 100),
+        9 => cases(9, 0, 1),
+        10 => cases(10, 1000, 120),
+        11 => cases(11, 1000, 6),
         12 => table(12, r, rows::ENTRY, 5),
-        _ => part(13, 1000, 100),
+        _ => cases(13, 1000, 100),
     }
 }
 

@@ -89,10 +89,11 @@ fn opening(t: &mut [u8], body: &[u8], case: u64) {
         }
         Verdict::Refused(why) => {
             let stop = entries::step_from(buffer::part(body, 0, 0), 73);
+            let answer = stop.answer;
             let n = text::start(
                 t,
                 b"reader",
-                &[case, size, frames::number_of(why), step_answer(stop.answer)],
+                &[case, size, frames::number_of(why), step_answer(answer)],
             );
             text::end(t, n);
         }

@@ -4,7 +4,7 @@ use crate::buffer;
 use crate::sums;
 use octets::Written;
 
-fn space(t: &mut [u8], n: usize) -> usize {
+pub fn space(t: &mut [u8], n: usize) -> usize {
     buffer::put(t, n, 1, 32);
     sums::add(n, 1)
 }
