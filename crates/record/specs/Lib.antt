@@ -1,0 +1,5 @@
+pub mod Record
+pub mod Text
+pub mod Stored
+pub mod Columns
+pub mod RecordLaws

@@ -1,0 +1,77 @@
+-- `pass`. The invariant: the ledger is that of the calls so far, and what is left at p, behind the records and frames so far, gives what the
+-- whole walk gives (`Left`). The measure is what is left of the capture. Assumes nothing.
+use native.Mathlib.Omega.{arith}
+use Prim.Native.Nat.{_-_}
+use lib.ListN.{length}
+use borrow.Author.Needs.{needs}
+use Rattle.walk.specs.Counts.{each}
+use Rattle.walk.proofs.PassLaws.{Left, left-start, left-step, left-end}
+use Rattle.walk.proofs.pass.Statement.{statement}
+use Rattle.walk.proofs.pass.Tie as tie
+
+abbrev Inv-loop : tie.InvT-loop
+Inv-loop capture out₀ p₀ records₀ frames₀ ledger₀ out p records frames ledger = Left capture out₀ out p records frames ledger
+
+abbrev μ-loop : tie.MeasureT-loop
+μ-loop capture out₀ p₀ records₀ frames₀ ledger₀ out p records frames ledger = length capture - p
+
+loop-holds : tie.Need-loop-holds Inv-loop μ-loop
+loop-holds c = left-start _ _ _ (c .before .before .pre)
+
+see-requires : tie.Need-see-requires Inv-loop μ-loop
+see-requires c κs = search needs
+
+offer-requires : tie.Need-offer-requires Inv-loop μ-loop
+offer-requires c κs = search needs
+
+made-requires : tie.Need-made-requires Inv-loop μ-loop
+made-requires c κs = search needs
+
+note-requires : tie.Need-note-requires Inv-loop μ-loop
+note-requires c κs = search needs
+
+onward-requires : tie.Need-onward-requires Inv-loop μ-loop
+onward-requires c κs = (omega arith, c .before .before .before .before .before .before .see .ensures)
+
+add-records : tie.Need-add-records Inv-loop μ-loop
+add-records c = omega (arith, c .before .before .before .before .before .before .before .before .before .loop .inv .few)
+
+accepted-requires : tie.Need-accepted-requires Inv-loop μ-loop
+accepted-requires c κs = search needs
+
+add-frames : tie.Need-add-frames Inv-loop μ-loop
+add-frames c = omega (arith, c .before .before .before .before .before .before .before .before .before .before .loop .inv .few, c .before .before .before .before .before .before .before .before .before .before .loop .inv .frames-few, each (c .before .before .before .before .before .before .before .before .see .result .answer))
+
+loop-less : tie.Need-loop-less Inv-loop μ-loop
+loop-less c = omega (arith, c .before .before .onward .ensures .further, c .before .before .onward .ensures .inside)
+
+loop-again : tie.Need-loop-again Inv-loop μ-loop
+loop-again c =
+    left-step (c .before .before .before .before .before .before .before .before .before .before .before .loop .inv) (c .before .before .before .before .before .before .before .before .before .see .ensures) (c .before .before .before .before .before .before .before .before .offer .ensures)
+    (c .before .before .before .before .before .before .made .ensures) (c .before .before .before .before .before .note .ensures) (c .before .before .onward .ensures) (c .before .accepted .ensures)
+
+same-length : tie.Need-same-length Inv-loop μ-loop
+same-length c = c .before .loop .inv .room
+
+returns : tie.Need-returns Inv-loop μ-loop
+returns c = left-end (c .before .loop .inv) (c .loop-test .left)
+
+pub pass-spec : {M : Type 1} → statement M
+pass-spec =
+    tie.close
+    (tie.spec
+    Inv-loop
+    μ-loop
+    loop-holds
+    see-requires
+    offer-requires
+    made-requires
+    note-requires
+    onward-requires
+    add-records
+    accepted-requires
+    add-frames
+    loop-less
+    loop-again
+    same-length
+    returns)

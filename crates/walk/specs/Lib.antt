@@ -1,0 +1,17 @@
+pub mod Seen
+pub mod Offers
+pub mod OfferLaws
+pub mod SeenLaws
+pub mod Onward
+pub mod Walk
+pub mod Tables
+pub mod Counts
+pub mod Passes
+pub mod WalkLaws
+pub mod Answers
+pub mod CallLaws
+pub mod Literal
+pub mod FrameLaws
+pub mod Promises
+pub mod Private
+pub mod Records
