@@ -9,6 +9,7 @@ mod readers;
 mod rows;
 mod sums;
 mod text;
+mod walks;
 
 // One part of the page's section 5: what its cases are, the first of them, and how many there are.
 struct Part {
@@ -17,7 +18,7 @@ struct Part {
     count: u64,
 }
 
-const PARTS: usize = 14;
+const PARTS: usize = 19;
 
 fn cases(what: u64, first: u64, count: u64) -> Part {
     Part { what, first, count }
@@ -45,11 +46,16 @@ fn part_of(i: usize, r: &[u8]) -> Part {
         6 => cases(6, 1000, 300),
         7 => cases(7, 0, 20),
         8 => cases(8, 1000, 100),
-        9 => cases(9, 0, 1),
-        10 => cases(10, 1000, 120),
-        11 => cases(11, 1000, 6),
-        12 => table(12, r, rows::ENTRY, 5),
-        _ => cases(13, 1000, 100),
+        9 => cases(9, 0, 20),
+        10 => cases(10, 100, 11),
+        11 => cases(11, 1000, 150),
+        12 => cases(12, 1000, 60),
+        13 => cases(13, 2000, 40),
+        14 => cases(14, 0, 1),
+        15 => cases(15, 1000, 120),
+        16 => cases(16, 1000, 6),
+        17 => table(17, r, rows::ENTRY, 5),
+        _ => cases(18, 1000, 100),
     }
 }
 
@@ -76,7 +82,26 @@ fn frame_case(
     }
 }
 
-// One case of any kind.
+// One case of the walk or of records.
+fn walk_case(
+    what: u64,
+    case: u64,
+    r: &[u8],
+    b: &mut [u8],
+    out: &mut [u8],
+    was: &mut [u8],
+    t: &mut [u8],
+) {
+    match what {
+        9 => walks::hand_capture(t, b, out, was, r, case),
+        10 => walks::little_room(t, b, out, was, r, case),
+        11 => walks::made_capture(t, b, out, was, case),
+        12 => walks::made_record(t, out, case),
+        _ => walks::read_back(t, b, case),
+    }
+}
+
+// One case of any kind. (All of the ledger's cases by hand are one: they stand on one ledger.)
 fn run_case(
     what: u64,
     case: u64,
@@ -88,10 +113,11 @@ fn run_case(
 ) {
     match what {
         0..=8 => frame_case(what, case, r, b, out, was, t),
-        9 => ledgers::by_hand(t, r),
-        10 => ledgers::generated(t, case),
-        11 => ledgers::long_run(t, case),
-        12 => readers::row(t, b, r, case as usize),
+        9..=13 => walk_case(what, case, r, b, out, was, t),
+        14 => ledgers::by_hand(t, r),
+        15 => ledgers::generated(t, case),
+        16 => ledgers::long_run(t, case),
+        17 => readers::row(t, b, r, case as usize),
         _ => readers::generated(t, b, case),
     }
 }
