@@ -490,7 +490,7 @@ pub fn generated(t: &mut [u8], case: u64) {
     let mut x = 0;
     generator::seed(&mut x, 7, case);
     let mut l = any_ledger(t, case, &mut x);
-    for _ in 0..12 {
+    for _ in 0..12u64 {
         l = any_call(t, case, l, &mut x);
     }
 }

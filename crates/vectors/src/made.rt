@@ -278,22 +278,30 @@ pub fn frame(b: &mut [u8], at: usize, kind: u64, chan: u64, num: u64, x: &mut u6
     buffer::seal(b, at, n)
 }
 
-// An M101 around another frame.
-pub fn nested(b: &mut [u8], at: usize, chan: u64, num: u64, x: &mut u64) -> usize {
-    header(b, at, 5, x);
-    let p = generator::place(x, 6);
-    let o = sums::add(at, 24);
-    buffer::noise(b, o, p, x);
-    let kind = match generator::pick(x, 3) {
+fn inner_kind(x: &mut u64) -> u64 {
+    match generator::pick(x, 3) {
         0 => 2,
         1 => 3,
         _ => 7,
-    };
-    let inner = frame(b, sums::add(o, p), kind, chan, num, x);
-    let n = sums::add(p, inner);
+    }
+}
+
+// A frame with a few bytes before it and behind it; answers how many bytes they all are.
+fn padded(b: &mut [u8], o: usize, chan: u64, num: u64, x: &mut u64) -> usize {
+    let p = generator::place(x, 6);
+    buffer::noise(b, o, p, x);
+    let kind = inner_kind(x);
+    let n = sums::add(p, frame(b, sums::add(o, p), kind, chan, num, x));
     let q = generator::place(x, 6);
     buffer::noise(b, sums::add(o, n), q, x);
-    buffer::seal(b, at, sums::add(n, q))
+    sums::add(n, q)
+}
+
+// An M101 around another frame.
+pub fn nested(b: &mut [u8], at: usize, chan: u64, num: u64, x: &mut u64) -> usize {
+    header(b, at, 5, x);
+    let n = padded(b, sums::add(at, 24), chan, num, x);
+    buffer::seal(b, at, n)
 }
 
 pub fn some(b: &mut [u8], at: usize, chan: u64, num: u64, x: &mut u64) -> usize {

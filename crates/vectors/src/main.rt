@@ -11,57 +11,56 @@ mod sums;
 mod text;
 mod walks;
 
-// One part of the page's section 5: what its cases are, the first of them, and how many there are.
-struct Part {
-    what: u64,
+// The cases of one part of the page's section 5: the first of them, and how many there are.
+struct Cases {
     first: u64,
     count: u64,
 }
 
+// The parts in the order printed.
 const PARTS: usize = 19;
 
-fn cases(what: u64, first: u64, count: u64) -> Part {
-    Part { what, first, count }
+fn from(first: u64, count: u64) -> Cases {
+    Cases { first, count }
 }
 
-// As many cases as a table has rows of a width.
-fn table(what: u64, r: &[u8], name: usize, width: usize) -> Part {
+// A case for each row of a table, whose rows have `width` cells.
+fn rows_of(r: &[u8], table: usize, width: usize) -> Cases {
     let count = if width == 0 {
         0
     } else {
-        rows::count(r, name) / width
+        rows::count(r, table) / width
     };
-    cases(what, 0, count as u64)
+    from(0, count as u64)
 }
 
-// Part i, in the order printed.
-fn part_of(i: usize, r: &[u8]) -> Part {
-    match i {
-        0 => table(0, r, rows::READ, 9),
-        1 => cases(1, 500, 130),
-        2 => cases(2, 1000, 1200),
-        3 => table(3, r, rows::WRITE, 9),
-        4 => cases(4, 1000, 400),
-        5 => cases(5, 0, 16),
-        6 => cases(6, 1000, 300),
-        7 => cases(7, 0, 20),
-        8 => cases(8, 1000, 100),
-        9 => cases(9, 0, 20),
-        10 => cases(10, 100, 11),
-        11 => cases(11, 1000, 150),
-        12 => cases(12, 1000, 60),
-        13 => cases(13, 2000, 40),
-        14 => cases(14, 0, 1),
-        15 => cases(15, 1000, 120),
-        16 => cases(16, 1000, 6),
-        17 => table(17, r, rows::ENTRY, 5),
-        _ => cases(18, 1000, 100),
+fn cases_of(part: usize, r: &[u8]) -> Cases {
+    match part {
+        0 => rows_of(r, rows::READ, 9),
+        1 => from(500, 130),
+        2 => from(1000, 1200),
+        3 => rows_of(r, rows::WRITE, 9),
+        4 => from(1000, 400),
+        5 => from(0, 16),
+        6 => from(1000, 300),
+        7 => from(0, 20),
+        8 => from(1000, 100),
+        9 => from(0, 20),
+        10 => from(100, 11),
+        11 => from(1000, 150),
+        12 => from(1000, 60),
+        13 => from(2000, 40),
+        14 => from(0, 1),
+        15 => from(1000, 120),
+        16 => from(1000, 6),
+        17 => rows_of(r, rows::ENTRY, 5),
+        _ => from(1000, 100),
     }
 }
 
 // One case of reading, writing, scrubbing or searching.
 fn frame_case(
-    what: u64,
+    part: usize,
     case: u64,
     r: &[u8],
     b: &mut [u8],
@@ -69,7 +68,7 @@ fn frame_case(
     was: &mut [u8],
     t: &mut [u8],
 ) {
-    match what {
+    match part {
         0 => frames::read_row(t, b, r, case as usize),
         1 => frames::read_pair(t, b, case),
         2 => frames::read_made(t, b, case),
@@ -84,7 +83,7 @@ fn frame_case(
 
 // One case of the walk or of records.
 fn walk_case(
-    what: u64,
+    part: usize,
     case: u64,
     r: &[u8],
     b: &mut [u8],
@@ -92,7 +91,7 @@ fn walk_case(
     was: &mut [u8],
     t: &mut [u8],
 ) {
-    match what {
+    match part {
         9 => walks::hand_capture(t, b, out, was, r, case),
         10 => walks::little_room(t, b, out, was, r, case),
         11 => walks::made_capture(t, b, out, was, case),
@@ -103,7 +102,7 @@ fn walk_case(
 
 // One case of any kind. (All of the ledger's cases by hand are one: they stand on one ledger.)
 fn run_case(
-    what: u64,
+    part: usize,
     case: u64,
     r: &[u8],
     b: &mut [u8],
@@ -111,9 +110,9 @@ fn run_case(
     was: &mut [u8],
     t: &mut [u8],
 ) {
-    match what {
-        0..=8 => frame_case(what, case, r, b, out, was, t),
-        9..=13 => walk_case(what, case, r, b, out, was, t),
+    match part {
+        0..=8 => frame_case(part, case, r, b, out, was, t),
+        9..=13 => walk_case(part, case, r, b, out, was, t),
         14 => ledgers::by_hand(t, r),
         15 => ledgers::generated(t, case),
         16 => ledgers::long_run(t, case),
@@ -122,18 +121,18 @@ fn run_case(
     }
 }
 
-fn run_part(p: Part, r: &[u8], b: &mut [u8], out: &mut [u8], was: &mut [u8], t: &mut [u8]) {
-    let what = p.what;
-    let first = p.first;
-    let count = p.count;
+fn run_part(part: usize, r: &[u8], b: &mut [u8], out: &mut [u8], was: &mut [u8], t: &mut [u8]) {
+    let cases = cases_of(part, r);
+    let first = cases.first;
+    let count = cases.count;
     for i in 0..count {
-        run_case(what, sums::plus(first, i), r, b, out, was, t);
+        run_case(part, sums::plus(first, i), r, b, out, was, t);
     }
 }
 
 fn run_all(r: &[u8], b: &mut [u8], out: &mut [u8], was: &mut [u8], t: &mut [u8]) {
-    for i in 0..PARTS {
-        run_part(part_of(i, r), r, b, out, was, t);
+    for part in 0..PARTS {
+        run_part(part, r, b, out, was, t);
     }
 }
 

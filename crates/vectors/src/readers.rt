@@ -70,7 +70,7 @@ fn step_line(t: &mut [u8], body: &[u8], case: u64, place: usize) -> usize {
 // Steps until the first refusal, but at most eight times.
 fn steps(t: &mut [u8], body: &[u8], case: u64) {
     let mut place = 73;
-    for _ in 0..8 {
+    for _ in 0..8u64 {
         place = step_line(t, body, case, place);
         if place == BEYOND {
             break;
@@ -143,6 +143,12 @@ fn any_place(x: &mut u64) -> usize {
     }
 }
 
+fn three_steps(t: &mut [u8], body: &[u8], case: u64, x: &mut u64) {
+    step_line(t, body, case, any_place(x));
+    step_line(t, body, case, any_place(x));
+    step_line(t, body, case, any_place(x));
+}
+
 pub fn generated(t: &mut [u8], b: &mut [u8], case: u64) {
     let mut x = 0;
     generator::seed(&mut x, 9, case);
@@ -150,7 +156,5 @@ pub fn generated(t: &mut [u8], b: &mut [u8], case: u64) {
     let n = altered(b, sums::sub(len, 28), &mut x);
     let body = buffer::part(b, 24, n);
     opening(t, body, case);
-    step_line(t, body, case, any_place(&mut x));
-    step_line(t, body, case, any_place(&mut x));
-    step_line(t, body, case, any_place(&mut x));
+    three_steps(t, body, case, &mut x);
 }
