@@ -3,6 +3,9 @@
 use crate::generator;
 use crate::sums;
 
+// How many bytes the records' buffer has. Behind it stand as many again that are never lent.
+pub const ROOM: usize = 18432;
+
 pub fn wide(v: u8) -> u64 {
     v as u64
 }
@@ -94,6 +97,11 @@ pub fn part(b: &[u8], at: usize, n: usize) -> &[u8] {
         }
     }
     b
+}
+
+// What stands behind the records' buffer.
+pub fn second_half(out: &[u8]) -> &[u8] {
+    part(out, ROOM, ROOM)
 }
 
 fn differs(a: &[u8], b: &[u8], at: usize) -> u64 {

@@ -100,7 +100,7 @@ fn write_message(b: &[u8], n: usize, out: &mut [u8], room: usize) -> Written {
     Written::Bytes(0)
 }
 
-// The items of a line `write` behind its case. The bytes lent were all 0xA5, as those of `was` are.
+// The items of a line `write` behind its case. The bytes lent were as those of `was` are.
 fn write_items(t: &mut [u8], n: usize, answer: Written, lent: &[u8], was: &[u8]) -> usize {
     match answer {
         Written::Refused(why) => text::numbers(
@@ -115,21 +115,18 @@ fn write_items(t: &mut [u8], n: usize, answer: Written, lent: &[u8], was: &[u8])
     }
 }
 
-// The line `write`.
-fn write_line(
-    t: &mut [u8],
-    b: &[u8],
-    out: &mut [u8],
-    was: &mut [u8],
-    case: u64,
-    size: usize,
-    room: usize,
-) {
+// The line `write`. All of `out` was 0xA5, and its second half still is.
+fn write_line(t: &mut [u8], b: &[u8], out: &mut [u8], case: u64, size: usize, room: usize) {
     buffer::fill_from(out, 0, 0xA5);
-    buffer::fill_from(was, 0, 0xA5);
     let started = text::start(t, b"write", &[case]);
     let answer = write_message(b, size, out, room);
-    let n = write_items(t, started, answer, buffer::part(out, 0, room), was);
+    let n = write_items(
+        t,
+        started,
+        answer,
+        buffer::part(out, 0, room),
+        buffer::second_half(out),
+    );
     text::end(t, n);
 }
 
@@ -149,14 +146,14 @@ pub fn bare_base(b: &mut [u8], i: u64, told: u64) -> usize {
     sums::sub(len, 28)
 }
 
-pub fn write_row(t: &mut [u8], b: &mut [u8], out: &mut [u8], was: &mut [u8], r: &[u8], i: usize) {
+pub fn write_row(t: &mut [u8], b: &mut [u8], out: &mut [u8], r: &[u8], i: usize) {
     let row = (i % 65536) * 9;
     let told = rows::cell(r, rows::WRITE, row, 7);
     let n = given(told, bare_base(b, rows::cell(r, rows::WRITE, row, 0), told));
     hand::change(b, 0, r, rows::WRITE, row, 1);
     hand::change(b, 0, r, rows::WRITE, row, 4);
     let room = given(rows::cell(r, rows::WRITE, row, 8), sums::add(n, 28));
-    write_line(t, b, out, was, i as u64, n, room);
+    write_line(t, b, out, i as u64, n, room);
 }
 
 // The frame with a body of n bytes changed, or not; answers the new n.
@@ -192,12 +189,12 @@ fn room_for(n: usize, x: &mut u64) -> usize {
     }
 }
 
-pub fn write_made(t: &mut [u8], b: &mut [u8], out: &mut [u8], was: &mut [u8], case: u64) {
+pub fn write_made(t: &mut [u8], b: &mut [u8], out: &mut [u8], case: u64) {
     let mut x = 0;
     let len = any_frame(b, 2, case, &mut x);
     let n = rewritten(b, sums::sub(len, 28), &mut x);
     let room = room_for(n, &mut x);
-    write_line(t, b, out, was, case, n, room);
+    write_line(t, b, out, case, n, room);
 }
 
 // Scrubs the first len bytes.

@@ -3,135 +3,162 @@ use crate::buffer;
 use crate::rows;
 use crate::sums;
 
-// SendingTime and MsgSeqNum are the same in all.
-fn finish(b: &mut [u8], at: usize, name: u64, n: usize) -> usize {
-    let header = [[0, 4, name], [4, 8, 20260121093000000], [12, 8, 7]];
-    buffer::fields(b, at, &header);
-    buffer::seal(b, at, n)
-}
-
-const LOGON: [[u64; 3]; 2] = [[64, 2, 30], [66, 8, 0x302E363220202020]];
-
-fn logon(b: &mut [u8], at: usize) -> usize {
-    let o = sums::add(at, 24);
-    buffer::fill(b, o, 32, b'S');
-    buffer::fill(b, sums::add(o, 32), 32, b'T');
-    buffer::fields(b, o, &LOGON);
-    finish(b, at, 0x53303031, 74)
-}
-
-fn logout(b: &mut [u8], at: usize) -> usize {
-    let o = sums::add(at, 24);
-    buffer::put(b, o, 4, 0);
-    buffer::fill(b, sums::add(o, 4), 256, b'X');
-    finish(b, at, 0x53303032, 260)
-}
-
-fn heartbeat(b: &mut [u8], at: usize) -> usize {
-    finish(b, at, 0x53303033, 0)
-}
-
-const ANNOUNCEMENT: [[u64; 3]; 4] = [[0, 1, 13], [1, 2, 100], [3, 8, 3], [11, 1, 78]];
-
-fn announcement(b: &mut [u8], at: usize) -> usize {
-    buffer::fields(b, sums::add(at, 24), &ANNOUNCEMENT);
-    finish(b, at, 0x50303031, 12)
-}
-
-const RESEND: [[u64; 3]; 5] = [[0, 2, 100], [2, 1, 1], [3, 8, 5], [11, 8, 9], [19, 1, 0]];
-
-fn resend(b: &mut [u8], at: usize) -> usize {
-    let o = sums::add(at, 24);
-    buffer::fields(b, o, &RESEND);
-    buffer::fill(b, sums::add(o, 20), 32, b'R');
-    finish(b, at, 0x50303032, 52)
-}
-
-const STATUS: [[u64; 3]; 4] = [
-    [0, 1, 13],
-    [1, 1, 3],
-    [2, 8, 0x5420303030202020],
-    [10, 4, 500],
+// The fields of the bodies: the base, the place in its body, the width and the value. A width above 8 is a number of
+// bytes that all have the value.
+const FIELDS: [[u64; 4]; 54] = [
+    [0, 0, 32, 0x53],
+    [0, 32, 32, 0x54],
+    [0, 64, 2, 30],
+    [0, 66, 8, 0x302E363220202020],
+    [1, 0, 4, 0],
+    [1, 4, 256, 0x58],
+    [3, 0, 1, 13],
+    [3, 1, 2, 100],
+    [3, 3, 8, 3],
+    [3, 11, 1, 0x4E],
+    [4, 0, 2, 100],
+    [4, 2, 1, 1],
+    [4, 3, 8, 5],
+    [4, 11, 8, 9],
+    [4, 19, 1, 0],
+    [4, 20, 32, 0x52],
+    [5, 0, 1, 13],
+    [5, 1, 1, 3],
+    [5, 2, 8, 0x5420303030202020],
+    [5, 10, 4, 500],
+    [6, 0, 1, 13],
+    [6, 1, 1, 3],
+    [6, 2, 4, 20260121],
+    [6, 6, 4, 93000000],
+    [6, 10, 5, 0x4D44323130],
+    [6, 15, 8, 0x3939393030303031],
+    [6, 23, 8, 0x53414D504C452020],
+    [6, 31, 8, 10012345],
+    [6, 39, 8, 1000],
+    [6, 47, 8, 10],
+    [6, 55, 8, 1001234],
+    [6, 63, 8, 0x2031202020202020],
+    [6, 71, 2, 2],
+    [7, 0, 1, 13],
+    [7, 1, 2, 100],
+    [7, 3, 8, 42],
+    [7, 11, 5, 0x4D44323137],
+    [7, 16, 8, 0x3939393030303031],
+    [7, 24, 4, 93000123],
+    [7, 28, 1, 0x46],
+    [7, 29, 8, 10012345],
+    [7, 37, 8, 5000],
+    [7, 45, 53, 0x51],
+    [8, 0, 1, 1],
+    [8, 10, 5, 0x4D44303031],
+    [9, 11, 5, 0x4D44323131],
+    [9, 28, 1, 0x30],
+    [9, 45, 139, 0x51],
+    [10, 71, 2, 0],
+    [11, 71, 2, 425],
+    [13, 0, 8164, 0x20],
+    [15, 11, 5, 0x4D44323939],
+    [15, 28, 1, 0x34],
+    [15, 45, 7, 0x51515151515151],
 ];
 
-fn status(b: &mut [u8], at: usize) -> usize {
-    buffer::fields(b, sums::add(at, 24), &STATUS);
-    finish(b, at, 0x4D313031, 14)
+// The bases: MsgType, the base whose fields it has before its own, BodyLength, how many entries, and how long each is.
+const BASES: [[u64; 5]; 16] = [
+    [0x53303031, 0, 74, 0, 0],
+    [0x53303032, 1, 260, 0, 0],
+    [0x53303033, 2, 0, 0, 0],
+    [0x50303031, 3, 12, 0, 0],
+    [0x50303032, 4, 52, 0, 0],
+    [0x4D313031, 5, 14, 0, 0],
+    [0x4D313032, 6, 111, 2, 19],
+    [0x4D323031, 7, 98, 0, 0],
+    [0x4D313032, 6, 93, 2, 10],
+    [0x4D323031, 7, 184, 0, 0],
+    [0x4D313032, 6, 73, 0, 19],
+    [0x4D313032, 6, 8148, 425, 19],
+    [0x4D313031, 12, 68, 0, 0],
+    [0x4D313031, 13, 8164, 0, 0],
+    [0, 14, 0, 0, 0],
+    [0x4D323031, 7, 52, 0, 0],
+];
+
+// Number j of base i.
+fn told(i: u64, j: usize) -> u64 {
+    let k = i as usize;
+    if k < 16 {
+        if j < 5 {
+            return BASES[k][j];
+        }
+    }
+    0
 }
 
-// Entry j, short or long; answers the place behind it.
-fn entry(b: &mut [u8], at: usize, j: u64, short: bool) -> usize {
-    let front = [[0, 2, 0x3220], [2, 8, sums::plus(10012300, j)]];
-    buffer::fields(b, at, &front);
-    if short {
+// Row k of the fields, if it is a field of base i.
+fn field(b: &mut [u8], o: usize, i: u64, k: usize) {
+    if k < 54 {
+        let row = FIELDS[k];
+        let at = sums::add(o, row[1] as usize);
+        if row[0] == i {
+            if row[2] <= 8 {
+                buffer::put(b, at, row[2] as usize, row[3]);
+            } else {
+                buffer::fill(b, at, row[2] as usize, (row[3] % 256) as u8);
+            }
+        }
+    }
+}
+
+fn fields(b: &mut [u8], o: usize, i: u64) {
+    for k in 0..54usize {
+        field(b, o, i, k);
+    }
+}
+
+// Entry j, of 10 or 19 bytes; answers the place behind it.
+fn entry(b: &mut [u8], at: usize, j: u64, size: u64) -> usize {
+    let list = [
+        [0, 2, 0x3220],
+        [2, 8, sums::plus(10012300, j)],
+        [10, 8, 500],
+        [18, 1, 1],
+    ];
+    if size == 10 {
+        buffer::fields(b, at, &[list[0], list[1]]);
         return sums::add(at, 10);
     }
-    buffer::put(b, sums::add(at, 10), 8, 500);
-    buffer::put(b, sums::add(at, 18), 1, 1);
+    buffer::fields(b, at, &list);
     sums::add(at, 19)
 }
 
-fn entries(b: &mut [u8], from: usize, count: u64, short: bool) -> usize {
+fn entries(b: &mut [u8], from: usize, count: u64, size: u64) {
     let mut at = from;
     for j in 0..count {
-        at = entry(b, at, j, short);
+        at = entry(b, at, j, size);
     }
-    at
 }
 
-const SNAPSHOT: [[u64; 3]; 10] = [
-    [1, 1, 3],
-    [2, 4, 20260121],
-    [6, 4, 93000000],
-    [15, 8, 0x3939393030303031],
-    [23, 8, 0x53414D504C452020],
-    [31, 8, 10012345],
-    [39, 8, 1000],
-    [47, 8, 10],
-    [55, 8, 1001234],
-    [63, 8, 0x2031202020202020],
-];
+// The header, BodyLength and CheckSum; answers the frame's length.
+fn finish(b: &mut [u8], at: usize, i: u64) -> usize {
+    let header = [[0, 4, told(i, 0)], [4, 8, 20260121093000000], [12, 8, 7]];
+    buffer::fields(b, at, &header);
+    buffer::seal(b, at, told(i, 2) as usize)
+}
 
-fn snapshot(b: &mut [u8], at: usize, security: u64, stream: u64, count: u64, short: bool) -> usize {
+// A base with fields and entries.
+fn plain(b: &mut [u8], at: usize, i: u64) -> usize {
     let o = sums::add(at, 24);
-    let own = [[0, 1, security], [10, 5, stream], [71, 2, count]];
-    buffer::fields(b, o, &SNAPSHOT);
-    buffer::fields(b, o, &own);
-    let end = entries(b, sums::add(o, 73), count, short);
-    finish(b, at, 0x4D313032, sums::sub(end, o))
-}
-
-const ORDER: [[u64; 3]; 7] = [
-    [0, 1, 13],
-    [1, 2, 100],
-    [3, 8, 42],
-    [16, 8, 0x3939393030303031],
-    [24, 4, 93000123],
-    [29, 8, 10012345],
-    [37, 8, 5000],
-];
-
-fn order(b: &mut [u8], at: usize, stream: u64, exec: u64, tail: usize) -> usize {
-    let o = sums::add(at, 24);
-    let own = [[11, 5, stream], [28, 1, exec]];
-    buffer::fields(b, o, &ORDER);
-    buffer::fields(b, o, &own);
-    buffer::fill(b, sums::add(o, 45), tail, b'Q');
-    finish(b, at, 0x4D323031, sums::add(45, tail))
-}
-
-// The longest frame: 8,164 spaces.
-fn longest(b: &mut [u8], at: usize) -> usize {
-    buffer::fill(b, sums::add(at, 24), 8164, 0x20);
-    finish(b, at, 0x4D313031, 8164)
+    fields(b, o, told(i, 1));
+    fields(b, o, i);
+    entries(b, sums::add(o, 73), told(i, 3), told(i, 4));
+    finish(b, at, i)
 }
 
 // An M101 around two other frames.
 fn around(b: &mut [u8], at: usize) -> usize {
     let o = sums::add(at, 24);
-    let first = heartbeat(b, o);
-    let second = announcement(b, sums::add(o, first));
-    finish(b, at, 0x4D313031, sums::add(first, second))
+    let first = plain(b, o, 2);
+    plain(b, sums::add(o, first), 3);
+    finish(b, at, 12)
 }
 
 fn stray(b: &mut [u8], at: usize) -> usize {
@@ -142,22 +169,9 @@ fn stray(b: &mut [u8], at: usize) -> usize {
 // Lays frame i at a place, and answers its length.
 pub fn base(b: &mut [u8], at: usize, i: u64) -> usize {
     match i {
-        0 => logon(b, at),
-        1 => logout(b, at),
-        2 => heartbeat(b, at),
-        3 => announcement(b, at),
-        4 => resend(b, at),
-        5 => status(b, at),
-        6 => snapshot(b, at, 13, 0x4D44323130, 2, false),
-        7 => order(b, at, 0x4D44323137, 70, 53),
-        8 => snapshot(b, at, 1, 0x4D44303031, 2, true),
-        9 => order(b, at, 0x4D44323131, 48, 139),
-        10 => snapshot(b, at, 13, 0x4D44323130, 0, false),
-        11 => snapshot(b, at, 13, 0x4D44323130, 425, false),
         12 => around(b, at),
-        13 => longest(b, at),
         14 => stray(b, at),
-        _ => order(b, at, 0x4D44323939, 52, 7),
+        _ => plain(b, at, i),
     }
 }
 

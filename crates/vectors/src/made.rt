@@ -42,46 +42,109 @@ pub fn stream_of(k: u64) -> u64 {
 // How a field is drawn.
 const LETTERS: u64 = 0;
 
-const FROM_0: u64 = 1;
+const VALUE: u64 = 1;
 
-const FROM_1: u64 = 2;
+const CHANNEL: u64 = 2;
 
-const DECIMAL: u64 = 3;
+const NUMBER: u64 = 3;
 
-const DATE: u64 = 4;
+const FROM_0: u64 = 4;
 
-const CLOCK: u64 = 5;
+const FROM_1: u64 = 5;
 
-const DIGIT: u64 = 6;
+const DECIMAL: u64 = 6;
 
-fn drawn(how: u64, n: u64, x: &mut u64) -> u64 {
+const DATE: u64 = 7;
+
+const CLOCK: u64 = 8;
+
+const DIGIT: u64 = 9;
+
+const LAST: u64 = 10;
+
+// The kinds, and the two parts of an M102's entry.
+const SHORT: u64 = 8;
+
+const LONG: u64 = 9;
+
+// The fields in the order drawn: the kind, the place in its body, the width, how it is drawn, and from how many.
+const FIELDS: [[u64; 5]; 35] = [
+    [0, 0, 32, LETTERS, 0],
+    [0, 32, 32, LETTERS, 0],
+    [0, 64, 2, FROM_1, 65535],
+    [0, 66, 8, VALUE, 0x302E363220202020],
+    [1, 0, 4, FROM_0, 10000],
+    [1, 4, 256, LETTERS, 0],
+    [3, 0, 1, VALUE, 13],
+    [3, 1, 2, CHANNEL, 0],
+    [3, 3, 8, NUMBER, 0],
+    [3, 11, 1, LAST, 0],
+    [4, 0, 2, CHANNEL, 0],
+    [4, 2, 1, VALUE, 1],
+    [4, 3, 8, NUMBER, 0],
+    [6, 1, 1, FROM_1, 3],
+    [6, 2, 4, DATE, 0],
+    [6, 6, 4, CLOCK, 0],
+    [6, 15, 8, LETTERS, 0],
+    [6, 23, 8, LETTERS, 0],
+    [6, 31, 8, DECIMAL, 13],
+    [6, 39, 8, DECIMAL, 16],
+    [6, 47, 8, DECIMAL, 16],
+    [6, 55, 8, DECIMAL, 16],
+    [6, 63, 8, LETTERS, 0],
+    [7, 0, 1, VALUE, 13],
+    [7, 1, 2, CHANNEL, 0],
+    [7, 3, 8, NUMBER, 0],
+    [7, 16, 8, LETTERS, 0],
+    [7, 24, 4, CLOCK, 0],
+    [7, 29, 8, DECIMAL, 13],
+    [7, 37, 8, DECIMAL, 15],
+    [SHORT, 0, 1, DIGIT, 10],
+    [SHORT, 1, 1, VALUE, 32],
+    [SHORT, 2, 8, DECIMAL, 13],
+    [LONG, 10, 8, DECIMAL, 12],
+    [LONG, 18, 1, FROM_0, 100],
+];
+
+fn value_of(how: u64, n: u64, chan: u64, num: u64, x: &mut u64) -> u64 {
     match how {
+        VALUE => n,
+        CHANNEL => chan,
+        NUMBER => num,
         FROM_0 => generator::pick(x, n),
         FROM_1 => sums::plus(1, generator::pick(x, n)),
         DECIMAL => generator::dec(x, n),
         DATE => generator::date(x),
         CLOCK => generator::clock(x),
-        _ => sums::plus(48, generator::pick(x, n)),
+        DIGIT => sums::plus(48, generator::pick(x, n)),
+        _ => { if generator::pick(x, 2) == 0 { 78 } else { 89 } }
     }
 }
 
-// Field i of a list: its place behind `at`, its width, and how it is drawn.
-fn draw_field(b: &mut [u8], at: usize, list: &[[u64; 4]], i: usize, x: &mut u64) {
-    if i < list.len() {
-        let place = sums::add(at, list[i][0] as usize);
-        let w = list[i][1] as usize;
-        if list[i][2] == LETTERS {
-            buffer::letters(b, place, w, x);
-        } else {
-            buffer::put(b, place, w, drawn(list[i][2], list[i][3], x));
+// Row k of the fields, if it is a field of the kind.
+fn field(b: &mut [u8], o: usize, kind: u64, k: usize, chan: u64, num: u64, x: &mut u64) {
+    if k < 35 {
+        let row = FIELDS[k];
+        let at = sums::add(o, row[1] as usize);
+        if row[0] == kind {
+            if row[3] == LETTERS {
+                buffer::letters(b, at, row[2] as usize, x);
+            } else {
+                buffer::put(
+                    b,
+                    at,
+                    row[2] as usize,
+                    value_of(row[3], row[4], chan, num, x),
+                );
+            }
         }
     }
 }
 
-// All fields of a list, in its order.
-fn draw_fields(b: &mut [u8], at: usize, list: &[[u64; 4]], x: &mut u64) {
-    for i in 0..list.len() {
-        draw_field(b, at, list, i, x);
+// All fields of a kind.
+fn fields(b: &mut [u8], o: usize, kind: u64, chan: u64, num: u64, x: &mut u64) {
+    for k in 0..35usize {
+        field(b, o, kind, k, chan, num, x);
     }
 }
 
@@ -96,32 +159,6 @@ fn header(b: &mut [u8], at: usize, kind: u64, x: &mut u64) {
     buffer::fields(b, at, &list);
 }
 
-const LOGON: [[u64; 4]; 3] = [
-    [0, 32, LETTERS, 0],
-    [32, 32, LETTERS, 0],
-    [64, 2, FROM_1, 65535],
-];
-
-fn logon(b: &mut [u8], o: usize, x: &mut u64) -> usize {
-    draw_fields(b, o, &LOGON, x);
-    buffer::put(b, sums::add(o, 66), 8, 0x302E363220202020);
-    74
-}
-
-const LOGOUT: [[u64; 4]; 2] = [[0, 4, FROM_0, 10000], [4, 256, LETTERS, 0]];
-
-fn logout(b: &mut [u8], o: usize, x: &mut u64) -> usize {
-    draw_fields(b, o, &LOGOUT, x);
-    260
-}
-
-fn announcement(b: &mut [u8], o: usize, chan: u64, num: u64, x: &mut u64) -> usize {
-    let e = if generator::pick(x, 2) == 0 { 78 } else { 89 };
-    let list = [[0, 1, 13], [1, 2, chan], [3, 8, num], [11, 1, e]];
-    buffer::fields(b, o, &list);
-    12
-}
-
 // ApplEndSeqNum of a resend with a status.
 fn resend_end(status: u64, num: u64, x: &mut u64) -> u64 {
     if status != 0 {
@@ -134,17 +171,10 @@ fn resend_end(status: u64, num: u64, x: &mut u64) -> u64 {
     }
 }
 
-fn resend(b: &mut [u8], o: usize, chan: u64, num: u64, x: &mut u64) -> usize {
+fn resend(b: &mut [u8], o: usize, num: u64, x: &mut u64) -> usize {
     let s = generator::pick(x, 7);
     let status = if s == 6 { 99 } else { s };
-    let last = resend_end(status, num, x);
-    let list = [
-        [0, 2, chan],
-        [2, 1, 1],
-        [3, 8, num],
-        [11, 8, last],
-        [19, 1, status],
-    ];
+    let list = [[11, 8, resend_end(status, num, x)], [19, 1, status]];
     buffer::fields(b, o, &list);
     buffer::letters(b, sums::add(o, 20), 32, x);
     52
@@ -156,18 +186,13 @@ fn status(b: &mut [u8], o: usize, x: &mut u64) -> usize {
     n
 }
 
-const ENTRY: [[u64; 4]; 2] = [[0, 1, DIGIT, 10], [2, 8, DECIMAL, 13]];
-
-const LONG_ENTRY: [[u64; 4]; 2] = [[10, 8, DECIMAL, 12], [18, 1, FROM_0, 100]];
-
 // One entry of an M102; answers the place behind it.
 fn entry(b: &mut [u8], e: usize, k: u64, x: &mut u64) -> usize {
-    draw_fields(b, e, &ENTRY, x);
-    buffer::put(b, sums::add(e, 1), 1, 32);
+    fields(b, e, SHORT, 0, 0, x);
     if k == 0 {
         return sums::add(e, 10);
     }
-    draw_fields(b, e, &LONG_ENTRY, x);
+    fields(b, e, LONG, 0, 0, x);
     sums::add(e, 19)
 }
 
@@ -179,22 +204,9 @@ fn entries(b: &mut [u8], from: usize, k: u64, count: u64, x: &mut u64) -> usize 
     e
 }
 
-const SNAPSHOT: [[u64; 4]; 10] = [
-    [1, 1, FROM_1, 3],
-    [2, 4, DATE, 0],
-    [6, 4, CLOCK, 0],
-    [15, 8, LETTERS, 0],
-    [23, 8, LETTERS, 0],
-    [31, 8, DECIMAL, 13],
-    [39, 8, DECIMAL, 16],
-    [47, 8, DECIMAL, 16],
-    [55, 8, DECIMAL, 16],
-    [63, 8, LETTERS, 0],
-];
-
 fn snapshot(b: &mut [u8], o: usize, x: &mut u64) -> usize {
     let k = generator::pick(x, 10);
-    draw_fields(b, o, &SNAPSHOT, x);
+    fields(b, o, 6, 0, 0, x);
     let m = generator::pick(x, 6);
     let list = [
         [0, 1, sums::entry_of(&SECURITIES, k)],
@@ -229,13 +241,6 @@ fn tail_of(c: u64, x: &mut u64) -> usize {
     }
 }
 
-const ORDER: [[u64; 4]; 4] = [
-    [16, 8, LETTERS, 0],
-    [24, 4, CLOCK, 0],
-    [29, 8, DECIMAL, 13],
-    [37, 8, DECIMAL, 15],
-];
-
 fn order(b: &mut [u8], o: usize, chan: u64, num: u64, x: &mut u64) -> usize {
     let c = generator::pick(x, 8);
     let exec = exec_of(c, x);
@@ -245,29 +250,28 @@ fn order(b: &mut [u8], o: usize, chan: u64, num: u64, x: &mut u64) -> usize {
     } else {
         0x4D44323939
     };
-    let list = [
-        [0, 1, 13],
-        [1, 2, chan],
-        [3, 8, num],
-        [11, 5, stream],
-        [28, 1, exec],
-    ];
+    let list = [[11, 5, stream], [28, 1, exec]];
     buffer::fields(b, o, &list);
-    draw_fields(b, o, &ORDER, x);
+    fields(b, o, 7, chan, num, x);
     buffer::noise(b, sums::add(o, 45), tail, x);
     sums::add(45, tail)
 }
 
+// The lengths of the first four bodies.
+const LENGTHS: [u64; 4] = [74, 260, 0, 12];
+
 fn body(b: &mut [u8], o: usize, kind: u64, chan: u64, num: u64, x: &mut u64) -> usize {
     match kind {
-        0 => logon(b, o, x),
-        1 => logout(b, o, x),
-        2 => 0,
-        3 => announcement(b, o, chan, num, x),
-        4 => resend(b, o, chan, num, x),
         5 => status(b, o, x),
         6 => snapshot(b, o, x),
-        _ => order(b, o, chan, num, x),
+        7 => order(b, o, chan, num, x),
+        _ => {
+            fields(b, o, kind, chan, num, x);
+            if kind == 4 {
+                return resend(b, o, num, x);
+            }
+            sums::entry_of(&LENGTHS, kind) as usize
+        }
     }
 }
 

@@ -58,61 +58,41 @@ fn cases_of(part: usize, r: &[u8]) -> Cases {
     }
 }
 
-// One case of reading, writing, scrubbing or searching.
-fn frame_case(
-    part: usize,
-    case: u64,
-    r: &[u8],
-    b: &mut [u8],
-    out: &mut [u8],
-    was: &mut [u8],
-    t: &mut [u8],
-) {
+// A case of reading or searching.
+fn reading(part: usize, case: u64, r: &[u8], b: &mut [u8], t: &mut [u8]) {
     match part {
         0 => frames::read_row(t, b, r, case as usize),
         1 => frames::read_pair(t, b, case),
         2 => frames::read_made(t, b, case),
-        3 => frames::write_row(t, b, out, was, r, case as usize),
-        4 => frames::write_made(t, b, out, was, case),
-        5 => frames::scrub_base(t, b, was, case),
-        6 => frames::scrub_made(t, b, was, case),
         7 => frames::search_hand(t, b, r, case),
         _ => frames::search_made(t, b, case),
     }
 }
 
-// One case of the walk or of records.
-fn walk_case(
-    part: usize,
-    case: u64,
-    r: &[u8],
-    b: &mut [u8],
-    out: &mut [u8],
-    was: &mut [u8],
-    t: &mut [u8],
-) {
+// A case of writing or scrubbing.
+fn writing(part: usize, case: u64, r: &[u8], b: &mut [u8], out: &mut [u8], t: &mut [u8]) {
     match part {
-        9 => walks::hand_capture(t, b, out, was, r, case),
-        10 => walks::little_room(t, b, out, was, r, case),
-        11 => walks::made_capture(t, b, out, was, case),
+        3 => frames::write_row(t, b, out, r, case as usize),
+        4 => frames::write_made(t, b, out, case),
+        5 => frames::scrub_base(t, b, out, case),
+        _ => frames::scrub_made(t, b, out, case),
+    }
+}
+
+// A case of the walk or of records.
+fn walking(part: usize, case: u64, r: &[u8], b: &mut [u8], out: &mut [u8], t: &mut [u8]) {
+    match part {
+        9 => walks::hand_capture(t, b, out, r, case),
+        10 => walks::little_room(t, b, out, r, case),
+        11 => walks::made_capture(t, b, out, case),
         12 => walks::made_record(t, out, case),
         _ => walks::read_back(t, b, case),
     }
 }
 
-// One case of any kind. (All of the ledger's cases by hand are one: they stand on one ledger.)
-fn run_case(
-    part: usize,
-    case: u64,
-    r: &[u8],
-    b: &mut [u8],
-    out: &mut [u8],
-    was: &mut [u8],
-    t: &mut [u8],
-) {
+// A case of the ledger or of entries. (All of the ledger's by hand are one: they stand on one ledger.)
+fn counting(part: usize, case: u64, r: &[u8], b: &mut [u8], t: &mut [u8]) {
     match part {
-        0..=8 => frame_case(part, case, r, b, out, was, t),
-        9..=13 => walk_case(part, case, r, b, out, was, t),
         14 => ledgers::by_hand(t, r),
         15 => ledgers::generated(t, case),
         16 => ledgers::long_run(t, case),
@@ -121,18 +101,27 @@ fn run_case(
     }
 }
 
-fn run_part(part: usize, r: &[u8], b: &mut [u8], out: &mut [u8], was: &mut [u8], t: &mut [u8]) {
+fn run_case(part: usize, case: u64, r: &[u8], b: &mut [u8], out: &mut [u8], t: &mut [u8]) {
+    match part {
+        0..=2 | 7..=8 => reading(part, case, r, b, t),
+        3..=6 => writing(part, case, r, b, out, t),
+        9..=13 => walking(part, case, r, b, out, t),
+        _ => counting(part, case, r, b, t),
+    }
+}
+
+fn run_part(part: usize, r: &[u8], b: &mut [u8], out: &mut [u8], t: &mut [u8]) {
     let cases = cases_of(part, r);
     let first = cases.first;
     let count = cases.count;
     for i in 0..count {
-        run_case(part, sums::plus(first, i), r, b, out, was, t);
+        run_case(part, sums::plus(first, i), r, b, out, t);
     }
 }
 
-fn run_all(r: &[u8], b: &mut [u8], out: &mut [u8], was: &mut [u8], t: &mut [u8]) {
+fn run_all(r: &[u8], b: &mut [u8], out: &mut [u8], t: &mut [u8]) {
     for part in 0..PARTS {
-        run_part(part, r, b, out, was, t);
+        run_part(part, r, b, out, t);
     }
 }
 
@@ -140,10 +129,9 @@ fn main() {
     let mut page = io::large_buffer();
     let mut r = [0u8; rows::SIZE];
     let mut b = [0u8; 8192];
-    let mut out = [0u8; 18432];
-    let mut was = [0u8; 18432];
+    let mut out = [0u8; 36864];
     let mut t = [0u8; 20480];
     let n = io::read_full(0, &mut page);
     rows::take(&mut r, &page[..n]);
-    run_all(&r, &mut b, &mut out, &mut was, &mut t);
+    run_all(&r, &mut b, &mut out, &mut t);
 }

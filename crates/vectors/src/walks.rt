@@ -14,9 +14,6 @@ use terms::SessionNumber;
 use terms::TickNumber;
 use walk::Walked;
 
-// How many bytes the records' buffer has.
-const ROOM: usize = 18432;
-
 // Ends a line with a record in hex and its line of the listing, which has a newline of its own.
 fn listed(t: &mut [u8], n: usize, bytes: &[u8], r: Record) {
     let shown = text::hex(t, n, bytes);
@@ -63,20 +60,17 @@ fn walk_front(b: &[u8], size: usize, out: &mut [u8], room: usize) -> Walked {
     walk::walk(capture, out)
 }
 
-// The line `walk`, and the lines of its records. All bytes lent were 0xA5, as those of `was` are.
-fn walk_lines(
-    t: &mut [u8],
-    out: &[u8],
-    was: &[u8],
-    case: u64,
-    size: usize,
-    room: usize,
-    w: Walked,
-) {
+// The line `walk`, and the lines of its records. All of `out` was 0xA5, and its second half still is.
+fn walk_lines(t: &mut [u8], out: &[u8], case: u64, size: usize, room: usize, w: Walked) {
     let l = w.ledger;
     let answer = w.answer;
     let number = ledgers::answer_of(answer);
-    let changed = buffer::changed(out, was, (w.records % 65536) * 64, room);
+    let changed = buffer::changed(
+        out,
+        buffer::second_half(out),
+        (w.records % 65536) * 64,
+        room,
+    );
     let started = text::start(t, b"walk", &[case, size as u64, room as u64, number]);
     let counts = [w.records as u64, w.frames as u64, w.refused as u64, changed];
     let told = text::numbers(t, started, &counts);
@@ -87,59 +81,36 @@ fn walk_lines(
     }
 }
 
-fn walked(
-    t: &mut [u8],
-    b: &[u8],
-    out: &mut [u8],
-    was: &mut [u8],
-    case: u64,
-    size: usize,
-    room: usize,
-) {
+fn walked(t: &mut [u8], b: &[u8], out: &mut [u8], case: u64, size: usize, room: usize) {
     buffer::fill_from(out, 0, 0xA5);
-    buffer::fill_from(was, 0, 0xA5);
     let w = walk_front(b, size, out, room);
-    walk_lines(t, out, was, case, size, room, w);
+    walk_lines(t, out, case, size, room, w);
 }
 
-pub fn hand_capture(
-    t: &mut [u8],
-    b: &mut [u8],
-    out: &mut [u8],
-    was: &mut [u8],
-    r: &[u8],
-    case: u64,
-) {
+pub fn hand_capture(t: &mut [u8], b: &mut [u8], out: &mut [u8], r: &[u8], case: u64) {
     let size = hand::capture(b, r, case);
-    walked(t, b, out, was, case, size, ROOM);
+    walked(t, b, out, case, size, buffer::ROOM);
 }
 
 const ROOMS: [u64; 10] = [0, 1, 63, 64, 127, 128, 191, 192, 193, 256];
 
 // Capture 0 with little room; case 110 is capture 1 with none.
-pub fn little_room(
-    t: &mut [u8],
-    b: &mut [u8],
-    out: &mut [u8],
-    was: &mut [u8],
-    r: &[u8],
-    case: u64,
-) {
+pub fn little_room(t: &mut [u8], b: &mut [u8], out: &mut [u8], r: &[u8], case: u64) {
     let size = hand::capture(b, r, if case == 110 { 1 } else { 0 });
     let room = sums::entry_of(&ROOMS, sums::minus(case, 100)) as usize;
-    walked(t, b, out, was, case, size, room);
+    walked(t, b, out, case, size, room);
 }
 
-pub fn made_capture(t: &mut [u8], b: &mut [u8], out: &mut [u8], was: &mut [u8], case: u64) {
+pub fn made_capture(t: &mut [u8], b: &mut [u8], out: &mut [u8], case: u64) {
     let mut x = 0;
     generator::seed(&mut x, 5, case);
     let size = made::capture(b, &mut x);
     let room = if generator::pick(&mut x, 5) == 0 {
         generator::place(&mut x, 1024)
     } else {
-        ROOM
+        buffer::ROOM
     };
-    walked(t, b, out, was, case, size, room);
+    walked(t, b, out, case, size, room);
 }
 
 // The name of a kind, or four spaces.

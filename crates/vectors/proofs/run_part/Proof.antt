@@ -7,10 +7,10 @@ use Rattle.vectors.proofs.run_part.Statement.{statement}
 use Rattle.vectors.proofs.run_part.Tie as tie
 
 abbrev Inv-loop : tie.InvT-loop
-Inv-loop part r b₀ out₀ was₀ t₀ first count i₀ b out was t i = (length b ≡ length b₀) × (length out ≡ length out₀) × (length was ≡ length was₀) × (length t ≡ length t₀)
+Inv-loop part r b₀ out₀ t₀ first count i₀ b out t i = (length b ≡ length b₀) × (length out ≡ length out₀) × (length t ≡ length t₀)
 
 abbrev μ-loop : tie.MeasureT-loop
-μ-loop part r b₀ out₀ was₀ t₀ first count i₀ b out was t i = count - i
+μ-loop part r b₀ out₀ t₀ first count i₀ b out t i = count - i
 
 pub run-part-spec : {M : Type 1} → statement M
 run-part-spec =
@@ -22,7 +22,6 @@ run-part-spec =
     (λ c. search needs)
     (λ c κs. search needs)
     (λ c κs. search needs)
-    (λ c. search needs)
     (λ c. search needs)
     (λ c. search needs)
     (λ c. search needs)

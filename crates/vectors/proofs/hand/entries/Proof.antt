@@ -7,10 +7,10 @@ use Rattle.vectors.proofs.hand.entries.Statement.{statement}
 use Rattle.vectors.proofs.hand.entries.Tie as tie
 
 abbrev Inv-loop : tie.InvT-loop
-Inv-loop b₀ from count short at₀ j₀ b at j = length b ≡ length b₀
+Inv-loop b₀ from count size at₀ j₀ b at j = length b ≡ length b₀
 
 abbrev μ-loop : tie.MeasureT-loop
-μ-loop b₀ from count short at₀ j₀ b at j = count - j
+μ-loop b₀ from count size at₀ j₀ b at j = count - j
 
 pub entries-spec : {M : Type 1} → statement M
 entries-spec =
