@@ -9,7 +9,6 @@ use crate::text;
 use frame::Found;
 use frame::Read;
 use octets::Written;
-use terms::Refusal;
 use terms::SessionNumber;
 
 const TYPES: [u64; 10] = [0, 1, 2, 3, 4, 11, 12, 13, 14, 15];
@@ -17,14 +16,10 @@ const TYPES: [u64; 10] = [0, 1, 2, 3, 4, 11, 12, 13, 14, 15];
 // The streams that the page tries, but for the ten that an M102 may have.
 const OTHERS: [u64; 3] = [0x4D44323131, 0x4D44323137, 0x4D44303030];
 
-pub fn number_of(why: Refusal) -> u64 {
-    why.number() as u64
-}
-
 // The items of a line `read` behind its case.
 fn read_items(t: &mut [u8], n: usize, bytes: &[u8]) -> usize {
     match frame::read_at(bytes, 0) {
-        Read::Refused(why) => text::number(t, n, number_of(why)),
+        Read::Refused(why) => text::number(t, n, text::number_of(why)),
         Read::Frame {
             msg_type,
             sending_time,
@@ -106,7 +101,10 @@ fn write_items(t: &mut [u8], n: usize, answer: Written, lent: &[u8], was: &[u8])
         Written::Refused(why) => text::numbers(
             t,
             n,
-            &[number_of(why), buffer::changed(lent, was, 0, lent.len())],
+            &[
+                text::number_of(why),
+                buffer::changed(lent, was, 0, lent.len()),
+            ],
         ),
         Written::Bytes(len) => {
             let told = text::numbers(t, n, &[0, len as u64]);
@@ -132,14 +130,14 @@ fn write_line(t: &mut [u8], b: &[u8], out: &mut [u8], case: u64, size: usize, ro
 
 // A number, or another one where it is `*`.
 fn given(v: u64, other: usize) -> usize {
-    if v == 9999 { other } else { v as usize }
+    if v == rows::STAR { other } else { v as usize }
 }
 
 // A base in a buffer of spaces, with spaces behind its body too where another length is told. Answers its BodyLength.
 pub fn bare_base(b: &mut [u8], i: u64, told: u64) -> usize {
     buffer::fill_from(b, 0, 0x20);
     let len = hand::base(b, 0, i);
-    if told == 9999 {
+    if told == rows::STAR {
         return sums::sub(len, 28);
     }
     buffer::fill_from(b, sums::sub(len, 4), 0x20);
@@ -210,7 +208,7 @@ fn scrub_again(b: &mut [u8], was: &mut [u8], lent: usize) -> u64 {
     octets::lay(was, 0, b);
     match scrub_front(b, lent) {
         Written::Bytes(_) => 0,
-        Written::Refused(why) => number_of(why),
+        Written::Refused(why) => text::number_of(why),
     }
 }
 
@@ -224,7 +222,7 @@ fn scrub_items(
     lent: usize,
 ) -> usize {
     match answer {
-        Written::Refused(why) => text::number(t, n, number_of(why)),
+        Written::Refused(why) => text::number(t, n, text::number_of(why)),
         Written::Bytes(len) => {
             let told = text::numbers(t, n, &[0, len as u64]);
             let shown = text::hex(t, told, buffer::part(b, 0, lent));

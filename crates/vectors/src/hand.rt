@@ -198,7 +198,11 @@ pub fn piece(b: &mut [u8], at: usize, r: &[u8], table: usize, row: usize) -> usi
     change(b, at, r, table, row, 5);
     mend_if(b, at, len, mend == 2);
     let given = rows::cell(r, table, row, 8);
-    if given == 9999 { len } else { given as usize }
+    if given == rows::STAR {
+        len
+    } else {
+        given as usize
+    }
 }
 
 // The size of the capture of a number with row i: its piece is laid if it is the capture's.

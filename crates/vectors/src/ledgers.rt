@@ -12,7 +12,6 @@ use ledger::RequestAnswer;
 use ledger::TickAnswer;
 use map::Map;
 use terms::ChannelNumber;
-use terms::Refusal;
 use terms::TickNumber;
 
 fn channel_of(v: u64) -> ChannelNumber {
@@ -23,28 +22,24 @@ pub fn wide(v: u16) -> u64 {
     v as u64
 }
 
-fn number_of(why: Refusal) -> u64 {
-    why.number() as u64
-}
-
 pub fn answer_of(a: Answer) -> u64 {
     match a {
         Answer::Done => 0,
-        Answer::Refused(why) => number_of(why),
+        Answer::Refused(why) => text::number_of(why),
     }
 }
 
 fn tick_answer(a: TickAnswer) -> u64 {
     match a {
         TickAnswer::Passed { first: _, count: _ } => 0,
-        TickAnswer::Refused(why) => number_of(why),
+        TickAnswer::Refused(why) => text::number_of(why),
     }
 }
 
 fn reply_answer(a: ReplyAnswer) -> u64 {
     match a {
         ReplyAnswer::Cleared => 0,
-        ReplyAnswer::Refused(why) => number_of(why),
+        ReplyAnswer::Refused(why) => text::number_of(why),
     }
 }
 
@@ -116,7 +111,7 @@ fn announced(t: &mut [u8], case: u64, l: Ledger, chan: u64, num: u64) -> Ledger 
 fn granted(t: &mut [u8], n: usize, a: RequestAnswer) -> usize {
     match a {
         RequestAnswer::Refused(why) => {
-            let told = text::number(t, n, number_of(why));
+            let told = text::number(t, n, text::number_of(why));
             text::word(t, told, b"none")
         }
         RequestAnswer::Granted { first, last } => text::numbers(

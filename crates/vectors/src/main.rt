@@ -36,24 +36,24 @@ fn rows_of(r: &[u8], table: usize, width: usize) -> Cases {
 
 fn cases_of(part: usize, r: &[u8]) -> Cases {
     match part {
-        0 => rows_of(r, rows::READ, 9),
+        0 => rows_of(r, rows::READ, 9), // 5.1
         1 => from(500, 130),
         2 => from(1000, 1200),
-        3 => rows_of(r, rows::WRITE, 9),
+        3 => rows_of(r, rows::WRITE, 9), // 5.2
         4 => from(1000, 400),
-        5 => from(0, 16),
+        5 => from(0, 16), // 5.3
         6 => from(1000, 300),
-        7 => from(0, 20),
+        7 => from(0, 20), // 5.5
         8 => from(1000, 100),
-        9 => from(0, 20),
+        9 => from(0, 20), // 5.6
         10 => from(100, 11),
         11 => from(1000, 150),
-        12 => from(1000, 60),
+        12 => from(1000, 60), // 5.7
         13 => from(2000, 40),
-        14 => from(0, 1),
-        15 => from(1000, 120),
-        16 => from(1000, 6),
-        17 => rows_of(r, rows::ENTRY, 5),
+        14 => from(0, 1), // 5.8
+        15 => from(1000, 120), // 5.9
+        16 => from(1000, 6), // 5.10
+        17 => rows_of(r, rows::ENTRY, 5), // 5.11
         _ => from(1000, 100),
     }
 }

@@ -13,10 +13,14 @@ use rules::Verdict;
 
 const BEYOND: usize = 18446744073709551615;
 
+// Where `reader_of` opens a reader, over the body or beside a refusal over nothing: its promise `Opens` says so. A reader
+// holds a reference, so the program uses `open_at` and `step_from`, which take the body and the place themselves.
+const FIRST: usize = 73;
+
 fn step_answer(a: Answer) -> u64 {
     match a {
         Answer::Done(_) => 0,
-        Answer::Refused(why) => frames::number_of(why),
+        Answer::Refused(why) => text::number_of(why),
     }
 }
 
@@ -69,7 +73,7 @@ fn step_line(t: &mut [u8], body: &[u8], case: u64, place: usize) -> usize {
 
 // Steps until the first refusal, but at most eight times.
 fn steps(t: &mut [u8], body: &[u8], case: u64) {
-    let mut place = 73;
+    let mut place = FIRST;
     for _ in 0..8u64 {
         place = step_line(t, body, case, place);
         if place == BEYOND {
@@ -78,22 +82,22 @@ fn steps(t: &mut [u8], body: &[u8], case: u64) {
     }
 }
 
-// The line `reader`, and the steps of a reader that was opened. (The reader that stands beside a refusal carries nothing.)
+// The line `reader`, and the steps of a reader that was opened.
 fn opening(t: &mut [u8], body: &[u8], case: u64) {
     let size = body.len() as u64;
     match entries::open_at(body) {
         Verdict::Fine => {
-            let n = text::start(t, b"reader", &[case, size, 0, 73]);
+            let n = text::start(t, b"reader", &[case, size, 0, FIRST as u64]);
             text::end(t, n);
             steps(t, body, case);
         }
         Verdict::Refused(why) => {
-            let stop = entries::step_from(buffer::part(body, 0, 0), 73);
+            let stop = entries::step_from(buffer::part(body, 0, 0), FIRST);
             let answer = stop.answer;
             let n = text::start(
                 t,
                 b"reader",
-                &[case, size, frames::number_of(why), step_answer(answer)],
+                &[case, size, text::number_of(why), step_answer(answer)],
             );
             text::end(t, n);
         }
@@ -111,7 +115,11 @@ pub fn row(t: &mut [u8], b: &mut [u8], r: &[u8], i: usize) {
     let at = (i % 65536) * 5;
     let told = rows::cell(r, rows::ENTRY, at, 4);
     let own = frames::bare_base(b, rows::cell(r, rows::ENTRY, at, 0), told);
-    let n = if told == 9999 { own } else { told as usize };
+    let n = if told == rows::STAR {
+        own
+    } else {
+        told as usize
+    };
     hand::change(b, 0, r, rows::ENTRY, at, 1);
     let body = buffer::part(b, 24, n);
     opening(t, body, i as u64);

@@ -19,6 +19,9 @@ pub const ENTRY: usize = 5;
 
 pub const PLACES: usize = 6;
 
+// What stands for `*`.
+pub const STAR: u64 = 9999;
+
 // How many bytes all tables take, each with room for 2,999 cells and their number.
 pub const SIZE: usize = 168000;
 
@@ -102,7 +105,7 @@ fn tick(r: Reader) -> Reader {
 fn begun(r: Reader, c: u64) -> Reader {
     match c {
         39 => within(r, QUOTED, 0),
-        42 => within(r, NAMED, 9999),
+        42 => within(r, NAMED, STAR),
         109 => within(r, NAMED, 0),
         35 => within(r, REMARK, 0),
         48..=57 => within(r, DECIMAL, sums::minus(c, 48)),

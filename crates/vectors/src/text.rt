@@ -3,6 +3,7 @@
 use crate::buffer;
 use crate::sums;
 use octets::Written;
+use terms::Refusal;
 
 pub fn space(t: &mut [u8], n: usize) -> usize {
     buffer::put(t, n, 1, 32);
@@ -21,6 +22,10 @@ pub fn bytes_in(written: Written) -> usize {
         Written::Bytes(k) => k,
         Written::Refused(_) => 0,
     }
+}
+
+pub fn number_of(why: Refusal) -> u64 {
+    why.number() as u64
 }
 
 pub fn number(t: &mut [u8], n: usize, v: u64) -> usize {
