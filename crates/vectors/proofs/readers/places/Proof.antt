@@ -1,0 +1,29 @@
+-- `vectors::readers::places` is safe and ends: the slice lent keeps its length, and what is left of the range falls.
+use mathlib.Core.Path.{_≡_}
+use Prim.Native.Nat.{_-_}
+use lib.ListN.{length}
+use borrow.Author.Needs.{needs}
+use Rattle.vectors.proofs.readers.places.Statement.{statement}
+use Rattle.vectors.proofs.readers.places.Tie as tie
+
+abbrev Inv-loop : tie.InvT-loop
+Inv-loop t₀ body r case i₀ i-end t i = length t ≡ length t₀
+
+abbrev μ-loop : tie.MeasureT-loop
+μ-loop t₀ body r case i₀ i-end t i = i-end - i
+
+pub places-spec : {M : Type 1} → statement M
+places-spec =
+    tie.close
+    (tie.spec
+    Inv-loop
+    μ-loop
+    (λ c κs. search needs)
+    (λ c. search needs)
+    (λ c κs. search needs)
+    (λ c κs. search needs)
+    (λ c. search needs)
+    (λ c. search needs)
+    (λ c. search needs)
+    (λ c. search needs)
+    (λ c. search needs))

@@ -1,0 +1,28 @@
+-- `vectors::text::numbers` is safe and ends: the slice lent keeps its length, and what is left of the range falls.
+use mathlib.Core.Path.{_≡_}
+use Prim.Native.Nat.{_-_}
+use lib.ListN.{length}
+use borrow.Author.Needs.{needs}
+use Rattle.vectors.proofs.text.numbers.Statement.{statement}
+use Rattle.vectors.proofs.text.numbers.Tie as tie
+
+abbrev Inv-loop : tie.InvT-loop
+Inv-loop t₀ n list at₀ i₀ i-end t at i = length t ≡ length t₀
+
+abbrev μ-loop : tie.MeasureT-loop
+μ-loop t₀ n list at₀ i₀ i-end t at i = i-end - i
+
+pub numbers-spec : {M : Type 1} → statement M
+numbers-spec =
+    tie.close
+    (tie.spec
+    Inv-loop
+    μ-loop
+    (λ c. search needs)
+    (λ c κs. search needs)
+    (λ c κs. search needs)
+    (λ c. search needs)
+    (λ c. search needs)
+    (λ c. search needs)
+    (λ c. search needs)
+    (λ c. search needs))

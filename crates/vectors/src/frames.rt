@@ -1,0 +1,330 @@
+// Reading, writing, scrubbing and searching: docs/VECTORS.md, 5.1, 5.2, 5.3 and 5.5. `b` is the buffer, `t` the line.
+use crate::buffer;
+use crate::generator;
+use crate::hand;
+use crate::made;
+use crate::rows;
+use crate::sums;
+use crate::text;
+use frame::Found;
+use frame::Read;
+use octets::Written;
+use terms::SessionNumber;
+
+const TYPES: [u64; 10] = [0, 1, 2, 3, 4, 11, 12, 13, 14, 15];
+
+// The streams that the page tries, but for the ten that an M102 may have.
+const OTHERS: [u64; 3] = [0x4D44323131, 0x4D44323137, 0x4D44303030];
+
+// The items of a line `read` behind its case.
+fn read_items(t: &mut [u8], n: usize, bytes: &[u8]) -> usize {
+    match frame::read_at(bytes, 0) {
+        Read::Refused(why) => text::number(t, n, text::number_of(why)),
+        Read::Frame {
+            msg_type,
+            sending_time,
+            seq,
+            body_len,
+        } => {
+            let size = body_len as u64;
+            let told = text::numbers(t, n, &[0, sums::plus(28, size)]);
+            let typed = text::msg_type(t, told, msg_type as u64);
+            let headed = text::numbers(t, typed, &[sending_time, seq.value(), size]);
+            text::hex(t, headed, frame::body_at(bytes, 0))
+        }
+    }
+}
+
+// The line `read` of the first len bytes.
+fn read_line(t: &mut [u8], b: &[u8], case: u64, len: usize) {
+    let started = text::start(t, b"read", &[case]);
+    let n = read_items(t, started, buffer::part(b, 0, len));
+    text::end(t, n);
+}
+
+pub fn read_row(t: &mut [u8], b: &mut [u8], r: &[u8], i: usize) {
+    let len = hand::piece(b, 0, r, rows::READ, (i % 65536) * 9);
+    read_line(t, b, i as u64, len);
+}
+
+// SecurityType and stream of an M102, all pairs.
+pub fn read_pair(t: &mut [u8], b: &mut [u8], case: u64) {
+    let k = sums::minus(case, 500);
+    let j = k % 13;
+    let stream = if j < 10 {
+        made::stream_of(j)
+    } else {
+        sums::entry_of(&OTHERS, sums::minus(j, 10))
+    };
+    let len = hand::base(b, 0, 10);
+    let list = [[24, 1, sums::entry_of(&TYPES, k / 13)], [34, 5, stream]];
+    buffer::fields(b, 0, &list);
+    buffer::mend(b, 0, len);
+    read_line(t, b, case, len);
+}
+
+// A frame at 0 of any kind, channel and number.
+fn any_frame(b: &mut [u8], s: u64, case: u64, x: &mut u64) -> usize {
+    generator::seed(x, s, case);
+    let chan = made::channel(x);
+    let num = made::number(x);
+    made::some(b, 0, chan, num, x)
+}
+
+// The same, perhaps damaged.
+fn damaged_frame(b: &mut [u8], s: u64, case: u64) -> usize {
+    let mut x = 0;
+    let len = any_frame(b, s, case, &mut x);
+    made::damage(b, 0, len, &mut x)
+}
+
+pub fn read_made(t: &mut [u8], b: &mut [u8], case: u64) {
+    let len = damaged_frame(b, 1, case);
+    read_line(t, b, case, len);
+}
+
+// Writes the message of the frame at 0, with a body of n bytes, into the first `room` bytes of `out`.
+fn write_message(b: &[u8], n: usize, out: &mut [u8], room: usize) -> Written {
+    let msg_type = octets::u32_at(b, 0);
+    let sent = octets::u64_at(b, 4);
+    let seq = SessionNumber::new(octets::u64_at(b, 12));
+    let body = buffer::part(b, 24, n);
+    if room <= out.len() {
+        return frame::write(msg_type, sent, seq, body, &mut out[0..room]);
+    }
+    Written::Bytes(0)
+}
+
+// The items of a line `write` behind its case. The bytes lent were as those of `was` are.
+fn write_items(t: &mut [u8], n: usize, answer: Written, lent: &[u8], was: &[u8]) -> usize {
+    match answer {
+        Written::Refused(why) => text::numbers(
+            t,
+            n,
+            &[
+                text::number_of(why),
+                buffer::changed(lent, was, 0, lent.len()),
+            ],
+        ),
+        Written::Bytes(len) => {
+            let told = text::numbers(t, n, &[0, len as u64]);
+            text::hex(t, told, lent)
+        }
+    }
+}
+
+// The line `write`. All of `out` was 0xA5, and its second half still is.
+fn write_line(t: &mut [u8], b: &[u8], out: &mut [u8], case: u64, size: usize, room: usize) {
+    buffer::fill_from(out, 0, 0xA5);
+    let started = text::start(t, b"write", &[case]);
+    let answer = write_message(b, size, out, room);
+    let n = write_items(
+        t,
+        started,
+        answer,
+        buffer::part(out, 0, room),
+        buffer::second_half(out),
+    );
+    text::end(t, n);
+}
+
+// A number, or another one where it is `*`.
+fn given(v: u64, other: usize) -> usize {
+    if v == rows::STAR { other } else { v as usize }
+}
+
+// A base in a buffer of spaces, with spaces behind its body too where another length is told. Answers its BodyLength.
+pub fn bare_base(b: &mut [u8], i: u64, told: u64) -> usize {
+    buffer::fill_from(b, 0, 0x20);
+    let len = hand::base(b, 0, i);
+    if told == rows::STAR {
+        return sums::sub(len, 28);
+    }
+    buffer::fill_from(b, sums::sub(len, 4), 0x20);
+    sums::sub(len, 28)
+}
+
+pub fn write_row(t: &mut [u8], b: &mut [u8], out: &mut [u8], r: &[u8], i: usize) {
+    let row = (i % 65536) * 9;
+    let told = rows::cell(r, rows::WRITE, row, 7);
+    let n = given(told, bare_base(b, rows::cell(r, rows::WRITE, row, 0), told));
+    hand::change(b, 0, r, rows::WRITE, row, 1);
+    hand::change(b, 0, r, rows::WRITE, row, 4);
+    let room = given(rows::cell(r, rows::WRITE, row, 8), sums::add(n, 28));
+    write_line(t, b, out, i as u64, n, room);
+}
+
+// The frame with a body of n bytes changed, or not; answers the new n.
+fn rewritten(b: &mut [u8], n: usize, x: &mut u64) -> usize {
+    match generator::pick(x, 8) {
+        3 => {
+            made::raised(b, 0, 4, x);
+            n
+        }
+        4 => {
+            if n != 0 {
+                made::raised(b, 24, n, x);
+            }
+            n
+        }
+        5 => {
+            let more = generator::more(x, 20);
+            buffer::fill(b, sums::add(24, n), more, 32);
+            sums::add(n, more)
+        }
+        6 => { if n == 0 { 0 } else { generator::place(x, n) } }
+        _ => n,
+    }
+}
+
+fn room_for(n: usize, x: &mut u64) -> usize {
+    let len = sums::add(n, 28);
+    match generator::pick(x, 6) {
+        0 => len,
+        1 => sums::add(n, 27),
+        2 => generator::place(x, len),
+        _ => sums::add(len, generator::place(x, 9)),
+    }
+}
+
+pub fn write_made(t: &mut [u8], b: &mut [u8], out: &mut [u8], case: u64) {
+    let mut x = 0;
+    let len = any_frame(b, 2, case, &mut x);
+    let n = rewritten(b, sums::sub(len, 28), &mut x);
+    let room = room_for(n, &mut x);
+    write_line(t, b, out, case, n, room);
+}
+
+// Scrubs the first len bytes.
+fn scrub_front(b: &mut [u8], len: usize) -> Written {
+    if len <= b.len() {
+        return scrub::scrub(&mut b[0..len]);
+    }
+    Written::Bytes(0)
+}
+
+// The second scrubbing of a buffer that was scrubbed: its number.
+fn scrub_again(b: &mut [u8], was: &mut [u8], lent: usize) -> u64 {
+    octets::lay(was, 0, b);
+    match scrub_front(b, lent) {
+        Written::Bytes(_) => 0,
+        Written::Refused(why) => text::number_of(why),
+    }
+}
+
+// The items of a line `scrub` behind its case, but for CHANGED. The first scrubbing has given `answer`.
+fn scrub_items(
+    t: &mut [u8],
+    n: usize,
+    answer: Written,
+    b: &mut [u8],
+    was: &mut [u8],
+    lent: usize,
+) -> usize {
+    match answer {
+        Written::Refused(why) => text::number(t, n, text::number_of(why)),
+        Written::Bytes(len) => {
+            let told = text::numbers(t, n, &[0, len as u64]);
+            let shown = text::hex(t, told, buffer::part(b, 0, lent));
+            text::number(t, shown, scrub_again(b, was, lent))
+        }
+    }
+}
+
+// The line `scrub`, of the first `lent` bytes.
+fn scrub_line(t: &mut [u8], b: &mut [u8], was: &mut [u8], case: u64, lent: usize) {
+    octets::lay(was, 0, b);
+    let started = text::start(t, b"scrub", &[case]);
+    let answer = scrub_front(b, lent);
+    let n = scrub_items(t, started, answer, b, was, lent);
+    let changed = text::number(t, n, buffer::changed(b, was, 0, lent));
+    text::end(t, changed);
+}
+
+pub fn scrub_base(t: &mut [u8], b: &mut [u8], was: &mut [u8], i: u64) {
+    let len = hand::base(b, 0, i);
+    buffer::fill(b, len, 5, 0xEE);
+    let lent = if i == 13 { len } else { sums::add(len, 5) };
+    scrub_line(t, b, was, i, lent);
+}
+
+pub fn scrub_made(t: &mut [u8], b: &mut [u8], was: &mut [u8], case: u64) {
+    let len = damaged_frame(b, 3, case);
+    scrub_line(t, b, was, case, len);
+}
+
+// The items of a line `search` behind its place.
+fn search_items(t: &mut [u8], n: usize, found: Found) -> usize {
+    match found {
+        Found::At(place) => text::numbers(t, n, &[0, place as u64]),
+        Found::Nothing => {
+            let told = text::number(t, n, 0);
+            text::word(t, told, b"none")
+        }
+        Found::Beyond => text::number(t, n, 9),
+    }
+}
+
+// The place behind the one found; where none was, one beyond all.
+fn after(found: Found) -> usize {
+    match found {
+        Found::At(place) => sums::add(place, 1),
+        Found::Nothing => 18446744073709551615,
+        Found::Beyond => 18446744073709551615,
+    }
+}
+
+// The line `search`. Answers the place to search from next.
+fn search_line(t: &mut [u8], b: &[u8], case: u64, size: usize, from: usize) -> usize {
+    let found = frame::search(buffer::part(b, 0, size), from);
+    let started = text::start(t, b"search", &[case, size as u64, from as u64]);
+    let n = search_items(t, started, found);
+    text::end(t, n);
+    after(found)
+}
+
+fn search_from_each(t: &mut [u8], b: &[u8], case: u64, size: usize, end: usize) {
+    for from in 0..end {
+        search_line(t, b, case, size, from);
+    }
+}
+
+// From 0, and as long as a place is found from the place after it.
+fn search_on(t: &mut [u8], b: &[u8], case: u64, size: usize) {
+    let mut from = 0;
+    for _ in 0..size {
+        from = search_line(t, b, case, size, from);
+        if size < from {
+            break;
+        }
+    }
+}
+
+// Case 2 is capture 0 from the largest place of all.
+pub fn search_hand(t: &mut [u8], b: &mut [u8], r: &[u8], case: u64) {
+    let size = hand::capture(b, r, if case == 2 { 0 } else { case });
+    match case {
+        0 => search_from_each(t, b, 0, size, 71),
+        1 => search_from_each(t, b, 1, size, 2),
+        2 => {
+            search_line(t, b, 2, size, 18446744073709551615);
+        }
+        _ => search_on(t, b, case, size),
+    }
+}
+
+pub fn search_made(t: &mut [u8], b: &mut [u8], case: u64) {
+    let mut x = 0;
+    generator::seed(&mut x, 4, case);
+    let size = made::capture(b, &mut x);
+    let places = sums::add(size, 1);
+    search_line(t, b, case, size, generator::place(&mut x, places));
+    search_line(t, b, case, size, generator::place(&mut x, places));
+    search_line(
+        t,
+        b,
+        case,
+        size,
+        sums::add(size, generator::place(&mut x, 3)),
+    );
+}

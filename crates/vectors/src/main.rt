@@ -1,0 +1,137 @@
+// Runs every case of docs/VECTORS.md, whose text it takes from standard input, and prints what came out.
+mod buffer;
+mod frames;
+mod generator;
+mod hand;
+mod ledgers;
+mod made;
+mod readers;
+mod rows;
+mod sums;
+mod text;
+mod walks;
+
+// The cases of one part of the page's section 5: the first of them, and how many there are.
+struct Cases {
+    first: u64,
+    count: u64,
+}
+
+// The parts in the order printed.
+const PARTS: usize = 19;
+
+fn from(first: u64, count: u64) -> Cases {
+    Cases { first, count }
+}
+
+// A case for each row of a table, whose rows have `width` cells.
+fn rows_of(r: &[u8], table: usize, width: usize) -> Cases {
+    let count = if width == 0 {
+        0
+    } else {
+        rows::count(r, table) / width
+    };
+    from(0, count as u64)
+}
+
+fn cases_of(part: usize, r: &[u8]) -> Cases {
+    match part {
+        0 => rows_of(r, rows::READ, 9), // 5.1
+        1 => from(500, 130),
+        2 => from(1000, 1200),
+        3 => rows_of(r, rows::WRITE, 9), // 5.2
+        4 => from(1000, 400),
+        5 => from(0, 16), // 5.3
+        6 => from(1000, 300),
+        7 => from(0, 20), // 5.5
+        8 => from(1000, 100),
+        9 => from(0, 20), // 5.6
+        10 => from(100, 11),
+        11 => from(1000, 150),
+        12 => from(1000, 60), // 5.7
+        13 => from(2000, 40),
+        14 => from(0, 1), // 5.8
+        15 => from(1000, 120), // 5.9
+        16 => from(1000, 6), // 5.10
+        17 => rows_of(r, rows::ENTRY, 5), // 5.11
+        _ => from(1000, 100),
+    }
+}
+
+// A case of reading or searching.
+fn reading(part: usize, case: u64, r: &[u8], b: &mut [u8], t: &mut [u8]) {
+    match part {
+        0 => frames::read_row(t, b, r, case as usize),
+        1 => frames::read_pair(t, b, case),
+        2 => frames::read_made(t, b, case),
+        7 => frames::search_hand(t, b, r, case),
+        _ => frames::search_made(t, b, case),
+    }
+}
+
+// A case of writing or scrubbing.
+fn writing(part: usize, case: u64, r: &[u8], b: &mut [u8], out: &mut [u8], t: &mut [u8]) {
+    match part {
+        3 => frames::write_row(t, b, out, r, case as usize),
+        4 => frames::write_made(t, b, out, case),
+        5 => frames::scrub_base(t, b, out, case),
+        _ => frames::scrub_made(t, b, out, case),
+    }
+}
+
+// A case of the walk or of records.
+fn walking(part: usize, case: u64, r: &[u8], b: &mut [u8], out: &mut [u8], t: &mut [u8]) {
+    match part {
+        9 => walks::hand_capture(t, b, out, r, case),
+        10 => walks::little_room(t, b, out, r, case),
+        11 => walks::made_capture(t, b, out, case),
+        12 => walks::made_record(t, out, case),
+        _ => walks::read_back(t, b, case),
+    }
+}
+
+// A case of the ledger or of entries. (All of the ledger's by hand are one: they stand on one ledger.)
+fn counting(part: usize, case: u64, r: &[u8], b: &mut [u8], t: &mut [u8]) {
+    match part {
+        14 => ledgers::by_hand(t, r),
+        15 => ledgers::generated(t, case),
+        16 => ledgers::long_run(t, case),
+        17 => readers::row(t, b, r, case as usize),
+        _ => readers::generated(t, b, case),
+    }
+}
+
+fn run_case(part: usize, case: u64, r: &[u8], b: &mut [u8], out: &mut [u8], t: &mut [u8]) {
+    match part {
+        0..=2 | 7..=8 => reading(part, case, r, b, t),
+        3..=6 => writing(part, case, r, b, out, t),
+        9..=13 => walking(part, case, r, b, out, t),
+        _ => counting(part, case, r, b, t),
+    }
+}
+
+fn run_part(part: usize, r: &[u8], b: &mut [u8], out: &mut [u8], t: &mut [u8]) {
+    let cases = cases_of(part, r);
+    let first = cases.first;
+    let count = cases.count;
+    for i in 0..count {
+        run_case(part, sums::plus(first, i), r, b, out, t);
+    }
+}
+
+fn run_all(r: &[u8], b: &mut [u8], out: &mut [u8], t: &mut [u8]) {
+    for part in 0..PARTS {
+        run_part(part, r, b, out, t);
+    }
+}
+
+fn main() {
+    let mut page = io::large_buffer();
+    let mut r = [0u8; rows::SIZE];
+    let mut b = [0u8; 8192];
+    let mut out = [0u8; 36864];
+    let mut t = [0u8; 20480];
+    let n = io::read_full(0, &mut page);
+    rows::take(&mut r, &page[..n]);
+    run_all(&r, &mut b, &mut out, &mut t);
+}
