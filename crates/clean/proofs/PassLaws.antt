@@ -33,12 +33,6 @@ laid-length at bs d =
     (λ (f : leb (at + length bs) (length d) ≡ false). ap length (laid-kept at (length bs) bs d refl f))
     (two (leb (at + length bs) (length d)))
 
--- a reading counts once at most
-pub found-one : (before reading n : ℕ) → n ≡ foundBy before reading → n ≤ 1
-unfolding foundBy
-found-one before reading n e =
-    ⊎-elim (λ (t : eqb before 0 ≡ true). let z : n ≡ 0 = rw t at e in omega arith) (λ (f : eqb before 0 ≡ false). accepts-one reading n (rw f at e)) (two (eqb before 0))
-
 -- the cleaned bytes of what is read from a place on
 abbrev leftOf : ℕ → List ℕ → List ℕ
 leftOf p s = cleanIn s (fromOf seenOf saysOf p s)
@@ -84,23 +78,23 @@ left-start s out =
       written = λ h. refl;
     }
 
-pub left-step : {s out₀ out out′ : List ℕ} {p r bytes frames found before k j : ℕ} {x : Seen} (w : Left s out₀ out p bytes frames found before) → p < length s
-    → x ≡ seenOf (drop p s) → out′ ≡ laidIfRoom bytes (scrubbed (take (x .size) (drop p s))) out → Steps s p (x .size) r → k ≡ accepts (x .answer) → j ≡ foundBy before (x .answer)
+pub left-step : {s out₀ out out′ : List ℕ} {p r bytes frames found before k j : ℕ} {x : Seen} (w : Left s out₀ out p bytes frames found before)
+    → x ≡ seenOf (drop p s) → out′ ≡ laidIfRoom bytes (scrubbed (take (x .size) (drop p s))) out → Steps s p (x .size) r → k ≡ accepts (x .answer) → (j ≡ foundBy before (x .answer)) × (j ≤ 1)
     → Left s out₀ out′ r (bytes + x .size) (frames + k) (found + j) (x .answer)
-left-step {s} {out₀} {out} {out′} {p} {r} {bytes} {frames} {found} {before} {k} {j} {x} w h e o g ke je =
+left-step {s} {out₀} {out} {out′} {p} {r} {bytes} {frames} {found} {before} {k} {j} {x} w e o g ke je =
     let frame = scrubbed (take (x .size) (drop p s)) in
     let next = left-next s p r x e g in
-    let long : length frame ≡ x .size = frame-length s p x e h in
+    let long : length frame ≡ x .size = frame-length s p x e (w .inside) in
     let all : length (leftOf p s) ≡ x .size + length (leftOf r s) = ap length next ∙ length-append frame (leftOf r s) ∙ ap (λ (n : ℕ). n + length (leftOf r s)) long in
     record {
       inside = g .goes .inside;
       few = omega (arith, w .few, g .past);
       frames-few = omega (arith, w .frames-few, g .goes .further, accepts-one (x .answer) k ke);
-      found-few = omega (arith, w .found-few, g .goes .further, found-one before (x .answer) j je);
+      found-few = omega (arith, w .found-few, g .goes .further, je .1);
       room = ap length o ∙ laid-length bytes frame out ∙ w .room;
       counted = omega (arith, w .counted, all);
       read = omega (arith, ke, w .read, frames-next s p r x e g);
-      searched = omega (arith, je, w .searched, found-next s p r x e g before);
+      searched = omega (arith, je .0, w .searched, found-next s p r x e g before);
       written = λ (f : length (cleanOf s) ≤ length out₀).
           let fits : bytes + length frame ≤ length out = omega (arith, long, all, f, w .counted, w .room) in
           let q : out′ ≡ laid bytes frame out = o ∙ laid-there bytes (length frame) frame out refl (le-leb (bytes + length frame) (length out) fits) in
@@ -139,16 +133,16 @@ unfolding cleanOf
 same-start s one l = record { inside = omega arith; few = omega arith; room = l; differs = refl }
 
 -- the reading at p made its frame at the front of one
-module _ (s one one′ : List ℕ) (p n : ℕ) (x : Seen) (w : Same s one p n) (h : p < length s) (e : x ≡ seenOf (drop p s))
+module _ (s one one′ : List ℕ) (p n : ℕ) (x : Seen) (w : Same s one p n) (e : x ≡ seenOf (drop p s))
     (o : one′ ≡ laidIfRoom 0 (scrubbed (take (x .size) (drop p s))) one) where
   abbrev frame : List ℕ
   frame = scrubbed (take (x .size) (drop p s))
 
   made : one′ ≡ laid 0 frame one
-  made = o ∙ laid-there 0 (x .size) frame one (frame-length s p x e h) (le-leb (0 + x .size) (length one) (omega (arith, size-small s p x e, w .room)))
+  made = o ∙ laid-there 0 (x .size) frame one (frame-length s p x e (w .inside)) (le-leb (0 + x .size) (length one) (omega (arith, size-small s p x e, w .room)))
 
   front : take (x .size) one′ ≡ frame
-  front = ap (take (x .size)) made ∙ take-front (x .size) frame one (frame-length s p x e h)
+  front = ap (take (x .size)) made ∙ take-front (x .size) frame one (frame-length s p x e (w .inside))
 
   pub one-long : length one′ ≡ 8192
   one-long = ap length o ∙ laid-length 0 frame one ∙ w .room
@@ -169,15 +163,15 @@ module _ (s one one′ : List ℕ) (p n : ℕ) (x : Seen) (w : Same s one p n) (
         }
 
     -- a reading with bytes is a frame, and the walk steps past it
-    past : k < x .size → Steps s p (x .size) (p + x .size)
-    past f =
+    past : p < length s → k < x .size → Steps s p (x .size) (p + x .size)
+    past h f =
         ⊎-elim (λ (z : x .answer ≡ 0). steps-frame s p x e h z)
         (λ (ne : x .answer ≡ 0 → ⊥). absurd (omega (arith, f, refused-size s p x e ne)))
         (same (x .answer) 0)
 
-    pub same-here : k < x .size → answer 0 ((n + k) ∷ []) ≡ checkOf s
+    pub same-here : p < length s → k < x .size → answer 0 ((n + k) ∷ []) ≡ checkOf s
     unfolding checkOf
-    same-here f = ap (answer 0) (sym (differs (p + x .size) (past f) ∙ rw (lt-ltb k (x .size) f)))
+    same-here h f = ap (answer 0) (sym (differs (p + x .size) (past h f) ∙ rw (lt-ltb k (x .size) f)))
 
 -- at the end nothing is left to be cleaned
 module _ {s one : List ℕ} {p n : ℕ} (w : Same s one p n) (h : length s ≤ p) where

@@ -11,13 +11,13 @@ use borrow.Author.Tests.{eq-eqb, ne-eqb, lt-ltb, le-ltb}
 use Rattle.terms.specs.Paper.{pick}
 use Rattle.clean.specs.Clean.{differOf}
 
-pub cons-same : (p x y : ℕ) (a b : List ℕ) → x ≡ y → differOf p (x ∷ a) (y ∷ b) ≡ differOf (p + 1) a b
-unfolding differOf
-cons-same p x y a b e = simp (eq-eqb x y e)
-
 cons-other : (p x y : ℕ) (a b : List ℕ) → (x ≡ y → ⊥) → differOf p (x ∷ a) (y ∷ b) ≡ p ∷ []
 unfolding differOf
 cons-other p x y a b ne = rw (ne-eqb x y ne)
+
+pub cons-same : (p x y : ℕ) (a b : List ℕ) → x ≡ y → differOf p (x ∷ a) (y ∷ b) ≡ differOf (p + 1) a b
+unfolding differOf
+cons-same p x y a b e = rw (eq-eqb x y e)
 
 -- the front f of a list, against what stands in s from n on, byte by byte
 module _ (s f rest : List ℕ) (n i : ℕ) (h : n + i < length s) (l : i < length f) where

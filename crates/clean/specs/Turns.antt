@@ -46,7 +46,7 @@ module _ (s : List ℕ) (p : ℕ) (x : Seen) (e : x ≡ seenOf (drop p s)) where
   accepted-size z = ap (λ (y : Seen). y .size) e ∙ seen-size (drop p s) (sym read-is ∙ z)
 
   -- a frame lies within the capture, and has at most 8,192 bytes
-  pub size-inside : p < length s → p + x .size ≤ length s
+  pub size-inside : p ≤ length s → p + x .size ≤ length s
   size-inside h =
       ⊎-elim (λ (z : x .answer ≡ 0). omega (arith, accepted-size z, good (drop p s) (sym read-is ∙ z) .whole .there, length-drop p s))
       (λ (ne : x .answer ≡ 0 → ⊥). omega (arith, refused-size ne))
@@ -75,7 +75,7 @@ module _ (s : List ℕ) (p : ℕ) (x : Seen) (e : x ≡ seenOf (drop p s)) where
   abbrev frameAt : List ℕ
   frameAt = scrubbed (take (x .size) (drop p s))
 
-  pub frame-length : p < length s → length frameAt ≡ x .size
+  pub frame-length : p ≤ length s → length frameAt ≡ x .size
   frame-length h =
       length-always (take (x .size) (drop p s)) ∙ length-take-le (x .size) (drop p s) (simp length-drop (omega (arith, size-inside h)))
 

@@ -87,7 +87,7 @@ fn accepted(answer: u32) -> usize
 
 // 1 for a reading that answered 0 right behind one that was refused, else 0.
 fn found(before: u32, answer: u32) -> usize
-    ensures { λ r. ⌜ r ≡ foundBy before answer ⌝ }
+    ensures { λ r. ⌜ (r ≡ foundBy before answer) × (r ≤ 1) ⌝ }
 {
     if before == 0 { 0 } else { accepted(answer) }
 }
@@ -183,7 +183,8 @@ pub fn is_clean(capture: &[u8]) -> Check
         keep(&mut one, 0, capture, at, seen.size);
         let same = agreed(capture, n, &one, seen.size);
         if same < seen.size {
-            return Check::Changed(n + same);
+            let place = n + same;
+            return Check::Changed(place);
         }
         at = onward(capture, at, seen);
         n += seen.size;

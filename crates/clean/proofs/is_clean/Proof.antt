@@ -26,23 +26,23 @@ slice-aggregate-keep : tie.Need-slice-aggregate-keep Inv-loop μ-loop
 slice-aggregate-keep c = sym (c .before .before .before .loop .inv .room)
 
 keep-requires : tie.Need-keep-requires Inv-loop μ-loop
-keep-requires c κs = (omega arith, size-inside _ _ _ (c .before .see .ensures) (c .before .before .loop-test .taken))
+keep-requires c κs = (omega arith, size-inside _ _ _ (c .before .see .ensures) (c .before .before .before .loop .inv .inside))
 
 -- the frame made leaves the array its length
 long : (c : tie.After-one3 Inv-loop μ-loop) → length (c .before .before .keep .last .0) ≡ 8192
-long c = one-long _ _ _ _ _ _ (c .before .before .before .before .before .before .loop .inv) (c .before .before .before .before .before .loop-test .taken) (c .before .before .before .before .see .ensures) (c .before .before .keep .ensures)
+long c = one-long _ _ _ _ _ _ (c .before .before .before .before .before .before .loop .inv) (c .before .before .before .before .see .ensures) (c .before .before .keep .ensures)
 
 slice-aggregate-agreed : tie.Need-slice-aggregate-agreed Inv-loop μ-loop
 slice-aggregate-agreed c = sym (long c)
 
 agreed-requires : tie.Need-agreed-requires Inv-loop μ-loop
-agreed-requires c κs = (omega (arith, c .before .before .before .before .before .before .loop .inv .few, size-inside _ _ _ (c .before .before .before .before .see .ensures) (c .before .before .before .before .before .loop-test .taken)), omega (arith, long c, size-small (c .before .before .before .before .before .before .before .before .args .capture .now) (c .before .before .before .before .before .before .loop .at) _ (c .before .before .before .before .see .ensures)))
+agreed-requires c κs = (omega (arith, c .before .before .before .before .before .before .loop .inv .few, size-inside _ _ _ (c .before .before .before .before .see .ensures) (c .before .before .before .before .before .before .loop .inv .inside)), omega (arith, long c, size-small (c .before .before .before .before .before .before .before .before .args .capture .now) (c .before .before .before .before .before .before .loop .at) _ (c .before .before .before .before .see .ensures)))
 
-add-t14 : tie.Need-add-t14 Inv-loop μ-loop
-add-t14 c = omega (arith, c .before .before .before .before .before .before .before .before .before .loop .inv .few, c .before .before .before .before .before .before .before .before .before .loop .inv .inside, size-inside _ _ _ (c .before .before .before .before .before .before .before .see .ensures) (c .before .before .before .before .before .before .before .before .loop-test .taken), c .if1 .taken)
+add-place : tie.Need-add-place Inv-loop μ-loop
+add-place c = omega (arith, c .before .before .before .before .before .before .before .before .before .loop .inv .few, c .before .before .before .before .before .before .before .before .before .loop .inv .inside, size-inside _ _ _ (c .before .before .before .before .before .before .before .see .ensures) (c .before .before .before .before .before .before .before .before .before .loop .inv .inside), c .if1 .taken)
 
 returns : tie.Need-returns Inv-loop μ-loop
-returns c = same-here _ _ _ _ _ _ (c .before .before .before .before .before .before .before .before .before .loop .inv) (c .before .before .before .before .before .before .before .before .loop-test .taken) (c .before .before .before .before .before .before .before .see .ensures) (c .before .before .before .before .before .keep .ensures) _ (c .before .before .agreed .ensures .1) (c .if1 .taken)
+returns c = same-here _ _ _ _ _ _ (c .before .before .before .before .before .before .before .before .before .loop .inv) (c .before .before .before .before .before .before .before .see .ensures) (c .before .before .before .before .before .keep .ensures) _ (c .before .before .agreed .ensures .1) (c .before .before .before .before .before .before .before .before .loop-test .taken) (c .if1 .taken)
 
 onward-requires : tie.Need-onward-requires Inv-loop μ-loop
 onward-requires c κs = (omega arith, c .before .before .before .before .before .before .before .see .ensures)
@@ -55,7 +55,7 @@ loop-less c = omega (arith, c .before .onward .ensures .goes .further, c .before
 
 loop-again : tie.Need-loop-again Inv-loop μ-loop
 loop-again c =
-    same-step _ _ _ _ _ _ (c .before .before .before .before .before .before .before .before .before .before .before .loop .inv) (c .before .before .before .before .before .before .before .before .before .before .loop-test .taken) (c .before .before .before .before .before .before .before .before .before .see .ensures) (c .before .before .before .before .before .before .before .keep .ensures)
+    same-step _ _ _ _ _ _ (c .before .before .before .before .before .before .before .before .before .before .before .loop .inv) (c .before .before .before .before .before .before .before .before .before .see .ensures) (c .before .before .before .before .before .before .before .keep .ensures)
     _ (c .before .before .before .before .agreed .ensures .1) _ (c .before .onward .ensures) (c .before .before .if1 .left)
 
 returns-2 : tie.Need-returns-2 Inv-loop μ-loop
@@ -76,7 +76,7 @@ is-clean-spec =
     keep-requires
     slice-aggregate-agreed
     agreed-requires
-    add-t14
+    add-place
     returns
     onward-requires
     add-n

@@ -6,7 +6,7 @@ use lib.ListN.{length}
 use borrow.Author.Needs.{needs}
 use Rattle.walk.specs.Counts.{accepts-one}
 use Rattle.clean.specs.Turns.{size-inside}
-use Rattle.clean.proofs.PassLaws.{found-one, Left, left-start, left-step, left-end}
+use Rattle.clean.proofs.PassLaws.{Left, left-start, left-step, left-end}
 use Rattle.clean.proofs.pass.Statement.{statement}
 use Rattle.clean.proofs.pass.Tie as tie
 
@@ -23,7 +23,7 @@ see-requires : tie.Need-see-requires Inv-loop μ-loop
 see-requires c κs = search needs
 
 keep-requires : tie.Need-keep-requires Inv-loop μ-loop
-keep-requires c κs = (omega (arith, c .before .before .before .loop .inv .few), size-inside _ _ _ (c .before .see .ensures) (c .before .before .loop-test .taken))
+keep-requires c κs = (omega (arith, c .before .before .before .loop .inv .few), size-inside _ _ _ (c .before .see .ensures) (c .before .before .before .loop .inv .inside))
 
 onward-requires : tie.Need-onward-requires Inv-loop μ-loop
 onward-requires c κs = (omega arith, c .before .before .before .before .see .ensures)
@@ -41,14 +41,14 @@ found-requires : tie.Need-found-requires Inv-loop μ-loop
 found-requires c κs = search needs
 
 add-after-damage : tie.Need-add-after-damage Inv-loop μ-loop
-add-after-damage c = omega (arith, c .before .before .before .before .before .before .before .before .before .before .loop .inv .found-few, c .before .before .before .before .before .before .before .before .before .before .loop .inv .inside, found-one _ _ _ (c .found .ensures))
+add-after-damage c = omega (arith, c .before .before .before .before .before .before .before .before .before .before .loop .inv .found-few, c .before .before .before .before .before .before .before .before .before .before .loop .inv .inside, c .found .ensures .1)
 
 loop-less : tie.Need-loop-less Inv-loop μ-loop
 loop-less c = omega (arith, c .before .before .before .onward .ensures .goes .further, c .before .before .before .onward .ensures .goes .inside)
 
 loop-again : tie.Need-loop-again Inv-loop μ-loop
 loop-again c =
-    left-step (c .before .before .before .before .before .before .before .before .before .before .loop .inv) (c .before .before .before .before .before .before .before .before .before .loop-test .taken) (c .before .before .before .before .before .before .before .before .see .ensures) (c .before .before .before .before .before .before .keep .ensures) (c .before .before .before .onward .ensures) (c .before .accepted .ensures) (c .found .ensures)
+    left-step (c .before .before .before .before .before .before .before .before .before .before .loop .inv) (c .before .before .before .before .before .before .before .before .see .ensures) (c .before .before .before .before .before .before .keep .ensures) (c .before .before .before .onward .ensures) (c .before .accepted .ensures) (c .found .ensures)
 
 same-length : tie.Need-same-length Inv-loop μ-loop
 same-length c = c .before .loop .inv .room
