@@ -62,6 +62,7 @@ use Rattle.record.proofs.OneAnswer as «record»
 use Rattle.view.proofs.OneAnswer as view
 use Rattle.walk.proofs.OneAnswer as walk
 use Rattle.lines.proofs.OneAnswer as lines
+use Rattle.clean.proofs.OneAnswer as clean
 
 -- "EVERY PUBLIC ENTRY POINT TAKES ALL INPUT": of each public function, the theorem that its promise fixes the answer for all input.
 -- (tools/promises compares these lists with the public functions.)
@@ -200,6 +201,13 @@ lines-answers =
     let put-listing-one-answer = lines.put-listing-one-answer in
     named
 
+-- clean
+clean-answers : Named
+clean-answers =
+    let clean-one-answer = clean.clean-one-answer in
+    let is-clean-one-answer = clean.is-clean-one-answer in
+    named
+
 -- "AND REFUSES WHAT IT CAN'T USE WITH A NUMBER FROM DOCUMENT 01"
 
 -- the numbers of document 01's table: 1 to 6, 8 to 18, 20
@@ -282,7 +290,7 @@ reads-numbered (suc (suc (suc (suc (suc (suc (suc n))))))) s h = absurd h
 pub seen-numbered : (s : List ℕ) → Numbered (seenOf s .answer)
 seen-numbered s = rw (seen-answer s) (reads-numbered (readOf s .number) s (read-given (readOf s .number) s .0 refl))
 
--- opening, announcing, the counts, and the walk
+-- opening, announcing, the counts, the walk, and cleaning
 pub plain-numbered : (x : Answer) → Numbered (paperOf x .number)
 plain-numbered plain.Done = done refl
 plain-numbered (plain.Refused w) = refused (refusal-in-table w)
@@ -338,6 +346,12 @@ lines-buffers : Named
 lines-buffers =
     let put-listing-one-buffer = lines.put-listing-one-buffer in
     let put-listing-refused-keeps = lines.put-listing-refused-keeps in
+    named
+
+clean-buffers : Named
+clean-buffers =
+    let clean-one-buffer = clean.clean-one-buffer in
+    let clean-refused-keeps = clean.clean-refused-keeps in
     named
 
 -- "ONLY A TICK NUMBER TOO FAR AHEAD CHANGES THE LEDGER, AND ONLY ITS KNOWN TOP."

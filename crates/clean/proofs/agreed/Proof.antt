@@ -1,0 +1,60 @@
+-- `agreed`. The invariant: whatever follows the front of one, it differs from what stands at n where, behind the i bytes that are alike, the rest
+-- does. The measure is what is left of size. Assumes nothing.
+use native.Mathlib.Omega.{arith}
+use Prim.Native.Nat.{_-_}
+use Rattle.clean.specs.Differ.{Alike, alike-start, alike-step, alike-here, alike-all}
+use Rattle.clean.proofs.agreed.Statement.{statement}
+use Rattle.clean.proofs.agreed.Tie as tie
+
+abbrev Inv-loop : tie.InvT-loop
+Inv-loop capture n one size i₀ i = Alike capture one n size i
+
+abbrev μ-loop : tie.MeasureT-loop
+μ-loop capture n one size i₀ i = size - i
+
+loop-holds : tie.Need-loop-holds Inv-loop μ-loop
+loop-holds c = alike-start _ _ _ _ (c .pre .0) (c .pre .1)
+
+add-if1 : tie.Need-add-if1 Inv-loop μ-loop
+add-if1 c = omega arith
+
+shared-slice-read-if1 : tie.Need-shared-slice-read-if1 Inv-loop μ-loop
+shared-slice-read-if1 c = omega arith
+
+shared-slice-read-if1-2 : tie.Need-shared-slice-read-if1-2 Inv-loop μ-loop
+shared-slice-read-if1-2 c = omega arith
+
+returns : tie.Need-returns Inv-loop μ-loop
+returns c =
+    let x = c .before .before .before .before .before in
+    (omega arith, alike-here _ _ _ _ (x .pre .0) (x .pre .1) _ (c .before .before .before .before .loop .inv) (c .before .before .before .loop-test .taken) (c .if1 .taken))
+
+add-i : tie.Need-add-i Inv-loop μ-loop
+add-i c = omega arith
+
+loop-less : tie.Need-loop-less Inv-loop μ-loop
+loop-less c = omega arith
+
+loop-again : tie.Need-loop-again Inv-loop μ-loop
+loop-again c =
+    let x = c .before .before .before .before .before in
+    alike-step _ _ _ _ (x .pre .0) (x .pre .1) _ (c .before .before .before .before .loop .inv) (c .before .before .before .loop-test .taken) (c .if1 .left)
+
+returns-2 : tie.Need-returns-2 Inv-loop μ-loop
+returns-2 c = let x = c .before .before in (omega arith, alike-all _ _ _ _ (x .pre .0) (x .pre .1) _ (c .before .loop .inv) (c .loop-test .left))
+
+pub agreed-spec : {M : Type 1} → statement M
+agreed-spec =
+    tie.close
+    (tie.spec
+    Inv-loop
+    μ-loop
+    loop-holds
+    add-if1
+    shared-slice-read-if1
+    shared-slice-read-if1-2
+    returns
+    add-i
+    loop-less
+    loop-again
+    returns-2)

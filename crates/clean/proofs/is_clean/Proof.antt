@@ -1,0 +1,86 @@
+-- `is_clean`. The invariant: the capture from n on differs from what is left to be cleaned from its place on where the whole differs from the cleaned whole
+-- (`Same`). The measure is what is left of the capture. Assumes nothing.
+use native.Mathlib.Omega.{arith}
+use Prim.Native.Nat.{_-_}
+use mathlib.Core.Path.{_≡_, sym}
+use lib.ListN.{length}
+use borrow.Author.Needs.{needs}
+use Rattle.clean.specs.Turns.{size-inside, size-small}
+use Rattle.clean.proofs.PassLaws.{Same, same-start, one-long, same-step, same-here, same-more, same-end}
+use Rattle.clean.proofs.is_clean.Statement.{statement}
+use Rattle.clean.proofs.is_clean.Tie as tie
+
+abbrev Inv-loop : tie.InvT-loop
+Inv-loop capture one₀ at₀ n₀ one at n = Same capture one at n
+
+abbrev μ-loop : tie.MeasureT-loop
+μ-loop capture one₀ at₀ n₀ one at n = length capture - at
+
+loop-holds : tie.Need-loop-holds Inv-loop μ-loop
+loop-holds c = same-start _ _ (search needs)
+
+see-requires : tie.Need-see-requires Inv-loop μ-loop
+see-requires c κs = search needs
+
+slice-aggregate-keep : tie.Need-slice-aggregate-keep Inv-loop μ-loop
+slice-aggregate-keep c = sym (c .before .before .before .loop .inv .room)
+
+keep-requires : tie.Need-keep-requires Inv-loop μ-loop
+keep-requires c κs = (omega arith, size-inside _ _ _ (c .before .see .ensures) (c .before .before .before .loop .inv .inside))
+
+-- the frame made leaves the array its length
+long : (c : tie.After-one3 Inv-loop μ-loop) → length (c .before .before .keep .last .0) ≡ 8192
+long c = one-long _ _ _ _ _ _ (c .before .before .before .before .before .before .loop .inv) (c .before .before .before .before .see .ensures) (c .before .before .keep .ensures)
+
+slice-aggregate-agreed : tie.Need-slice-aggregate-agreed Inv-loop μ-loop
+slice-aggregate-agreed c = sym (long c)
+
+agreed-requires : tie.Need-agreed-requires Inv-loop μ-loop
+agreed-requires c κs = (omega (arith, c .before .before .before .before .before .before .loop .inv .few, size-inside _ _ _ (c .before .before .before .before .see .ensures) (c .before .before .before .before .before .before .loop .inv .inside)), omega (arith, long c, size-small (c .before .before .before .before .before .before .before .before .args .capture .now) (c .before .before .before .before .before .before .loop .at) _ (c .before .before .before .before .see .ensures)))
+
+add-place : tie.Need-add-place Inv-loop μ-loop
+add-place c = omega (arith, c .before .before .before .before .before .before .before .before .before .loop .inv .few, c .before .before .before .before .before .before .before .before .before .loop .inv .inside, size-inside _ _ _ (c .before .before .before .before .before .before .before .see .ensures) (c .before .before .before .before .before .before .before .before .before .loop .inv .inside), c .if1 .taken)
+
+returns : tie.Need-returns Inv-loop μ-loop
+returns c = same-here _ _ _ _ _ _ (c .before .before .before .before .before .before .before .before .before .loop .inv) (c .before .before .before .before .before .before .before .see .ensures) (c .before .before .before .before .before .keep .ensures) _ (c .before .before .agreed .ensures .1) (c .before .before .before .before .before .before .before .before .loop-test .taken) (c .if1 .taken)
+
+onward-requires : tie.Need-onward-requires Inv-loop μ-loop
+onward-requires c κs = (omega arith, c .before .before .before .before .before .before .before .see .ensures)
+
+add-n : tie.Need-add-n Inv-loop μ-loop
+add-n c = omega (arith, c .before .before .before .before .before .before .before .before .before .before .before .loop .inv .few, c .before .onward .ensures .past, c .before .onward .ensures .goes .inside)
+
+loop-less : tie.Need-loop-less Inv-loop μ-loop
+loop-less c = omega (arith, c .before .onward .ensures .goes .further, c .before .onward .ensures .goes .inside)
+
+loop-again : tie.Need-loop-again Inv-loop μ-loop
+loop-again c =
+    same-step _ _ _ _ _ _ (c .before .before .before .before .before .before .before .before .before .before .before .loop .inv) (c .before .before .before .before .before .before .before .before .before .see .ensures) (c .before .before .before .before .before .before .before .keep .ensures)
+    _ (c .before .before .before .before .agreed .ensures .1) _ (c .before .onward .ensures) (c .before .before .if1 .left)
+
+returns-2 : tie.Need-returns-2 Inv-loop μ-loop
+returns-2 c = same-more (c .before .before .loop .inv) (c .before .loop-test .left) (c .if2 .taken)
+
+returns-3 : tie.Need-returns-3 Inv-loop μ-loop
+returns-3 c = same-end (c .before .before .loop .inv) (c .before .loop-test .left) (c .if2 .left)
+
+pub is-clean-spec : {M : Type 1} → statement M
+is-clean-spec =
+    tie.close
+    (tie.spec
+    Inv-loop
+    μ-loop
+    loop-holds
+    see-requires
+    slice-aggregate-keep
+    keep-requires
+    slice-aggregate-agreed
+    agreed-requires
+    add-place
+    returns
+    onward-requires
+    add-n
+    loop-less
+    loop-again
+    returns-2
+    returns-3)

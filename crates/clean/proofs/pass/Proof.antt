@@ -1,0 +1,77 @@
+-- `pass`. The invariant: what is left at p, behind the bytes, frames and found frames so far, gives what the whole capture gives (`Left`). The
+-- measure is what is left of the capture. Assumes nothing.
+use native.Mathlib.Omega.{arith}
+use Prim.Native.Nat.{_-_}
+use lib.ListN.{length}
+use borrow.Author.Needs.{needs}
+use Rattle.walk.specs.Counts.{accepts-one}
+use Rattle.clean.specs.Turns.{size-inside}
+use Rattle.clean.proofs.PassLaws.{Left, left-start, left-step, left-end}
+use Rattle.clean.proofs.pass.Statement.{statement}
+use Rattle.clean.proofs.pass.Tie as tie
+
+abbrev Inv-loop : tie.InvT-loop
+Inv-loop capture out₀ p₀ bytes₀ frames₀ after-damage₀ before₀ out p bytes frames after-damage before = Left capture out₀ out p bytes frames after-damage before
+
+abbrev μ-loop : tie.MeasureT-loop
+μ-loop capture out₀ p₀ bytes₀ frames₀ after-damage₀ before₀ out p bytes frames after-damage before = length capture - p
+
+loop-holds : tie.Need-loop-holds Inv-loop μ-loop
+loop-holds c = left-start _ _
+
+see-requires : tie.Need-see-requires Inv-loop μ-loop
+see-requires c κs = search needs
+
+keep-requires : tie.Need-keep-requires Inv-loop μ-loop
+keep-requires c κs = (omega (arith, c .before .before .before .loop .inv .few), size-inside _ _ _ (c .before .see .ensures) (c .before .before .before .loop .inv .inside))
+
+onward-requires : tie.Need-onward-requires Inv-loop μ-loop
+onward-requires c κs = (omega arith, c .before .before .before .before .see .ensures)
+
+add-bytes : tie.Need-add-bytes Inv-loop μ-loop
+add-bytes c = omega (arith, c .before .before .before .before .before .before .before .before .loop .inv .few, c .before .onward .ensures .past, c .before .onward .ensures .goes .inside)
+
+accepted-requires : tie.Need-accepted-requires Inv-loop μ-loop
+accepted-requires c κs = search needs
+
+add-frames : tie.Need-add-frames Inv-loop μ-loop
+add-frames c = omega (arith, c .before .before .before .before .before .before .before .before .before .loop .inv .frames-few, c .before .before .before .before .before .before .before .before .before .loop .inv .inside, accepts-one _ _ (c .accepted .ensures))
+
+found-requires : tie.Need-found-requires Inv-loop μ-loop
+found-requires c κs = search needs
+
+add-after-damage : tie.Need-add-after-damage Inv-loop μ-loop
+add-after-damage c = omega (arith, c .before .before .before .before .before .before .before .before .before .before .loop .inv .found-few, c .before .before .before .before .before .before .before .before .before .before .loop .inv .inside, c .found .ensures .1)
+
+loop-less : tie.Need-loop-less Inv-loop μ-loop
+loop-less c = omega (arith, c .before .before .before .onward .ensures .goes .further, c .before .before .before .onward .ensures .goes .inside)
+
+loop-again : tie.Need-loop-again Inv-loop μ-loop
+loop-again c =
+    left-step (c .before .before .before .before .before .before .before .before .before .before .loop .inv) (c .before .before .before .before .before .before .before .before .see .ensures) (c .before .before .before .before .before .before .keep .ensures) (c .before .before .before .onward .ensures) (c .before .accepted .ensures) (c .found .ensures)
+
+same-length : tie.Need-same-length Inv-loop μ-loop
+same-length c = c .before .loop .inv .room
+
+returns : tie.Need-returns Inv-loop μ-loop
+returns c = left-end (c .before .loop .inv) (c .loop-test .left)
+
+pub pass-spec : {M : Type 1} → statement M
+pass-spec =
+    tie.close
+    (tie.spec
+    Inv-loop
+    μ-loop
+    loop-holds
+    see-requires
+    keep-requires
+    onward-requires
+    add-bytes
+    accepted-requires
+    add-frames
+    found-requires
+    add-after-damage
+    loop-less
+    loop-again
+    same-length
+    returns)

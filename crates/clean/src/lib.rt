@@ -1,0 +1,196 @@
+// A whole capture, scrubbed: its accepted frames in order, stray bytes left out; and whether a capture is clean already.
+ghost use mathlib.Core.Path.{_≡_};
+ghost use mathlib.Core.List.{List, _∷_, [], _++_};
+ghost use Prim.Native.Nat.{ℕ, _+_, _-_, _≤_, _<_};
+ghost use lib.Dec.{leb, ltb};
+ghost use lib.ListN.{length, take, drop};
+ghost use Rattle.terms.specs.Paper.{pick};
+ghost use Rattle.octets.specs.Octets.{laid};
+ghost use Rattle.octets.specs.Papers.{laidIfRoom};
+ghost use Rattle.scrub.specs.Scrub.{scrubbed};
+ghost use Rattle.walk.specs.Seen.{seenOf};
+ghost use Rattle.walk.specs.Walk.{accepts};
+ghost use Rattle.clean.specs.Clean.{cleanOf, differOf, foundBy, fitsIn, cleanPaper, cleanAnswer, cleanLeaves, checkPaper, checkOf};
+ghost use Rattle.clean.specs.Passes.{passedOf, Steps};
+use frame::Found;
+use ledger::Answer;
+use terms::Refusal;
+use walk::Seen;
+
+// What cleaning answers: 0, or 8 where the buffer can't take the cleaned bytes; how many bytes were written, how many frames
+// they are, and how many of these the search found behind damage. Such a frame may lie inside a damaged one, in bytes that
+// were private there. Beside 8 the counts are 0.
+pub struct Cleaned {
+    pub answer: Answer,
+    pub bytes: usize,
+    pub frames: usize,
+    pub after_damage: usize,
+}
+
+// Whether a capture is what cleaning it gives, or the first place where the two differ.
+pub enum Check {
+    Clean,
+    Changed(usize),
+}
+
+// What one pass over a capture comes to.
+struct Passed {
+    bytes: usize,
+    frames: usize,
+    after_damage: usize,
+}
+
+// The place of the next reading, behind the one at p: past the frame, or where the search from the next byte on finds one; the
+// end where it finds none.
+fn onward(capture: &[u8], p: usize, seen: Seen) -> usize
+    requires { ⌜ (p < length (now capture)) × (seen ≡ seenOf (drop p (now capture))) ⌝ }
+    ensures { λ r. ⌜ Steps (now (capture .entry)) p (seen .size) r ⌝ }
+{
+    if seen.answer == 0 {
+        return p + seen.size;
+    }
+    match frame::search(capture, p + 1) {
+        Found::At(q) => q,
+        Found::Nothing => capture.len(),
+        Found::Beyond => capture.len(),
+    }
+}
+
+// Scrubs the bytes from a up to e where they stand: that part is passed on to the scrubber.
+fn scrub_part(out: &mut [u8], a: usize, e: usize)
+    requires { ⌜ (a ≤ e) × (e ≤ length (now out)) ⌝ }
+    ensures { λ _. ⌜ now (out .exit) ≡ laid a (scrubbed (take (e - a) (drop a (now (out .entry))))) (now (out .entry)) ⌝ }
+{
+    scrub::scrub(&mut out[a..e]);
+}
+
+// Lays the frame of size bytes at p of the capture over out from n on, scrubbed, where it has room. A reading that was refused
+// has no bytes, and lays none.
+fn keep(out: &mut [u8], n: usize, capture: &[u8], p: usize, size: usize)
+    requires { ⌜ (n ≤ p) × (p + size ≤ length (now capture)) ⌝ }
+    ensures { λ _. ⌜ now (out .exit) ≡ laidIfRoom n (scrubbed (take size (drop p (now (capture .entry))))) (now (out .entry)) ⌝ }
+{
+    let end = p + size;
+    let behind = n + size;
+    if behind <= out.len() {
+        octets::lay(out, n, &capture[p..end]);
+        scrub_part(out, n, behind);
+    }
+}
+
+// 1 for a reading that answered 0, else 0.
+fn accepted(answer: u32) -> usize
+    ensures { λ r. ⌜ r ≡ accepts answer ⌝ }
+{
+    if answer == 0 { 1 } else { 0 }
+}
+
+// 1 for a reading that answered 0 right behind one that was refused, else 0.
+fn found(before: u32, answer: u32) -> usize
+    ensures { λ r. ⌜ (r ≡ foundBy before answer) × (r ≤ 1) ⌝ }
+{
+    if before == 0 { 0 } else { accepted(answer) }
+}
+
+// The walk over a capture. It counts the bytes of every accepted frame, and writes those that have room.
+fn pass(capture: &[u8], out: &mut [u8]) -> Passed
+    ensures { λ r. ⌜ (r ≡ passedOf (now (capture .entry)))
+        × (length (cleanOf (now (capture .entry))) ≤ length (now (out .entry)) → now (out .exit) ≡ laid 0 (cleanOf (now (capture .entry))) (now (out .entry))) ⌝ }
+{
+    let mut p: usize = 0;
+    let mut bytes: usize = 0;
+    let mut frames: usize = 0;
+    let mut after_damage: usize = 0;
+    let mut before: u32 = 0;
+    while p < capture.len() {
+        let seen = walk::see(capture, p);
+        keep(out, bytes, capture, p, seen.size);
+        p = onward(capture, p, seen);
+        bytes += seen.size;
+        frames += accepted(seen.answer);
+        after_damage += found(before, seen.answer);
+        before = seen.answer;
+    }
+    Passed {
+        bytes,
+        frames,
+        after_damage,
+    }
+}
+
+// Whether so much room takes the cleaned capture. It is never longer than the capture; where that is too long, its bytes are
+// counted in a pass that writes nothing.
+fn takes_all(capture: &[u8], room: usize) -> bool
+    ensures { λ r. ⌜ r ≡ fitsIn (now (capture .entry)) room ⌝ }
+{
+    if capture.len() <= room {
+        return true;
+    }
+    let mut none: [u8; 1] = [0; 1];
+    let counted = pass(capture, &mut none);
+    counted.bytes <= room
+}
+
+// Writes the accepted frames of a capture, each scrubbed, one behind the other at the front of out; or answers 8, and nothing is
+// written.
+pub fn clean(capture: &[u8], out: &mut [u8]) -> Cleaned
+    ensures { λ r. ⌜ (cleanPaper r ≡ cleanAnswer (now (capture .entry)) (length (now (out .entry))))
+        × (now (out .exit) ≡ cleanLeaves (now (capture .entry)) (now (out .entry))) ⌝ }
+{
+    if !takes_all(capture, out.len()) {
+        return Cleaned {
+            answer: Answer::Refused(Refusal::Room),
+            bytes: 0,
+            frames: 0,
+            after_damage: 0,
+        };
+    }
+    let done = pass(capture, out);
+    Cleaned {
+        answer: Answer::Done,
+        bytes: done.bytes,
+        frames: done.frames,
+        after_damage: done.after_damage,
+    }
+}
+
+// How many bytes at the front of one stand in the capture from n on, up to the first that differs, and size at most.
+fn agreed(capture: &[u8], n: usize, one: &[u8], size: usize) -> usize
+    requires { ⌜ (n + size ≤ length (now capture)) × (size ≤ length (now one)) ⌝ }
+    ensures { λ r. ⌜ (r ≤ size) × ((rest : List ℕ) → differOf n (drop n (now (capture .entry))) (take size (now (one .entry)) ++ rest)
+        ≡ pick (ltb r size) ((n + r) ∷ []) (differOf (n + size) (drop (n + size) (now (capture .entry))) rest)) ⌝ }
+{
+    let mut i: usize = 0;
+    while i < size {
+        if capture[n + i] != one[i] {
+            return i;
+        }
+        i += 1;
+    }
+    size
+}
+
+// Whether a capture is what cleaning it gives, byte for byte and in length; else the first place where the two differ. The
+// cleaned capture is made one frame at a time and compared with what stands at its place.
+pub fn is_clean(capture: &[u8]) -> Check
+    ensures { λ r. ⌜ checkPaper r ≡ checkOf (now (capture .entry)) ⌝ }
+{
+    let mut one: [u8; 8192] = [0; 8192];
+    let mut at: usize = 0;
+    let mut n: usize = 0;
+    while at < capture.len() {
+        let seen = walk::see(capture, at);
+        keep(&mut one, 0, capture, at, seen.size);
+        let same = agreed(capture, n, &one, seen.size);
+        if same < seen.size {
+            let place = n + same;
+            return Check::Changed(place);
+        }
+        at = onward(capture, at, seen);
+        n += seen.size;
+    }
+    if n < capture.len() {
+        return Check::Changed(n);
+    }
+    Check::Clean
+}
