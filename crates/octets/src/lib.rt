@@ -14,6 +14,12 @@ pub enum Written {
     Refused(Refusal),
 }
 
+fn wide(x: u8) -> u64
+    ensures { λ r. ⌜ (r ≡ x) × (r < 256) ⌝ }
+{
+    x as u64
+}
+
 // The byte of s at the place at + i, and 0 past the end.
 fn byte(s: &[u8], at: usize, i: usize) -> u8
     ensures { λ r. ⌜ r ≡ getD (now (s .entry)) (at + i) 0 ⌝ }
@@ -25,11 +31,28 @@ fn byte(s: &[u8], at: usize, i: usize) -> u8
     }
 }
 
+// The number in the n bytes of s from at on, all of which it has: no byte is asked for by itself, so that the compiler can load them at once.
+fn whole_at(s: &[u8], at: usize, n: usize) -> u64
+    requires { ⌜ (n ≤ 8) × (at + n ≤ length (now s)) ⌝ }
+    ensures { λ r. ⌜ (r ≡ be n at (now (s .entry))) × (r < 256 ^ n) ⌝ }
+{
+    let mut v: u64 = 0;
+    let mut i: usize = 0;
+    while i < n {
+        v = v * 256 + wide(s[at + i]);
+        i += 1;
+    }
+    v
+}
+
 // The number in the n bytes of s from at on, where bytes past the end are 0.
 fn number_at(s: &[u8], at: usize, n: usize) -> u64
     requires { ⌜ n ≤ 8 ⌝ }
     ensures { λ r. ⌜ (r ≡ be n at (now (s .entry))) × (r < 256 ^ n) ⌝ }
 {
+    if has_room(s.len(), at, n) {
+        return whole_at(s, at, n);
+    }
     let mut v: u64 = 0;
     let mut i: usize = 0;
     while i < n {
