@@ -25,10 +25,13 @@ pub enum Verdict {
     Refused(Refusal),
 }
 
-// The type whose four letters a number holds, high byte first.
+// The type whose four letters a number holds, high byte first. The third letter of each is 0: in noise that one test mostly tells.
 pub fn kind_of(t: u32) -> Kind
     ensures { λ r. ⌜ kindPaper r ≡ typeOf t ⌝ }
 {
+    if t / 256 % 256 != 0x30 {
+        return Kind::Unknown;
+    }
     match t {
         0x53303031 => Kind::S001,
         0x53303032 => Kind::S002,
