@@ -1,7 +1,7 @@
 -- The parts of the frame at a place, by the offsets that the code reads.
 use Prim.Native.Nat.{ℕ, _+_, _-_, _≤_}
 use mathlib.Core.Path.{_≡_, sym, ap, _∙_}
-use mathlib.Core.List.{List, []}
+use mathlib.Core.List.{List, [], _∷_}
 use native.Mathlib.Nat.{add-zero, add-assoc}
 use native.Mathlib.Omega.{arith}
 use lib.ListN.{length, take, drop, length-drop}
@@ -9,7 +9,9 @@ use lib.Seq.{drop-drop, length-take-le}
 use Rattle.octets.specs.Octets.{be, sum8}
 use Rattle.octets.specs.Numerals.{numeral-drop}
 use borrow.Author.Tests.{eq-eqb, ne-eqb}
+use Rattle.terms.specs.Paper.{answer}
 use Rattle.wire.specs.Frame.{bodyLength, body, plain, checkSum, readOf, bodyRead}
+use Rattle.wire.specs.Outcomes.{good, read-done, read-length}
 
 module _ (at : ℕ) (bytes : List ℕ) where
   -- the number k bytes behind the place, and the one at it
@@ -47,3 +49,11 @@ body-of s z = rw (eq-eqb (readOf s .number) 0 z)
 pub body-none : (s : List ℕ) → (readOf s .number ≡ 0 → ⊥) → bodyRead s ≡ []
 unfolding bodyRead
 body-none s ne = rw (ne-eqb (readOf s .number) 0 ne)
+
+-- where reading at a place has answered 0: the frame ends within the bytes, and its body is the part behind the 24 header bytes
+module _ (at : ℕ) (bytes : List ℕ) (type time seq n : ℕ) (paper : answer 0 (type ∷ time ∷ seq ∷ n ∷ []) ≡ readOf (drop at bytes)) where
+  pub read-inside : at + (28 + n) ≤ length bytes
+  read-inside = inside-at at bytes n (read-length _ _ _ _ _ paper) (good _ (read-done _ _ _ _ _ paper) .whole .there)
+
+  pub read-part : take (at + 24 + n - (at + 24)) (drop (at + 24) bytes) ≡ bodyRead (drop at bytes)
+  read-part = part-body at bytes n (read-length _ _ _ _ _ paper) ∙ sym (body-of _ (read-done _ _ _ _ _ paper))

@@ -1,9 +1,8 @@
 -- `body_at`: the paper of a frame that reads tells its length, and that its body lies within the bytes. Assumes nothing.
 use native.Mathlib.Omega.{arith}
-use Rattle.wire.specs.Places.{part-body, body-of, body-none, inside-at}
-use Rattle.wire.specs.Outcomes.{good, read-done, read-length}
+use Rattle.wire.specs.Places.{body-none, read-inside, read-part}
 use Rattle.frame.specs.Papers.{readPaper}
-use Rattle.wire.specs.Frame.{bodyLength, readOf}
+use Rattle.wire.specs.Frame.{readOf}
 use Rattle.terms.specs.Refusals.{refusal-pos}
 use Rattle.terms.specs.Paper.{answer, one-number}
 use lib.ListN.{length, drop}
@@ -20,18 +19,12 @@ start c = c .before .before
 abbrev text : tie.After-read-at → List ℕ
 text c = drop (start c .args .at) (start c .args .bytes .now)
 
--- in the arm of a frame: its paper, that it reads, and its length
+-- in the arm of a frame: its paper, and that it ends within the bytes
 paper : (c : tie.After-body-len) → answer 0 (c .body-len .given .0 .0 ∷ c .body-len .given .0 .1 .0 ∷ c .body-len .given .0 .1 .1 .0 .0 ∷ c .body-len .given .0 .1 .1 .1 .0 ∷ []) ≡ readOf (text (c .before .before))
 paper c = sym (ap readPaper (c .body-len .given .1)) ∙ c .before .before .read-at .ensures
 
-done : (c : tie.After-body-len) → readOf (text (c .before .before)) .number ≡ 0
-done c = read-done _ _ _ _ _ (paper c)
-
-len-is : (c : tie.After-body-len) → c .body-len .given .0 .1 .1 .1 .0 ≡ bodyLength (text (c .before .before))
-len-is c = read-length _ _ _ _ _ (paper c)
-
 inside : (c : tie.After-body-len) → start (c .before .before) .args .at + (28 + c .body-len .given .0 .1 .1 .1 .0) ≤ length (start (c .before .before) .args .bytes .now)
-inside c = let s = start (c .before .before) in inside-at (s .args .at) (s .args .bytes .now) (c .body-len .given .0 .1 .1 .1 .0) (len-is c) (good _ (done c) .whole .there)
+inside c = read-inside _ _ _ _ _ _ (paper c)
 
 read-at-requires : tie.Need-read-at-requires
 read-at-requires c κs = search needs
@@ -70,7 +63,7 @@ returns : tie.Need-returns
 returns c = sym (body-none _ (λ (z : readOf (text (c .before .before .before)) .number ≡ 0). refusal-pos (c .before .enum-told .given .0 .0) (one-number (sym (ap readPaper (c .before .enum-told .given .1)) ∙ c .before .before .before .read-at .ensures) ∙ z)))
 
 returns-2 : tie.Need-returns-2
-returns-2 c = let s = start (c .before .before .before .before) in part-body (s .args .at) (s .args .bytes .now) _ (len-is (c .before .before)) ∙ sym (body-of _ (done (c .before .before)))
+returns-2 c = read-part _ _ _ _ _ _ (paper (c .before .before))
 
 pub body-at-spec : {M : Type 1} → statement M
 body-at-spec =
