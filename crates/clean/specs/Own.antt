@@ -1,4 +1,4 @@
--- A frame is seen by its own bytes alone, and scrubbing changes nothing that is seen.
+-- A frame is seen by its own bytes alone, and scrubbing changes nothing that is seen. What is seen of it is enough to scrub it by.
 use Prim.Native.Nat.{ℕ, _+_}
 use mathlib.Core.Path.{_≡_, sym, ap, _∙_}
 use mathlib.Core.Logic.{⊎-elim}
@@ -10,6 +10,7 @@ use Rattle.terms.specs.Paper.{Paper, one-number}
 use Rattle.terms.specs.Cases.{same}
 use Rattle.octets.specs.Octets.{Bytes}
 use Rattle.octets.specs.Numerals.{numeral-take}
+use Rattle.rules.specs.declared.Kind.{Kind}
 use Rattle.rules.specs.Table.{kindOf}
 use Rattle.rules.specs.Outcomes.{measure-not-more, judge-not-more}
 use Rattle.wire.specs.Frame.{msgType, sendingTime, msgSeqNum, bodyLength, body, readOf}
@@ -17,10 +18,14 @@ use Rattle.wire.specs.Outcomes.{Reading, r-short, r-measure, r-cut, r-sum, r-ju
 use Rattle.view.specs.declared.View.{View}
 use Rattle.view.specs.View.{viewOf}
 use Rattle.scrub.specs.Scrub.{scrubbed}
-use Rattle.scrub.specs.Laws.{refused-same, scrub-reads, scrub-done, scrub-view}
+use Rattle.scrub.specs.Known.{knownLeaves}
+use Rattle.scrub.specs.KnownLaws.{short-keeps}
+use Rattle.scrub.specs.Laws.{refused-same, scrub-reads, scrub-done, scrub-view, known-scrubs}
 use Rattle.steps.specs.Walk.{frame}
+use Rattle.walk.specs.declared.Seen.{Seen}
 use Rattle.walk.specs.Seen.{shown, seenOf, saysOf}
-use Rattle.walk.specs.SeenLaws.{seen-frame, seen-answer, seen-size, seen-kept, frame-says, more-says}
+use Rattle.walk.specs.SeenLaws.{seen-frame, seen-answer, seen-size, seen-kept, says-frame, frame-says, more-says}
+use Rattle.clean.specs.Turns.{refused-size, scrubbed-none}
 
 -- AN ACCEPTED FRAME, CUT TO ITS OWN BYTES
 
@@ -54,6 +59,24 @@ seen-own s n e =
     let z : readOf s .number ≡ 0 = sym (seen-answer s) ∙ f .0 in
     let l : n ≡ 28 + bodyLength s = sym (f .1) ∙ seen-size s z in
     ap (λ (k : ℕ). seenOf (take k s)) l ∙ own-seen s z
+
+-- BY WHAT WAS SEEN AT A PLACE its frame is scrubbed, and not read again
+module _ (s : List ℕ) (p : ℕ) (x : Seen) (e : x ≡ seenOf (drop p s)) (k : Kind) (n : ℕ) (f : k ≡ kindOf (x .«msg_type»)) (g : n ≡ x .«body_len») where
+  abbrev cut : List ℕ
+  cut = take (x .size) (drop p s)
+
+  frame-scrubs : x .answer ≡ 0 → knownLeaves k n cut ≡ scrubbed cut
+  frame-scrubs z =
+      let seen : x ≡ seenOf cut = e ∙ sym (seen-own (drop p s) (x .size) (ap saysOf (sym e) ∙ says-frame x z)) in
+      let done : readOf cut .number ≡ 0 = sym (seen-answer cut) ∙ ap (λ (y : Seen). y .answer) (sym seen) ∙ z in
+      let is = seen ∙ seen-frame cut done in
+      known-scrubs cut done k n (f ∙ ap (λ (y : Seen). kindOf (y .«msg_type»)) is) (g ∙ ap (λ (y : Seen). y .«body_len») is) .1
+
+  none-scrubs : (x .answer ≡ 0 → ⊥) → knownLeaves k n cut ≡ scrubbed cut
+  none-scrubs ne = rw (refused-size s p x e ne) (short-keeps k n [] (omega arith) ∙ sym scrubbed-none)
+
+  pub seen-scrubs : knownLeaves k n cut ≡ scrubbed cut
+  seen-scrubs = ⊎-elim frame-scrubs none-scrubs (same (x .answer) 0)
 
 -- A SCRUBBED FRAME
 

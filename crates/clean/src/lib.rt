@@ -8,12 +8,14 @@ ghost use Rattle.terms.specs.Paper.{pick};
 ghost use Rattle.octets.specs.Octets.{laid};
 ghost use Rattle.octets.specs.Papers.{laidIfRoom};
 ghost use Rattle.scrub.specs.Scrub.{scrubbed};
+ghost use Rattle.scrub.specs.Known.{knownLeaves};
 ghost use Rattle.walk.specs.Seen.{seenOf};
 ghost use Rattle.walk.specs.Walk.{accepts};
 ghost use Rattle.clean.specs.Clean.{cleanOf, differOf, foundBy, fitsIn, cleanPaper, cleanAnswer, cleanLeaves, checkPaper, checkOf};
 ghost use Rattle.clean.specs.Passes.{passedOf, Steps};
 use frame::Found;
 use ledger::Answer;
+use rules::Kind;
 use terms::Refusal;
 use walk::Seen;
 
@@ -56,25 +58,27 @@ fn onward(capture: &[u8], p: usize, seen: Seen) -> usize
     }
 }
 
-// Scrubs the bytes from a up to e where they stand: that part is passed on to the scrubber.
-fn scrub_part(out: &mut [u8], a: usize, e: usize)
+// Scrubs the bytes from a up to e where they stand, as a frame of that type whose body has n bytes: that part is passed on to the
+// scrubber.
+fn scrub_part(out: &mut [u8], a: usize, e: usize, kind: Kind, n: usize)
     requires { ⌜ (a ≤ e) × (e ≤ length (now out)) ⌝ }
-    ensures { λ _. ⌜ now (out .exit) ≡ laid a (scrubbed (take (e - a) (drop a (now (out .entry))))) (now (out .entry)) ⌝ }
+    ensures { λ _. ⌜ now (out .exit) ≡ laid a (knownLeaves kind n (take (e - a) (drop a (now (out .entry))))) (now (out .entry)) ⌝ }
 {
-    scrub::scrub(&mut out[a..e]);
+    scrub::scrub_known(&mut out[a..e], kind, n);
 }
 
-// Lays the frame of size bytes at p of the capture over out from n on, scrubbed, where it has room. A reading that was refused
-// has no bytes, and lays none.
-fn keep(out: &mut [u8], n: usize, capture: &[u8], p: usize, size: usize)
-    requires { ⌜ (n ≤ p) × (p + size ≤ length (now capture)) ⌝ }
-    ensures { λ _. ⌜ now (out .exit) ≡ laidIfRoom n (scrubbed (take size (drop p (now (capture .entry))))) (now (out .entry)) ⌝ }
+// Lays the frame that was seen at p of the capture over out from n on, scrubbed, where it has room. It was read when it was seen,
+// and is not read again. A reading that was refused has no bytes, and lays none.
+fn keep(out: &mut [u8], n: usize, capture: &[u8], p: usize, seen: Seen)
+    requires { ⌜ (n ≤ p) × ((p ≤ length (now capture)) × (seen ≡ seenOf (drop p (now capture)))) ⌝ }
+    ensures { λ _. ⌜ now (out .exit) ≡ laidIfRoom n (scrubbed (take (seen .size) (drop p (now (capture .entry))))) (now (out .entry)) ⌝ }
 {
-    let end = p + size;
-    let behind = n + size;
+    let end = p + seen.size;
+    let behind = n + seen.size;
     if behind <= out.len() {
         octets::lay(out, n, &capture[p..end]);
-        scrub_part(out, n, behind);
+        let kind = rules::kind_of(seen.msg_type);
+        scrub_part(out, n, behind, kind, seen.body_len as usize);
     }
 }
 
@@ -104,7 +108,7 @@ fn pass(capture: &[u8], out: &mut [u8]) -> Passed
     let mut before: u32 = 0;
     while p < capture.len() {
         let seen = walk::see(capture, p);
-        keep(out, bytes, capture, p, seen.size);
+        keep(out, bytes, capture, p, seen);
         p = onward(capture, p, seen);
         bytes += seen.size;
         frames += accepted(seen.answer);
@@ -180,7 +184,7 @@ pub fn is_clean(capture: &[u8]) -> Check
     let mut n: usize = 0;
     while at < capture.len() {
         let seen = walk::see(capture, at);
-        keep(&mut one, 0, capture, at, seen.size);
+        keep(&mut one, 0, capture, at, seen);
         let same = agreed(capture, n, &one, seen.size);
         if same < seen.size {
             let place = n + same;

@@ -63,6 +63,7 @@ use Rattle.view.proofs.OneAnswer as view
 use Rattle.walk.proofs.OneAnswer as walk
 use Rattle.lines.proofs.OneAnswer as lines
 use Rattle.clean.proofs.OneAnswer as clean
+use Rattle.host.proofs.OneAnswer as host
 
 -- "EVERY PUBLIC ENTRY POINT TAKES ALL INPUT": of each public function, the theorem that its promise fixes the answer for all input.
 -- (tools/promises compares these lists with the public functions.)
@@ -140,6 +141,7 @@ entries-answers =
 scrub-answers : Named
 scrub-answers =
     let private-span-one-answer = scrub.private-span-one-answer in
+    let scrub-known-one-answer = scrub.scrub-known-one-answer in
     let scrub-one-answer = scrub.scrub-one-answer in
     named
 
@@ -206,6 +208,28 @@ clean-answers : Named
 clean-answers =
     let clean-one-answer = clean.clean-one-answer in
     let is-clean-one-answer = clean.is-clean-one-answer in
+    named
+
+-- host
+host-answers : Named
+host-answers =
+    let rk-read-one-answer = host.rk-read-one-answer in
+    let rk-write-one-answer = host.rk-write-one-answer in
+    let rk-search-one-answer = host.rk-search-one-answer in
+    let rk-scrub-one-answer = host.rk-scrub-one-answer in
+    let rk-private-one-answer = host.rk-private-one-answer in
+    let rk-entries-one-answer = host.rk-entries-one-answer in
+    let rk-entry-one-answer = host.rk-entry-one-answer in
+    let rk-ledger-open-one-answer = host.rk-ledger-open-one-answer in
+    let rk-ledger-tick-one-answer = host.rk-ledger-tick-one-answer in
+    let rk-ledger-announce-one-answer = host.rk-ledger-announce-one-answer in
+    let rk-ledger-request-one-answer = host.rk-ledger-request-one-answer in
+    let rk-ledger-reply-one-answer = host.rk-ledger-reply-one-answer in
+    let rk-ledger-told-one-answer = host.rk-ledger-told-one-answer in
+    let rk-walk-one-answer = host.rk-walk-one-answer in
+    let rk-listing-one-answer = host.rk-listing-one-answer in
+    let rk-clean-one-answer = host.rk-clean-one-answer in
+    let rk-is-clean-one-answer = host.rk-is-clean-one-answer in
     named
 
 -- "AND REFUSES WHAT IT CAN'T USE WITH A NUMBER FROM DOCUMENT 01"
@@ -276,7 +300,7 @@ verdict-numbered verdict.Fine = done refl
 verdict-numbered (verdict.Refused w) = refused (refusal-in-table w)
 
 -- what the walk sees at a place has reading's number
-reads-numbered : (n : ℕ) (s : List ℕ) → Reads n s → Numbered n
+pub reads-numbered : (n : ℕ) (s : List ℕ) → Reads n s → Numbered n
 unfolding inTable
 reads-numbered zero s h = done refl
 reads-numbered (suc zero) s h = refused refl
@@ -322,6 +346,8 @@ frame-buffers =
 
 scrub-buffers : Named
 scrub-buffers =
+    let scrub-known-one-buffer = scrub.scrub-known-one-buffer in
+    let scrub-known-refused-keeps = scrub.scrub-known-refused-keeps in
     let scrub-one-buffer = scrub.scrub-one-buffer in
     let scrub-refused-keeps = scrub.scrub-refused-keeps in
     named
@@ -352,6 +378,45 @@ clean-buffers : Named
 clean-buffers =
     let clean-one-buffer = clean.clean-one-buffer in
     let clean-refused-keeps = clean.clean-refused-keeps in
+    named
+
+-- of all that a function of host is lent: told row, words and buffer
+host-buffers : Named
+host-buffers =
+    let rk-read-one-buffer = host.rk-read-one-buffer in
+    let rk-read-refused-keeps = host.rk-read-refused-keeps in
+    let rk-write-one-buffer = host.rk-write-one-buffer in
+    let rk-write-refused-keeps = host.rk-write-refused-keeps in
+    let rk-search-one-buffer = host.rk-search-one-buffer in
+    let rk-search-refused-keeps = host.rk-search-refused-keeps in
+    let rk-scrub-one-buffer = host.rk-scrub-one-buffer in
+    let rk-scrub-refused-keeps = host.rk-scrub-refused-keeps in
+    let rk-private-one-buffer = host.rk-private-one-buffer in
+    let rk-private-refused-keeps = host.rk-private-refused-keeps in
+    let rk-entries-one-buffer = host.rk-entries-one-buffer in
+    let rk-entries-refused-keeps = host.rk-entries-refused-keeps in
+    let rk-entry-one-buffer = host.rk-entry-one-buffer in
+    let rk-entry-refused-keeps = host.rk-entry-refused-keeps in
+    let rk-ledger-open-one-buffer = host.rk-ledger-open-one-buffer in
+    let rk-ledger-open-refused-keeps = host.rk-ledger-open-refused-keeps in
+    let rk-ledger-tick-one-buffer = host.rk-ledger-tick-one-buffer in
+    let rk-ledger-tick-refused-keeps = host.rk-ledger-tick-refused-keeps in
+    let rk-ledger-announce-one-buffer = host.rk-ledger-announce-one-buffer in
+    let rk-ledger-announce-refused-keeps = host.rk-ledger-announce-refused-keeps in
+    let rk-ledger-request-one-buffer = host.rk-ledger-request-one-buffer in
+    let rk-ledger-request-refused-keeps = host.rk-ledger-request-refused-keeps in
+    let rk-ledger-reply-one-buffer = host.rk-ledger-reply-one-buffer in
+    let rk-ledger-reply-refused-keeps = host.rk-ledger-reply-refused-keeps in
+    let rk-ledger-told-one-buffer = host.rk-ledger-told-one-buffer in
+    let rk-ledger-told-refused-keeps = host.rk-ledger-told-refused-keeps in
+    let rk-walk-one-buffer = host.rk-walk-one-buffer in
+    let rk-walk-refused-keeps = host.rk-walk-refused-keeps in
+    let rk-listing-one-buffer = host.rk-listing-one-buffer in
+    let rk-listing-refused-keeps = host.rk-listing-refused-keeps in
+    let rk-clean-one-buffer = host.rk-clean-one-buffer in
+    let rk-clean-refused-keeps = host.rk-clean-refused-keeps in
+    let rk-is-clean-one-buffer = host.rk-is-clean-one-buffer in
+    let rk-is-clean-refused-keeps = host.rk-is-clean-refused-keeps in
     named
 
 -- "ONLY A TICK NUMBER TOO FAR AHEAD CHANGES THE LEDGER, AND ONLY ITS KNOWN TOP."

@@ -29,9 +29,10 @@ use Rattle.wire.specs.RoundTrip.{Widths, read-written, message-written}
 use Rattle.scrub.specs.declared.Span.{Span}
 use Rattle.rules.specs.declared.Kind.{Kind}
 use Rattle.scrub.specs.Private.{privateOf}
-use Rattle.scrub.specs.Within.{bodyIn}
 use Rattle.scrub.specs.Scrub.{painted, spansOf, cleanBody, summed, scrubbed, scrubAnswer}
 use Rattle.scrub.specs.Paint.{Inside, Within, Agree, length-painted, painted-outside, painted-inside, painted-agrees, painted-same}
+use Rattle.scrub.specs.Known.{knownAnswer, knownLeaves}
+use Rattle.scrub.specs.KnownLaws.{known-done}
 use Rattle.view.specs.View.{viewOf}
 use Rattle.scrub.specs.PrivateLaws.{view-same, private-few, private-within, private-filled, private-same, judged-same}
 
@@ -276,12 +277,15 @@ scrub-alike s t b c y z a = scrub-bytes s y b ∙ ap frameOf (alike-clean s t a 
 
 -- WHAT THE CODE LEAVES AND ANSWERS, in its own numbers
 module _ (d : List ℕ) (z : readOf d .number ≡ 0) where
-  pub scrub-as : (k : Kind) (n : ℕ) → k ≡ kindOf (msgType d) → n ≡ bodyLength d → summed (24 + n) (laid 24 (painted (privateOf k (bodyIn n d)) (bodyIn n d)) d) ≡ scrubbed d
-  scrub-as k n p q = rw (p, q) (sym (scrubs d z))
-
   pub answer-as : (n : ℕ) → n ≡ bodyLength d → answer 0 ((28 + n) ∷ []) ≡ scrubAnswer d
   unfolding scrubAnswer
   answer-as n q = rw (eq-eqb (readOf d .number) 0 z, q)
+
+  -- told its own type and length, `scrub_known` answers and leaves what scrubbing does
+  pub known-scrubs : (k : Kind) (n : ℕ) → k ≡ kindOf (msgType d) → n ≡ bodyLength d → (knownAnswer k n d ≡ scrubAnswer d) × (knownLeaves k n d ≡ scrubbed d)
+  known-scrubs k n p q =
+      let r = known-done k n d (measure-same _ _ _ _ p q ∙ good d z .whole .measured) (rw q (good d z .whole .there)) in
+      (sym (r .0) ∙ answer-as n q, sym (r .1) ∙ rw (p, q) (sym (scrubs d z)))
 
 pub answer-refused : (d : List ℕ) → (readOf d .number ≡ 0 → ⊥) → readOf d ≡ scrubAnswer d
 unfolding scrubAnswer

@@ -10,9 +10,12 @@ ghost use Rattle.scrub.specs.Private.{spaces, privateOf, spanAt};
 ghost use Rattle.rules.specs.Table.{suits};
 ghost use Rattle.scrub.specs.Scrub.{painted, summed, scrubAnswer, scrubbed};
 ghost use Rattle.scrub.specs.Within.{bodyIn, spanIn, spanPainted};
+ghost use Rattle.scrub.specs.Known.{knownAnswer, knownLeaves};
 use frame::Read;
 use octets::Written;
 use rules::Kind;
+use rules::Verdict;
+use terms::Refusal;
 
 // A private part of a body: where it starts, how many bytes it has, and the byte that replaces each of them.
 pub struct Span {
@@ -124,6 +127,25 @@ fn renew_sum(buf: &mut [u8], n: usize)
     octets::put(buf, n, 4, v as u64);
 }
 
+// Scrubs the frame at the front of buf where it stands, by the type and the body length that the caller tells: for one that has
+// read it. Whatever the bytes say, those that are private in a body of that type are painted, and the sum is set anew. Reading's
+// checks 2, 3 and 4 of these two may refuse, and 1 where buf has fewer bytes than that frame; then the buffer keeps its bytes.
+pub fn scrub_known(buf: &mut [u8], kind: Kind, n: usize) -> Written
+    ensures { λ r. ⌜ (writtenPaper r ≡ knownAnswer kind n (now (buf .entry))) × (now (buf .exit) ≡ knownLeaves kind n (now (buf .entry))) ⌝ }
+{
+    match rules::measure(kind, n) {
+        Verdict::Refused(why) => Written::Refused(why),
+        Verdict::Fine => {
+            if buf.len() < 28 + n {
+                return Written::Refused(Refusal::More);
+            }
+            paint_all(buf, kind, n);
+            renew_sum(buf, 24 + n);
+            Written::Bytes(28 + n)
+        }
+    }
+}
+
 // Scrubs the frame at the front of buf where it stands, and answers how many bytes it has. A refusal of reading is passed
 // on, and the buffer keeps its bytes; so do the bytes behind the frame.
 pub fn scrub(buf: &mut [u8]) -> Written
@@ -136,11 +158,6 @@ pub fn scrub(buf: &mut [u8]) -> Written
             sending_time: _,
             seq: _,
             body_len,
-        } => {
-            let kind = rules::kind_of(msg_type);
-            paint_all(buf, kind, body_len);
-            renew_sum(buf, 24 + body_len);
-            Written::Bytes(28 + body_len)
-        }
+        } => scrub_known(buf, rules::kind_of(msg_type), body_len),
     }
 }

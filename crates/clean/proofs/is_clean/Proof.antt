@@ -26,7 +26,7 @@ slice-aggregate-keep : tie.Need-slice-aggregate-keep Inv-loop μ-loop
 slice-aggregate-keep c = sym (c .before .before .before .loop .inv .room)
 
 keep-requires : tie.Need-keep-requires Inv-loop μ-loop
-keep-requires c κs = (omega arith, size-inside _ _ _ (c .before .see .ensures) (c .before .before .before .loop .inv .inside))
+keep-requires c κs = (omega arith, (c .before .before .before .loop .inv .inside, c .before .see .ensures))
 
 -- the frame made leaves the array its length
 long : (c : tie.After-one3 Inv-loop μ-loop) → length (c .before .before .keep .last .0) ≡ 8192

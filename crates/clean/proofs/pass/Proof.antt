@@ -5,7 +5,6 @@ use Prim.Native.Nat.{_-_}
 use lib.ListN.{length}
 use borrow.Author.Needs.{needs}
 use Rattle.walk.specs.Counts.{accepts-one}
-use Rattle.clean.specs.Turns.{size-inside}
 use Rattle.clean.proofs.PassLaws.{Left, left-start, left-step, left-end}
 use Rattle.clean.proofs.pass.Statement.{statement}
 use Rattle.clean.proofs.pass.Tie as tie
@@ -23,7 +22,7 @@ see-requires : tie.Need-see-requires Inv-loop μ-loop
 see-requires c κs = search needs
 
 keep-requires : tie.Need-keep-requires Inv-loop μ-loop
-keep-requires c κs = (omega (arith, c .before .before .before .loop .inv .few), size-inside _ _ _ (c .before .see .ensures) (c .before .before .before .loop .inv .inside))
+keep-requires c κs = (omega (arith, c .before .before .before .loop .inv .few), (c .before .before .before .loop .inv .inside, c .before .see .ensures))
 
 onward-requires : tie.Need-onward-requires Inv-loop μ-loop
 onward-requires c κs = (omega arith, c .before .before .before .before .see .ensures)

@@ -1,19 +1,15 @@
--- `scrub`: reading's refusal is passed on; of a frame that reads, its paper tells the type and the length, and that the
--- body lies within the buffer and suits the type. Assumes nothing.
-use Rattle.scrub.specs.Scrub.{summed}
-use native.Mathlib.Omega.{arith}
-use Rattle.scrub.specs.Laws.{scrub-as, answer-as, answer-refused, refused-same}
-use Rattle.wire.specs.Measures.{fits}
-use Rattle.wire.specs.Outcomes.{good, read-done, read-values, read-length}
+-- `scrub`: reading's refusal is passed on; of a frame that reads, its paper tells the type and the length that it is scrubbed
+-- by. Assumes nothing.
+use Rattle.scrub.specs.Laws.{known-scrubs, answer-refused, refused-same}
+use Rattle.wire.specs.Outcomes.{read-done, read-values, read-length}
 use Rattle.frame.specs.Papers.{readPaper}
 use Rattle.wire.specs.Frame.{msgType, bodyLength, readOf}
-use Rattle.rules.specs.Table.{kindOf, kind-is, suits}
+use Rattle.rules.specs.Table.{kindOf, kind-is}
 use Rattle.terms.specs.Refusals.{numberOf, refusal-pos}
 use Rattle.terms.specs.Paper.{Paper, answer, refusal, one-number}
-use lib.ListN.{length, getD}
+use lib.ListN.{getD}
 use mathlib.Core.List.{List, [], _∷_}
-use mathlib.Core.Bool.{true}
-use Prim.Native.Nat.{ℕ, _+_, _≤_}
+use Prim.Native.Nat.{ℕ}
 use mathlib.Core.Path.{_≡_, sym, ap, _∙_}
 use borrow.Author.Needs.{needs}
 use Rattle.scrub.proofs.scrub.Statement.{statement}
@@ -36,22 +32,10 @@ len c = c .msg-type .given .0 .1 .1 .1 .0
 paper : (c : tie.After-msg-type) → answer 0 (c .msg-type .given .0 .0 ∷ c .msg-type .given .0 .1 .0 ∷ c .msg-type .given .0 .1 .1 .0 .0 ∷ len c ∷ []) ≡ readOf (text (c .before .before))
 paper c = sym (ap readPaper (c .msg-type .given .1)) ∙ c .before .before .read-at .ensures
 
-done : (c : tie.After-msg-type) → readOf (text (c .before .before)) .number ≡ 0
-done c = read-done _ _ _ _ _ (paper c)
-
-len-is : (c : tie.After-msg-type) → len c ≡ bodyLength (text (c .before .before))
-len-is c = read-length _ _ _ _ _ (paper c)
-
-kind : (c : tie.After-kind-of) → c .kind-of .result ≡ kindOf (msgType (text (c .before .before .before .before)))
+kind : (c : tie.After-kind-of) → c .kind-of .result ≡ kindOf (msgType (text (c .before .before .before .before .before)))
 kind c =
     kind-is _ _ (c .kind-of .ensures)
-    ∙ ap (λ (p : Paper). kindOf (getD (p .values) 0 0)) (read-values _ _ _ _ _ (paper (c .before .before)))
-
-inside : (c : tie.After-msg-type) → 28 + len c ≤ length (text (c .before .before))
-inside c = rw (len-is c) (good _ (done c) .whole .there)
-
-suited : (c : tie.After-kind-of) → suits (c .kind-of .result) (len (c .before .before)) ≡ true
-suited c = rw (kind c, len-is (c .before .before)) (fits _ _ (good _ (done (c .before .before)) .whole .measured) .suit)
+    ∙ ap (λ (p : Paper). kindOf (getD (p .values) 0 0)) (read-values _ _ _ _ _ (paper (c .before .before .before)))
 
 read-at-requires : tie.Need-read-at-requires
 read-at-requires c κs = search needs
@@ -65,17 +49,8 @@ enum-known-msg-type c = search needs
 kind-of-requires : tie.Need-kind-of-requires
 kind-of-requires c κs = search needs
 
-paint-all-requires : tie.Need-paint-all-requires
-paint-all-requires c κs = (omega (arith, inside (c .before .before .before)), suited (c .before))
-
-add-renew-sum : tie.Need-add-renew-sum
-add-renew-sum c = omega (arith, inside (c .before .before .before .before .before .before .before))
-
-renew-sum-requires : tie.Need-renew-sum-requires
-renew-sum-requires c κs = omega (arith, inside (c .before .before .before .before .before .before .before))
-
-add-t15 : tie.Need-add-t15
-add-t15 c = omega (arith, inside (c .before .before .before .before .before .before .before .before .before .before))
+scrub-known-requires : tie.Need-scrub-known-requires
+scrub-known-requires c κs = search needs
 
 same-length : tie.Need-same-length
 same-length c = search needs
@@ -88,10 +63,10 @@ same-length-2 c = search needs
 
 returns-2 : tie.Need-returns-2
 returns-2 c =
-    let m = c .before .before .before .before .before .before .before .before .before .before in (
-      answer-as _ (done m) _ (len-is m),
-      c .before .before .renew-sum .ensures ∙ ap (summed (24 + len m)) (c .before .before .before .before .before .before .paint-all .ensures) ∙ scrub-as _ (done m) _ _ (kind (c .before .before .before .before .before .before .before .before)) (len-is m),
-    )
+    let k = c .before .before .before in
+    let p = paper (k .before .before .before) in
+    let r = known-scrubs _ (read-done _ _ _ _ _ p) _ _ (kind k) (read-length _ _ _ _ _ p) in
+    (c .before .before .scrub-known .ensures .0 ∙ r .0, c .before .before .scrub-known .ensures .1 ∙ r .1)
 
 pub scrub-spec : {M : Type 1} → statement M
 scrub-spec =
@@ -101,10 +76,7 @@ scrub-spec =
     enum-known-why
     enum-known-msg-type
     kind-of-requires
-    paint-all-requires
-    add-renew-sum
-    renew-sum-requires
-    add-t15
+    scrub-known-requires
     same-length
     returns
     same-length-2
