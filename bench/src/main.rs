@@ -1,0 +1,383 @@
+//! The proved library beside plain Rust: the same jobs on the same inputs in one run, with the same answers.
+//!
+//!     cargo run --release -p bench            everything
+//!     cargo run --release -p bench -- small   without the captures of 10 and 100 MB
+//!
+//! Each job runs both ways in turn several times, and the best time of each counts. The answers are compared first.
+
+mod made;
+mod plain;
+
+use made::Dice;
+use rietknoest_host as host;
+use std::hint::black_box;
+use std::time::{Duration, Instant};
+
+const KIB_64: usize = 65_536;
+const MB: usize = 1_000_000;
+
+/// The time of a run that does its work so many times. On a busy machine others take the core from a long run: there the time that the thread
+/// had one counts, where Linux tells it. It does so in steps of some milliseconds, too coarse for a short run, whose best was left alone.
+fn timed(times: usize, work: &mut dyn FnMut()) -> Duration {
+    let before = on_core();
+    let start = Instant::now();
+    for _ in 0..times {
+        work();
+    }
+    let elapsed = start.elapsed();
+    match (before, on_core()) {
+        (Some(before), Some(after)) if elapsed > Duration::from_millis(40) => after - before,
+        _ => elapsed,
+    }
+}
+
+fn on_core() -> Option<Duration> {
+    let text = std::fs::read_to_string("/proc/thread-self/schedstat").ok()?;
+    let nanoseconds = text.split(' ').next()?.parse().ok()?;
+    Some(Duration::from_nanos(nanoseconds))
+}
+
+/// How many runs there are, and how often each does its work: short runs many times, long ones a few times.
+fn turns(bytes: usize) -> (u32, usize) {
+    if bytes <= 2 * MB {
+        return (100, (MB / 2 / bytes).max(1));
+    }
+    (5, (100 * MB / bytes).max(4))
+}
+
+/// The best nanoseconds a byte of several pieces of work, taken in turn.
+fn best<const N: usize>(bytes: usize, mut work: [&mut dyn FnMut(); N]) -> [f64; N] {
+    let (runs, times) = turns(bytes);
+    let mut best = [Duration::MAX; N];
+    for _ in 0..runs {
+        for (best, work) in best.iter_mut().zip(&mut work) {
+            *best = timed(times, work).min(*best);
+        }
+    }
+    best.map(|b| b.as_secs_f64() * 1e9 / (times * bytes) as f64)
+}
+
+/// A job, what it works on, and what the ratio should be.
+struct Job<'a> {
+    name: &'a str,
+    input: &'a str,
+    bytes: usize,
+    goal: Option<f64>,
+}
+
+impl Job<'_> {
+    /// A line of the table. `per` bytes make one of the units that are told.
+    fn race(&self, unit: &str, per: usize, mut ours: impl FnMut(), mut theirs: impl FnMut()) {
+        let [a, b] = best(self.bytes, [&mut ours, &mut theirs]).map(|t| t * per as f64);
+        let ratio = a / b;
+        let goal = match self.goal {
+            None => String::new(),
+            Some(goal) if ratio <= goal => format!("{goal:.1}x, met"),
+            Some(goal) => format!("{goal:.1}x, missed"),
+        };
+        let Job { name, input, .. } = self;
+        println!(
+            "| {name} | {input} | {a:.3} ns a {unit} | {b:.3} ns a {unit} | {ratio:.2}x | {goal} |"
+        );
+    }
+}
+
+/// An answer that nobody looks at, but that must be there.
+fn done<T>(answer: T) {
+    black_box(&answer);
+}
+
+fn number<T>(answer: Result<T, host::Refusal>) -> Result<T, u32> {
+    answer.map_err(host::Refusal::number)
+}
+
+// FRAMES
+
+fn search(name: &str, input: &str, bytes: &[u8], goal: Option<f64>) {
+    assert_eq!(number(host::search(bytes, 0)), plain::search(bytes, 0));
+    let job = Job {
+        name,
+        input,
+        bytes: bytes.len(),
+        goal,
+    };
+    job.race(
+        "byte",
+        1,
+        || done(host::search(black_box(bytes), 0)),
+        || done(plain::search(black_box(bytes), 0)),
+    );
+}
+
+/// Reads the frames at these places.
+fn read(input: &str, capture: &[u8], places: &[usize]) {
+    for p in places {
+        assert_eq!(number(host::read(capture, *p)), plain::read(capture, *p));
+    }
+    let job = Job {
+        name: "read",
+        input,
+        bytes: capture.len(),
+        goal: Some(1.5),
+    };
+    job.race(
+        "byte",
+        1,
+        || {
+            for p in places {
+                done(host::read(black_box(capture), *p));
+            }
+        },
+        || {
+            for p in places {
+                done(plain::read(black_box(capture), *p));
+            }
+        },
+    );
+}
+
+/// Scrubs the frames at these places where they stand. Scrubbing again is the same work.
+fn scrub(name: &str, input: &str, capture: &[u8], places: &[usize], goal: f64) {
+    let (mut a, mut b) = (capture.to_vec(), capture.to_vec());
+    for p in places {
+        let answer = number(host::scrub(&mut a[*p..]));
+        assert_eq!(answer, plain::scrub(&mut b[*p..]));
+    }
+    assert!(a == b);
+    let job = Job {
+        name,
+        input,
+        bytes: capture.len(),
+        goal: Some(goal),
+    };
+    job.race(
+        "byte",
+        1,
+        || {
+            for p in places {
+                done(host::scrub(black_box(&mut a[*p..])));
+            }
+        },
+        || {
+            for p in places {
+                done(plain::scrub(black_box(&mut b[*p..])));
+            }
+        },
+    );
+}
+
+fn sum_and_fill() {
+    let d = &mut Dice(5);
+    let body = d.bytes(8_164);
+    let f = made::frame(plain::M101, 1, &body);
+    let input = "a frame of 8,192 bytes, found where it is looked for";
+    search("sum", input, &f, Some(1.1));
+    let f = made::frame(plain::M201, 1, &made::tick(d, 1, 8_119));
+    let input = "an M201 of 8,192 bytes, scrubbed";
+    scrub("sum, fill and sum", input, &f, &[0], 1.1);
+}
+
+/// The places of the frames of a capture.
+fn places(capture: &[u8]) -> Vec<usize> {
+    let mut places = Vec::new();
+    let mut at = 0;
+    while let Ok(Some(place)) = host::search(capture, at) {
+        places.push(place);
+        at = place + host::read(capture, place).expect("a frame").frame_len();
+    }
+    places
+}
+
+// THE LEDGER
+
+fn ledger(input: &str, ticks: &[u64]) {
+    let fresh = (
+        host::Ledger::open(100).expect("a channel"),
+        plain::Ledger::open(100),
+    );
+    let (mut a, mut b) = fresh;
+    for n in ticks {
+        let (next, answer) = b.tick(100, *n);
+        b = next;
+        assert_eq!(number(a.tick(100, *n)), answer);
+        assert_eq!(a.to_words(), b.words());
+    }
+    // as if a tick had 50 bytes, for the turns
+    let job = Job {
+        name: "ledger tick",
+        input,
+        bytes: 50 * ticks.len(),
+        goal: Some(1.2),
+    };
+    job.race(
+        "tick",
+        50,
+        || {
+            let mut ledger = fresh.0;
+            for n in black_box(ticks) {
+                done(ledger.tick(100, *n));
+            }
+            done(ledger);
+        },
+        || {
+            let mut ledger = fresh.1;
+            for n in black_box(ticks) {
+                let (next, answer) = ledger.tick(100, *n);
+                ledger = next;
+                done(answer);
+            }
+            done(ledger);
+        },
+    );
+}
+
+fn ledgers() {
+    let in_order: Vec<u64> = (1..=20_000).collect();
+    ledger("in order", &in_order);
+    let mut late = Vec::new();
+    for n in 1..=20_000 {
+        if n % 16 != 0 {
+            late.push(n);
+        }
+        if n > 100 && (n - 100) % 16 == 0 {
+            late.push(n - 100);
+        }
+    }
+    ledger("every sixteenth comes 100 ticks late", &late);
+}
+
+// CAPTURES
+
+fn walk(input: &str, capture: &[u8]) {
+    let room = host::records_room(capture.len());
+    let (mut a, mut b) = (vec![0; room], vec![0; room]);
+    let x = host::walk(capture, &mut a).expect("room");
+    let y = plain::walk(capture, &mut b).expect("room");
+    assert_eq!((x.records, x.frames), (y.records, y.frames));
+    assert_eq!(x.refused, y.refused);
+    assert_eq!(x.ledger.to_words(), y.ledger.words());
+    assert!(a == b);
+    let job = Job {
+        name: "walk",
+        input,
+        bytes: capture.len(),
+        goal: Some(1.7),
+    };
+    job.race(
+        "byte",
+        1,
+        || done(host::walk(black_box(capture), &mut a)),
+        || done(plain::walk(black_box(capture), &mut b)),
+    );
+}
+
+fn clean(input: &str, capture: &[u8]) {
+    let (mut a, mut b) = (vec![0; capture.len()], vec![0; capture.len()]);
+    let answer = number(host::clean(capture, &mut a));
+    assert_eq!(answer, plain::clean(capture, &mut b));
+    assert!(a == b);
+    let job = Job {
+        name: "clean",
+        input,
+        bytes: capture.len(),
+        goal: Some(1.7),
+    };
+    job.race(
+        "byte",
+        1,
+        || done(host::clean(black_box(capture), &mut a)),
+        || done(plain::clean(black_box(capture), &mut b)),
+    );
+}
+
+fn captures(input: &str, size: usize) {
+    let capture = made::capture(size);
+    let places = places(&capture);
+    read(input, &capture, &places);
+    scrub("read and scrub", input, &capture, &places, 1.6);
+    walk(input, &capture);
+    clean(input, &capture);
+    search("search in noise", input, &Dice(2).bytes(size), Some(2.0));
+    let name = "search among false headers";
+    let bytes = made::false_headers(size, plain::S003, 0);
+    search(name, &format!("{input}, empty frames"), &bytes, None);
+    if size < MB {
+        let bytes = made::false_headers(size, plain::M101, 8_164);
+        search(
+            name,
+            &format!("{input}, frames of 8,192 bytes"),
+            &bytes,
+            None,
+        );
+    }
+}
+
+// HOW TIME GROWS
+
+const OVER_ALL: [&str; 7] = [
+    "search in noise",
+    "walk",
+    "walk, records exactly fitting",
+    "listing",
+    "clean",
+    "is_clean of a clean capture",
+    "walk of noise",
+];
+
+/// Nanoseconds a byte of each function that goes over a whole capture.
+fn over_all(size: usize) -> [f64; 7] {
+    let capture = made::capture(size);
+    let noise = Dice(2).bytes(size);
+    let mut roomy = vec![0; host::records_room(size)];
+    let walked = host::walk(&capture, &mut roomy).expect("room");
+    let records = roomy[..walked.records * host::RECORD].to_vec();
+    let mut fitting = records.clone();
+    let mut text = vec![0; host::text_room(walked.records)];
+    let mut out = vec![0; size];
+    let cleaned = host::clean(&capture, &mut out).expect("room");
+    let clean = out[..cleaned.bytes as usize].to_vec();
+    best(
+        size,
+        [
+            &mut || done(host::search(black_box(&noise), 0)),
+            &mut || done(host::walk(black_box(&capture), &mut roomy)),
+            &mut || done(host::walk(black_box(&capture), &mut fitting)),
+            &mut || done(host::listing(black_box(&records), &walked, &mut text)),
+            &mut || done(host::clean(black_box(&capture), &mut out)),
+            &mut || done(host::is_clean(black_box(&clean))),
+            &mut || done(host::walk(black_box(&noise), &mut [0; host::RECORD])),
+        ],
+    )
+}
+
+/// A line that grows to the right is not linear.
+fn growth(sizes: &[(&str, usize)]) {
+    let names: Vec<_> = sizes.iter().map(|s| s.0).collect();
+    println!("| ns a byte | {} |", names.join(" | "));
+    println!("|---|{}", "---|".repeat(sizes.len()));
+    let columns: Vec<_> = sizes.iter().map(|s| over_all(s.1)).collect();
+    for (i, name) in OVER_ALL.iter().enumerate() {
+        let row: Vec<_> = columns.iter().map(|c| format!("{:.3}", c[i])).collect();
+        println!("| {name} | {} |", row.join(" | "));
+    }
+}
+
+fn main() {
+    let sizes = [
+        ("64 KiB", KIB_64),
+        ("1 MB", MB),
+        ("10 MB", 10 * MB),
+        ("100 MB", 100 * MB),
+    ];
+    let small = std::env::args().any(|a| a == "small");
+    println!("| Job | Input | ours | plain Rust | ratio | goal |");
+    println!("|---|---|---|---|---|---|");
+    sum_and_fill();
+    ledgers();
+    captures("64 KiB", KIB_64);
+    if !small {
+        captures("100 MB", 100 * MB);
+    }
+    println!();
+    growth(if small { &sizes[..2] } else { &sizes });
+}

@@ -1,0 +1,445 @@
+//! The same jobs in plain Rust, as one would write them by hand for speed: the same checks in the same order, the same answers.
+
+use rietknoest_host::{Cleaned, Frame, Passed};
+
+const fn name(bytes: &[u8; 4]) -> u32 {
+    u32::from_be_bytes(*bytes)
+}
+
+pub const S001: u32 = name(b"S001");
+pub const S002: u32 = name(b"S002");
+pub const S003: u32 = name(b"S003");
+pub const P001: u32 = name(b"P001");
+pub const P002: u32 = name(b"P002");
+pub const M101: u32 = name(b"M101");
+pub const M102: u32 = name(b"M102");
+pub const M201: u32 = name(b"M201");
+
+fn u16_at(b: &[u8], at: usize) -> u16 {
+    u16::from_be_bytes(b[at..at + 2].try_into().expect("2 bytes"))
+}
+
+fn u32_at(b: &[u8], at: usize) -> u32 {
+    u32::from_be_bytes(b[at..at + 4].try_into().expect("4 bytes"))
+}
+
+fn u64_at(b: &[u8], at: usize) -> u64 {
+    u64::from_be_bytes(b[at..at + 8].try_into().expect("8 bytes"))
+}
+
+pub fn sum(bytes: &[u8]) -> u8 {
+    bytes.iter().fold(0, |sum, b| sum.wrapping_add(*b))
+}
+
+// FRAMES
+
+fn digits(value: u64, n: u32) -> bool {
+    value < 10u64.pow(n)
+}
+
+fn pairs(security: u8, stream: &[u8]) -> bool {
+    match stream {
+        b"MD001" | b"MD002" | b"MD003" | b"MD004" => security == 1,
+        b"MD301" => security == 2,
+        b"MD101" | b"MD102" => security == 3,
+        b"MD201" => security == 12,
+        b"MD210" => security == 13,
+        b"MDE01" => security == 14,
+        _ => false,
+    }
+}
+
+fn m102_holds(b: &[u8]) -> bool {
+    let short = &b[10..15] == b"MD001";
+    let size = if short { 10 } else { 19 };
+    let fixed = matches!(b[1], 1..=3)
+        && pairs(b[0], &b[10..15])
+        && digits(u32_at(b, 2).into(), 8)
+        && digits(u32_at(b, 6).into(), 9)
+        && digits(u64_at(b, 31), 13)
+        && digits(u64_at(b, 39), 16)
+        && digits(u64_at(b, 47), 16)
+        && digits(u64_at(b, 55), 16)
+        && b.len() == 73 + size * usize::from(u16_at(b, 71));
+    fixed
+        && b[73..].chunks_exact(size).all(|e| {
+            digits(u64_at(e, 2), 13) && (short || (digits(u64_at(e, 10), 12) && e[18] <= 99))
+        })
+}
+
+fn fields_hold(msg_type: u32, b: &[u8]) -> bool {
+    match msg_type {
+        S001 => u16_at(b, 64) > 0,
+        S002 => u32_at(b, 0) <= 9_999,
+        P001 => {
+            b[0] == 13
+                && matches!(b[11], b'Y' | b'N')
+                && u16_at(b, 1) <= 9_999
+                && digits(u64_at(b, 3), 18)
+        }
+        P002 => {
+            let (first, last, status) = (u64_at(b, 3), u64_at(b, 11), b[19]);
+            b[2] == 1
+                && first > 0
+                && matches!(status, 0..=5 | 99)
+                && (status != 0 || last == 0 || last >= first)
+                && u16_at(b, 0) <= 9_999
+                && digits(first, 18)
+                && digits(last, 18)
+        }
+        M102 => m102_holds(b),
+        M201 => {
+            b[0] == 13
+                && matches!(b[28], b'0' | b'4' | b'F')
+                && u64_at(b, 3) > 0
+                && u16_at(b, 1) <= 9_999
+                && digits(u64_at(b, 3), 18)
+                && digits(u32_at(b, 24).into(), 9)
+                && digits(u64_at(b, 29), 13)
+                && digits(u64_at(b, 37), 15)
+        }
+        _ => true,
+    }
+}
+
+/// Type and body of the frame at the front.
+fn parts(bytes: &[u8]) -> Result<(u32, &[u8]), u32> {
+    if bytes.len() < 24 {
+        return Err(1);
+    }
+    let msg_type = u32_at(bytes, 0);
+    let n = u32_at(bytes, 20) as usize;
+    let suits = match msg_type {
+        S001 => n == 74,
+        S002 => n == 260,
+        S003 => n == 0,
+        P001 => n == 12,
+        P002 => n == 52,
+        M101 => true,
+        M102 => n >= 73,
+        M201 => n >= 45,
+        _ => return Err(2),
+    };
+    if n > 8_164 {
+        return Err(3);
+    }
+    if !suits {
+        return Err(4);
+    }
+    if bytes.len() < 28 + n {
+        return Err(1);
+    }
+    if u32_at(bytes, 24 + n) != u32::from(sum(&bytes[..24 + n])) {
+        return Err(5);
+    }
+    let body = &bytes[24..24 + n];
+    if !fields_hold(msg_type, body) {
+        return Err(6);
+    }
+    Ok((msg_type, body))
+}
+
+pub fn read(bytes: &[u8], place: usize) -> Result<Frame, u32> {
+    let bytes = bytes.get(place..).unwrap_or(&[]);
+    let (msg_type, b) = parts(bytes)?;
+    let mut frame = Frame {
+        msg_type: msg_type.into(),
+        sending_time: u64_at(bytes, 4),
+        seq: u64_at(bytes, 12),
+        body_len: b.len() as u64,
+        ..Frame::default()
+    };
+    match msg_type {
+        P001 | M201 => {
+            frame.channel = u16_at(b, 1).into();
+            frame.tick = u64_at(b, 3);
+        }
+        P002 => {
+            frame.channel = u16_at(b, 0).into();
+            frame.tick = u64_at(b, 3);
+            frame.first = frame.tick;
+            frame.last = u64_at(b, 11);
+            frame.status = b[19].into();
+        }
+        _ => {}
+    }
+    Ok(frame)
+}
+
+pub fn search(bytes: &[u8], from: usize) -> Result<Option<usize>, u32> {
+    if from > bytes.len() {
+        return Err(9);
+    }
+    let begins = |p: &usize| matches!(bytes[*p], b'S' | b'P' | b'M');
+    let mut places = (from..bytes.len()).filter(begins);
+    Ok(places.find(|p| parts(&bytes[*p..]).is_ok()))
+}
+
+/// Paints the private bytes of a frame that reads, and sets its sum anew.
+fn paint(frame: &mut [u8], msg_type: u32) {
+    let n = frame.len() - 4;
+    let private = match msg_type {
+        S001 => 24..88,
+        S002 => 28..284,
+        P002 => 44..76,
+        M201 => 69..n,
+        _ => return,
+    };
+    frame[private].fill(b' ');
+    let sum = sum(&frame[..n]);
+    frame[n..].copy_from_slice(&u32::from(sum).to_be_bytes());
+}
+
+pub fn scrub(buffer: &mut [u8]) -> Result<usize, u32> {
+    let (msg_type, body) = parts(buffer)?;
+    let n = body.len() + 28;
+    paint(&mut buffer[..n], msg_type);
+    Ok(n)
+}
+
+// THE LEDGER
+
+const LARGEST: u64 = 999_999_999_999_999_999;
+
+#[derive(Clone, Copy, Debug, PartialEq, Eq)]
+pub struct Ledger {
+    pub channel: u16,
+    pub floor: u64,
+    pub top: u64,
+    pub map: [u64; 4],
+    pub pending: Option<(u64, u64)>,
+}
+
+impl Ledger {
+    pub fn open(channel: u16) -> Ledger {
+        Ledger {
+            channel,
+            floor: 0,
+            top: 0,
+            map: [0; 4],
+            pending: None,
+        }
+    }
+
+    pub fn words(&self) -> [u64; 9] {
+        let [a, b, c, d] = self.map;
+        let (first, last) = self.pending.unwrap_or((0, 0));
+        let channel = self.channel.into();
+        [channel, self.floor, self.top, a, b, c, d, first, last]
+    }
+
+    fn sound(&self) -> bool {
+        if self.channel > 9_999 || self.floor > self.top || self.top > LARGEST {
+            return false;
+        }
+        let known = self.top - self.floor;
+        let above = |i: usize| match known.saturating_sub(64 * i as u64) {
+            held @ 0..64 => self.map[i] >> held,
+            _ => 0,
+        };
+        if self.map[0] & 1 != 0 || above(0) | above(1) | above(2) | above(3) != 0 {
+            return false;
+        }
+        match self.pending {
+            None => true,
+            Some((first, last)) => {
+                (1..=self.floor + 1).contains(&first)
+                    && (first..=self.top).contains(&last)
+                    && last - first < 200
+            }
+        }
+    }
+
+    /// Numbers from the floor on without a break.
+    fn run(&self) -> u32 {
+        let mut run = 0;
+        for word in self.map {
+            run += word.trailing_ones();
+            if word != u64::MAX {
+                break;
+            }
+        }
+        run
+    }
+
+    /// The floor and the map behind so many numbers that were passed.
+    fn pass(&mut self, count: u32) {
+        self.floor += u64::from(count);
+        for _ in 0..count / 64 {
+            let [_, b, c, d] = self.map;
+            self.map = [b, c, d, 0];
+        }
+        let bits = count % 64;
+        if bits > 0 {
+            let [a, b, c, d] = self.map;
+            let join = |low: u64, high: u64| low >> bits | high << (64 - bits);
+            self.map = [join(a, b), join(b, c), join(c, d), d >> bits];
+        }
+    }
+
+    pub fn tick(mut self, channel: u16, n: u64) -> (Ledger, Result<Passed, u32>) {
+        if !self.sound() {
+            return (self, Err(13));
+        }
+        if channel != self.channel {
+            return (self, Err(18));
+        }
+        if n == 0 || n > LARGEST {
+            return (self, Err(10));
+        }
+        if n <= self.floor {
+            return (self, Err(11));
+        }
+        let place = n - self.floor - 1;
+        if place >= 256 {
+            self.top = self.top.max(n);
+            return (self, Err(12));
+        }
+        let (word, bit) = ((place / 64) as usize, 1 << (place % 64));
+        if self.map[word] & bit != 0 {
+            return (self, Err(11));
+        }
+        self.map[word] |= bit;
+        self.top = self.top.max(n);
+        let first = self.floor + 1;
+        let count = self.run();
+        if count > 0 {
+            self.pass(count);
+        }
+        let count = count.into();
+        (self, Ok(Passed { first, count }))
+    }
+
+    pub fn announce(mut self, channel: u16, last: u64) -> (Ledger, u32) {
+        if !self.sound() {
+            return (self, 13);
+        }
+        if channel != self.channel {
+            return (self, 18);
+        }
+        if last > LARGEST {
+            return (self, 10);
+        }
+        self.top = self.top.max(last);
+        (self, 0)
+    }
+}
+
+// CAPTURES
+
+/// What a walk counts, and the ledger behind it.
+#[derive(Clone, Copy, Debug, PartialEq, Eq)]
+pub struct Walked {
+    pub records: usize,
+    pub frames: u64,
+    pub refused: u64,
+    pub ledger: Ledger,
+}
+
+/// The walk; records for which there is no room are only counted.
+fn pass(capture: &[u8], records: &mut [u8]) -> Walked {
+    let mut w = Walked {
+        records: 0,
+        frames: 0,
+        refused: 0,
+        ledger: Ledger::open(100),
+    };
+    let mut rows = records.chunks_exact_mut(64);
+    let mut place = 0;
+    while place < capture.len() {
+        let seen = read(capture, place);
+        let (frame, answer, next) = match seen {
+            Ok(f) => {
+                let answer = match f.msg_type as u32 {
+                    M201 => {
+                        let (next, answer) = w.ledger.tick(f.channel as u16, f.tick);
+                        w.ledger = next;
+                        answer.err().unwrap_or(0)
+                    }
+                    P001 => {
+                        let (next, answer) = w.ledger.announce(f.channel as u16, f.tick);
+                        w.ledger = next;
+                        answer
+                    }
+                    _ => 0,
+                };
+                w.frames += 1;
+                (f, answer, Some(place + f.frame_len()))
+            }
+            Err(no) => {
+                w.refused += 1;
+                let blank = Frame {
+                    msg_type: name(b"    ").into(),
+                    ..Frame::default()
+                };
+                (blank, no, search(capture, place + 1).unwrap_or(None))
+            }
+        };
+        if let Some(row) = rows.next() {
+            row[..8].copy_from_slice(&(place as u64).to_be_bytes());
+            row[8..12].copy_from_slice(&(frame.msg_type as u32).to_be_bytes());
+            row[12..16].copy_from_slice(&answer.to_be_bytes());
+            row[16..24].copy_from_slice(&frame.seq.to_be_bytes());
+            row[24..32].copy_from_slice(&frame.tick.to_be_bytes());
+            row[32..34].copy_from_slice(&(frame.channel as u16).to_be_bytes());
+            row[34..36].fill(0);
+            row[36..40].copy_from_slice(&(frame.body_len as u32).to_be_bytes());
+            row[40..48].copy_from_slice(&w.ledger.floor.to_be_bytes());
+            row[48..56].copy_from_slice(&w.ledger.top.to_be_bytes());
+            row[56..].fill(0);
+        }
+        w.records += 1;
+        match next {
+            Some(next) => place = next,
+            None => break,
+        }
+    }
+    w
+}
+
+pub fn walk(capture: &[u8], records: &mut [u8]) -> Result<Walked, u32> {
+    let room = records.len() / 64;
+    if room < 2 * (capture.len() / 29) + 2 && room < pass(capture, &mut []).records {
+        return Err(8);
+    }
+    Ok(pass(capture, records))
+}
+
+/// The accepted frames, scrubbed; those for which there is no room are only counted.
+fn join(capture: &[u8], out: &mut [u8]) -> Cleaned {
+    let mut cleaned = Cleaned::default();
+    let mut place = 0;
+    let mut damage = false;
+    while place < capture.len() {
+        match parts(&capture[place..]) {
+            Ok((msg_type, body)) => {
+                let n = body.len() + 28;
+                let at = cleaned.bytes as usize;
+                if let Some(to) = out.get_mut(at..at + n) {
+                    to.copy_from_slice(&capture[place..place + n]);
+                    paint(to, msg_type);
+                }
+                cleaned.bytes += n as u64;
+                cleaned.frames += 1;
+                cleaned.after_damage += u64::from(damage);
+                damage = false;
+                place += n;
+            }
+            Err(_) => {
+                damage = true;
+                match search(capture, place + 1) {
+                    Ok(Some(next)) => place = next,
+                    _ => break,
+                }
+            }
+        }
+    }
+    cleaned
+}
+
+pub fn clean(capture: &[u8], out: &mut [u8]) -> Result<Cleaned, u32> {
+    if out.len() < capture.len() && (out.len() as u64) < join(capture, &mut []).bytes {
+        return Err(8);
+    }
+    Ok(join(capture, out))
+}

@@ -1,0 +1,429 @@
+//! Safe functions over the proved library. Each answers a value, or one of document 01's refusals; a refusal writes nothing into
+//! anything lent. What is proved is the library, not this wrapper: tests/ holds it against the C header and against oracle/.
+
+#![deny(unsafe_code)]
+
+use std::error::Error;
+use std::fmt;
+
+#[allow(unsafe_code)]
+mod raw;
+
+/// The places and lengths that are told are 64-bit numbers.
+const _: () = assert!(usize::BITS == 64);
+
+/// A refusal: a row of document 01's table, but for 0.
+#[derive(Clone, Copy, Debug, PartialEq, Eq, Hash)]
+#[repr(u32)]
+pub enum Refusal {
+    /// Fewer than 24 bytes, or fewer than the frame's length.
+    More = 1,
+    /// MsgType is not in the table.
+    Type = 2,
+    /// The body is above 8,164 bytes.
+    Long = 3,
+    /// BodyLength doesn't suit the type.
+    Length = 4,
+    /// CheckSum differs.
+    Sum = 5,
+    /// A field rule is broken.
+    Field = 6,
+    /// The output buffer is shorter than what is to be written.
+    Room = 8,
+    /// The search starts beyond the end.
+    Place = 9,
+    /// Tick number 0 or above 18 digits; announced top above 18 digits; channel above 9,999.
+    Number = 10,
+    /// The tick was received before.
+    Repeat = 11,
+    /// The tick is above floor + 256 and not a repeat.
+    Far = 12,
+    /// A state passed in breaks its state rules.
+    State = 13,
+    /// A request is pending.
+    Busy = 14,
+    /// Nothing is missing.
+    Whole = 15,
+    /// A reply with no request pending, or with another first number.
+    Unasked = 16,
+    /// The reply's status is not 1 to 5 or 99.
+    Status = 17,
+    /// The call names another channel.
+    Channel = 18,
+    /// The entry reader's body is below 73 bytes, its place is none of an entry, or that entry passes the body's end.
+    Entries = 20,
+}
+
+impl Refusal {
+    /// Every refusal, in the order of the table.
+    pub const ALL: [Refusal; 18] = [
+        Refusal::More,
+        Refusal::Type,
+        Refusal::Long,
+        Refusal::Length,
+        Refusal::Sum,
+        Refusal::Field,
+        Refusal::Room,
+        Refusal::Place,
+        Refusal::Number,
+        Refusal::Repeat,
+        Refusal::Far,
+        Refusal::State,
+        Refusal::Busy,
+        Refusal::Whole,
+        Refusal::Unasked,
+        Refusal::Status,
+        Refusal::Channel,
+        Refusal::Entries,
+    ];
+
+    /// The table's number.
+    pub fn number(self) -> u32 {
+        self as u32
+    }
+
+    /// The table's word.
+    pub fn name(self) -> &'static str {
+        match self {
+            Refusal::More => "more",
+            Refusal::Type => "type",
+            Refusal::Long => "long",
+            Refusal::Length => "length",
+            Refusal::Sum => "sum",
+            Refusal::Field => "field",
+            Refusal::Room => "room",
+            Refusal::Place => "place",
+            Refusal::Number => "number",
+            Refusal::Repeat => "repeat",
+            Refusal::Far => "far",
+            Refusal::State => "state",
+            Refusal::Busy => "busy",
+            Refusal::Whole => "whole",
+            Refusal::Unasked => "unasked",
+            Refusal::Status => "status",
+            Refusal::Channel => "channel",
+            Refusal::Entries => "entries",
+        }
+    }
+
+    /// The refusal of a number; none for 0 and for a number that the table lacks.
+    pub fn of(number: u32) -> Option<Refusal> {
+        Refusal::ALL.into_iter().find(|r| r.number() == number)
+    }
+}
+
+impl fmt::Display for Refusal {
+    fn fmt(&self, f: &mut fmt::Formatter<'_>) -> fmt::Result {
+        write!(f, "{} ({})", self.number(), self.name())
+    }
+}
+
+impl Error for Refusal {}
+
+/// What was told, if the answer is 0.
+fn told<T>(answer: u32, value: T) -> Result<T, Refusal> {
+    match answer {
+        0 => Ok(value),
+        n => Err(Refusal::of(n).expect("the library answers numbers of the table")),
+    }
+}
+
+// FRAMES
+
+/// What reading a frame tells. Channel, tick, first, last and status are 0 where the type has none.
+#[derive(Clone, Copy, Debug, Default, PartialEq, Eq)]
+#[repr(C)]
+pub struct Frame {
+    pub msg_type: u64,
+    pub sending_time: u64,
+    pub seq: u64,
+    pub body_len: u64,
+    pub channel: u64,
+    /// ApplSeqNum of M201, ApplLastSeqNum of P001, ApplBegSeqNum of P002.
+    pub tick: u64,
+    /// A resend's first and last number, and its status.
+    pub first: u64,
+    pub last: u64,
+    pub status: u64,
+}
+
+impl Frame {
+    /// MsgType as the frame spells it.
+    pub fn type_name(&self) -> [u8; 4] {
+        (self.msg_type as u32).to_be_bytes()
+    }
+
+    /// The bytes of the whole frame.
+    pub fn frame_len(&self) -> usize {
+        self.body_len as usize + HEADER + CHECK_SUM
+    }
+}
+
+/// The bytes before a body and behind it.
+pub const HEADER: usize = 24;
+pub const CHECK_SUM: usize = 4;
+
+/// Reads the frame at a place. What stands behind it does not matter.
+pub fn read(bytes: &[u8], place: usize) -> Result<Frame, Refusal> {
+    let mut frame = Frame::default();
+    let answer = raw::read(bytes, place, &mut frame);
+    told(answer, frame)
+}
+
+/// Writes a frame at the front of `out`, and answers how many bytes. The bytes behind it stay.
+pub fn write(
+    msg_type: u32,
+    sending_time: u64,
+    seq: u64,
+    body: &[u8],
+    out: &mut [u8],
+) -> Result<usize, Refusal> {
+    let mut bytes = 0;
+    let answer = raw::write(msg_type, sending_time, seq, body, out, &mut bytes);
+    told(answer, bytes as usize)
+}
+
+/// Finds the lowest place from `from` on at which a frame reads.
+pub fn search(bytes: &[u8], from: usize) -> Result<Option<usize>, Refusal> {
+    let mut found = raw::Found::default();
+    let answer = raw::search(bytes, from, &mut found);
+    told(answer, found.place())
+}
+
+/// Scrubs the frame at the front of a buffer where it stands, and answers how many bytes it has. The bytes behind it stay.
+pub fn scrub(frame: &mut [u8]) -> Result<usize, Refusal> {
+    let mut bytes = 0;
+    let answer = raw::scrub(frame, &mut bytes);
+    told(answer, bytes as usize)
+}
+
+/// A private part of a body: where it starts, how many bytes it has, and the byte that replaces each.
+#[derive(Clone, Copy, Debug, Default, PartialEq, Eq)]
+#[repr(C)]
+pub struct Span {
+    pub place: u64,
+    pub len: u64,
+    pub fill: u64,
+}
+
+/// The private spans of a body of that type. They lie within each body whose length suits the type; the body's bytes are not judged.
+pub fn private_spans(msg_type: u32, body: &[u8]) -> Vec<Span> {
+    let mut spans = Vec::new();
+    loop {
+        let mut span = Span::default();
+        raw::private(msg_type, body, spans.len(), &mut span);
+        if span.len == 0 {
+            return spans;
+        }
+        spans.push(span);
+    }
+}
+
+/// An entry of an M102 body. `short` is 1 for one of MD001, which has neither size nor position; `behind` is the place behind it.
+#[derive(Clone, Copy, Debug, Default, PartialEq, Eq)]
+#[repr(C)]
+pub struct Entry {
+    pub short: u64,
+    pub kind: u64,
+    pub price: u64,
+    pub size: u64,
+    pub position: u64,
+    pub behind: u64,
+}
+
+/// The entries of an M102 body, one after the other; 3, 4 or 6 where it may not be walked.
+pub fn entries(body: &[u8]) -> Result<Entries<'_>, Refusal> {
+    let mut place = 0;
+    let answer = raw::entries(body, &mut place);
+    let place = place as usize;
+    told(answer, Entries { body, place })
+}
+
+/// The entry of a body at a place, or 20.
+pub fn entry(body: &[u8], place: usize) -> Result<Entry, Refusal> {
+    let mut entry = Entry::default();
+    let answer = raw::entry(body, place, &mut entry);
+    told(answer, entry)
+}
+
+/// The steps over an M102 body.
+#[derive(Clone, Debug)]
+pub struct Entries<'a> {
+    body: &'a [u8],
+    place: usize,
+}
+
+impl Iterator for Entries<'_> {
+    type Item = Entry;
+
+    /// The next entry. Of a body that may be walked, 20 is only said behind the last.
+    fn next(&mut self) -> Option<Entry> {
+        let step = entry(self.body, self.place).ok()?;
+        self.place = step.behind as usize;
+        Some(step)
+    }
+}
+
+// THE LEDGER
+
+/// The gap ledger of one tick channel. Its words are not to be interpreted: `told` says all there is to know.
+#[derive(Clone, Copy, Debug, PartialEq, Eq)]
+#[repr(C)]
+pub struct Ledger {
+    words: [u64; 9],
+}
+
+/// A run of numbers: the first, and how many; perhaps none.
+#[derive(Clone, Copy, Debug, Default, PartialEq, Eq)]
+#[repr(C)]
+pub struct Passed {
+    pub first: u64,
+    pub count: u64,
+}
+
+/// A resend request's first and last number.
+#[derive(Clone, Copy, Debug, Default, PartialEq, Eq)]
+#[repr(C)]
+pub struct Request {
+    pub first: u64,
+    pub last: u64,
+}
+
+/// What a ledger has to tell. `asked_first` and `asked_last` are the pending request's, 0 and 0 where nothing is pending.
+#[derive(Clone, Copy, Debug, Default, PartialEq, Eq)]
+#[repr(C)]
+pub struct Told {
+    pub channel: u64,
+    pub floor: u64,
+    pub top: u64,
+    pub missing: u64,
+    pub held: u64,
+    pub asked_first: u64,
+    pub asked_last: u64,
+}
+
+impl Ledger {
+    /// A fresh ledger for a channel, or 10.
+    pub fn open(channel: u16) -> Result<Ledger, Refusal> {
+        let mut ledger = Ledger { words: [0; 9] };
+        let answer = raw::ledger_open(channel, &mut ledger);
+        told(answer, ledger)
+    }
+
+    /// Offers a tick, and answers the numbers that the floor has newly passed. Of the refusals 12 alone changes the ledger: it raises the top.
+    pub fn tick(&mut self, channel: u16, number: u64) -> Result<Passed, Refusal> {
+        let mut passed = Passed::default();
+        let answer = raw::ledger_tick(self, channel, number, &mut passed);
+        told(answer, passed)
+    }
+
+    /// Announces the channel's last number.
+    pub fn announce(&mut self, channel: u16, last: u64) -> Result<(), Refusal> {
+        told(raw::ledger_announce(self, channel, last), ())
+    }
+
+    /// Asks for a resend request, which is pending from now on.
+    pub fn request(&mut self, channel: u16) -> Result<Request, Refusal> {
+        let mut request = Request::default();
+        let answer = raw::ledger_request(self, channel, &mut request);
+        told(answer, request)
+    }
+
+    /// The exchange's reply to the pending request, which is cleared.
+    pub fn reply(&mut self, channel: u16, first: u64, status: u8) -> Result<(), Refusal> {
+        told(raw::ledger_reply(self, channel, first, status), ())
+    }
+
+    /// What the ledger has to tell, or 13.
+    pub fn told(&self) -> Result<Told, Refusal> {
+        let mut row = Told::default();
+        let answer = raw::ledger_told(self, &mut row);
+        told(answer, row)
+    }
+
+    /// The words, for keeping the ledger in a file.
+    pub fn to_words(self) -> [u64; 9] {
+        self.words
+    }
+
+    /// The ledger of words that were kept. Each call answers 13 if they break the state rules.
+    pub fn of_words(words: [u64; 9]) -> Ledger {
+        Ledger { words }
+    }
+}
+
+// CAPTURES
+
+/// What a walk comes to, with the ledger of channel 100 behind it.
+#[derive(Clone, Copy, Debug, PartialEq, Eq)]
+pub struct Walked {
+    pub records: usize,
+    pub frames: u64,
+    pub refused: u64,
+    pub ledger: Ledger,
+}
+
+/// The bytes of a record.
+pub const RECORD: usize = 64;
+
+/// Bytes that hold the records of each capture of `len` bytes: at most two for every 29 bytes, and two more.
+pub fn records_room(len: usize) -> usize {
+    (2 * (len / 29) + 2) * RECORD
+}
+
+/// Bytes that hold the listing of so many records: at most 127 for each, and 138 for the last line.
+pub fn text_room(records: usize) -> usize {
+    records * 127 + 138
+}
+
+/// Walks a capture: a record of 64 bytes for each reading, at the front of `records`; 8 where they have no room.
+pub fn walk(capture: &[u8], records: &mut [u8]) -> Result<Walked, Refusal> {
+    let mut ledger = Ledger { words: [0; 9] };
+    let mut counts = raw::Counts::default();
+    let answer = raw::walk(capture, records, &mut ledger, &mut counts);
+    let walked = Walked {
+        records: counts.records as usize,
+        frames: counts.frames,
+        refused: counts.refused,
+        ledger,
+    };
+    told(answer, walked)
+}
+
+/// The listing of what a walk left: the line of each whole record of `records`, then the last line; answers how many bytes of `text`.
+pub fn listing(records: &[u8], walked: &Walked, text: &mut [u8]) -> Result<usize, Refusal> {
+    let mut bytes = 0;
+    let Walked {
+        frames,
+        refused,
+        ledger,
+        ..
+    } = walked;
+    let answer = raw::listing(records, *frames, *refused, ledger, text, &mut bytes);
+    told(answer, bytes as usize)
+}
+
+/// What cleaning a capture comes to. `after_damage` counts the frames that the search found behind damage: such a frame may lie inside
+/// private bytes of a damaged one.
+#[derive(Clone, Copy, Debug, Default, PartialEq, Eq)]
+#[repr(C)]
+pub struct Cleaned {
+    pub bytes: u64,
+    pub frames: u64,
+    pub after_damage: u64,
+}
+
+/// A capture, scrubbed: its accepted frames at the front of `out`, stray bytes left out; 8 where they have no room. As many bytes as the
+/// capture has are always enough.
+pub fn clean(capture: &[u8], out: &mut [u8]) -> Result<Cleaned, Refusal> {
+    let mut cleaned = Cleaned::default();
+    let answer = raw::clean(capture, out, &mut cleaned);
+    told(answer, cleaned)
+}
+
+/// None where a capture is what cleaning it gives, else the first place where the two differ.
+pub fn is_clean(capture: &[u8]) -> Option<usize> {
+    let mut changed = raw::Found::default();
+    raw::is_clean(capture, &mut changed);
+    changed.place()
+}

@@ -1,0 +1,521 @@
+//! The declarations: the header, the Rust wrapper and the archive say the same as the proved crate's source, and a C program that calls
+//! every function gets the wrapper's answers.
+
+mod made;
+
+use made::{about, Dice, Ticks, ALL};
+use rietknoest_host as host;
+use rietknoest_host::{Ledger, Refusal};
+use std::collections::{BTreeMap, BTreeSet};
+use std::fmt::Write as _;
+use std::fs;
+use std::io::Write as _;
+use std::path::{Path, PathBuf};
+use std::process::{Command, Stdio};
+
+fn root() -> &'static Path {
+    Path::new(concat!(env!("CARGO_MANIFEST_DIR"), "/.."))
+}
+
+fn text_of(path: &str) -> String {
+    fs::read_to_string(root().join(path)).expect(path)
+}
+
+/// Runs a command on an input and answers its output. It must succeed.
+fn run(command: &mut Command, input: &[u8]) -> Vec<u8> {
+    let mut child = command
+        .stdin(Stdio::piped())
+        .stdout(Stdio::piped())
+        .spawn()
+        .unwrap_or_else(|e| panic!("{command:?}: {e}"));
+    let mut stdin = child.stdin.take().expect("a pipe");
+    let input = input.to_vec();
+    let feeding = std::thread::spawn(move || stdin.write_all(&input));
+    let output = child.wait_with_output().expect("its output");
+    feeding.join().expect("fed").expect("it reads all");
+    assert!(output.status.success(), "{command:?}: {}", output.status);
+    output.stdout
+}
+
+/// Compiles a program against the header and the archive.
+fn compiled(compiler: &str, standard: &str, source: &str) -> PathBuf {
+    let name = Path::new(source).file_stem().expect("a name");
+    let program = Path::new(env!("CARGO_TARGET_TMPDIR")).join(name);
+    let mut command = Command::new(compiler);
+    command
+        .args([standard, "-Wall", "-Wextra", "-Werror", "-pedantic"])
+        .arg("-I")
+        .arg(root().join("host/include"))
+        .arg(root().join(source))
+        .arg(root().join("build/libhost.a"))
+        .arg("-o")
+        .arg(&program);
+    run(&mut command, b"");
+    program
+}
+
+// THE SAME FUNCTIONS WITH THE SAME PARAMETERS
+
+/// The text up to the bracket that closes.
+fn in_brackets(text: &str) -> &str {
+    &text[..text.find(')').expect("a closing bracket")]
+}
+
+/// The functions behind a mark, each with its parameters.
+fn functions<'a>(text: &'a str, mark: &str) -> Vec<(&'a str, Vec<&'a str>)> {
+    let found = text.split(mark).skip(1).filter(|t| t.starts_with("rk_"));
+    found
+        .map(|t| {
+            let (name, rest) = t.split_once('(').expect("parameters");
+            let parameters = in_brackets(rest).split(',').map(str::trim);
+            (name, parameters.filter(|p| !p.is_empty()).collect())
+        })
+        .collect()
+}
+
+type Functions = BTreeMap<String, Vec<String>>;
+
+/// A row by how many numbers it has.
+fn row(pointer: &str, numbers: usize) -> String {
+    format!("*{pointer} {numbers} u64")
+}
+
+/// What the proved crate exports, in its own words; a slice is a pointer and a length.
+fn of_crate() -> Functions {
+    let text = text_of("crates/host/src/lib.rt");
+    let mut all = Functions::new();
+    for (name, parameters) in functions(&text, "#[no_mangle]\npub extern \"C\" fn ") {
+        let mut kinds = Vec::new();
+        for p in parameters {
+            let kind = p.split_once(": ").expect("a type").1;
+            match kind {
+                "&[u8]" => kinds.extend(["*const u8".into(), "usize".into()]),
+                "&mut [u8]" => kinds.extend(["*mut u8".into(), "usize".into()]),
+                "&mut u64" => kinds.push(row("mut", 1)),
+                _ if kind.starts_with('&') => {
+                    let numbers = kind.split_once("[u64; ").expect("a row").1;
+                    let numbers = numbers.trim_end_matches(']').parse().expect("a number");
+                    let mutable = kind.starts_with("&mut");
+                    kinds.push(row(if mutable { "mut" } else { "const" }, numbers));
+                }
+                _ => kinds.push(kind.into()),
+            }
+        }
+        all.insert(name.into(), kinds);
+    }
+    all
+}
+
+fn of_header() -> Functions {
+    let text = text_of("host/include/rietknoest.h");
+    let mut rows = BTreeMap::from([("uint64_t", 1)]);
+    for part in text.split("\nRK_SIZE(").skip(1) {
+        let (name, numbers) = in_brackets(part).split_once(", ").expect("a row's size");
+        rows.insert(name, numbers.parse().expect("a number"));
+    }
+    let mut all = Functions::new();
+    for (name, parameters) in functions(&text, "\nuint32_t ") {
+        let kinds = parameters.iter().map(|p| {
+            let (kind, _) = p.rsplit_once([' ', '*']).expect("a type");
+            let pointer = if kind.starts_with("const") {
+                "const"
+            } else {
+                "mut"
+            };
+            let kind = kind.trim_start_matches("const ").trim();
+            match (p.contains('*'), kind) {
+                (true, "uint8_t") => format!("*{pointer} u8"),
+                (true, _) => row(pointer, rows[kind]),
+                (false, "size_t") => "usize".into(),
+                (false, _) => kind.replace("uint", "u").replace("_t", ""),
+            }
+        });
+        all.insert(name.into(), kinds.collect());
+    }
+    all
+}
+
+fn of_wrapper() -> Functions {
+    let text = text_of("host/src/raw.rs");
+    let numbers = |name: &str| match name {
+        "Frame" => size_of::<host::Frame>() / 8,
+        "Span" => size_of::<host::Span>() / 8,
+        "Entry" => size_of::<host::Entry>() / 8,
+        "Ledger" => size_of::<Ledger>() / 8,
+        "Passed" => size_of::<host::Passed>() / 8,
+        "Request" => size_of::<host::Request>() / 8,
+        "Told" => size_of::<host::Told>() / 8,
+        "Cleaned" => size_of::<host::Cleaned>() / 8,
+        "u64" => 1,
+        // the rows that the wrapper keeps to itself
+        _ => {
+            let (_, fields) = text
+                .split_once(&format!("struct {name} {{"))
+                .expect("a struct");
+            let fields = fields.split('}').next().expect("its end");
+            fields.matches(": u64,").count()
+        }
+    };
+    let mut all = Functions::new();
+    for (name, parameters) in functions(&text, "\n    fn ") {
+        let kinds = parameters.iter().map(|p| {
+            let kind = p.split_once(": ").expect("a type").1;
+            match kind.split_once(' ') {
+                Some((pointer, name)) if name != "u8" => row(&pointer[1..], numbers(name)),
+                _ => kind.into(),
+            }
+        });
+        all.insert(name.into(), kinds.collect());
+    }
+    all
+}
+
+#[test]
+fn everyone_declares_the_same_functions() {
+    let exported = of_crate();
+    assert_eq!(exported.len(), 17);
+    assert_eq!(of_header(), exported, "the header");
+    assert_eq!(of_wrapper(), exported, "the wrapper");
+    let mut nm = Command::new("nm");
+    nm.args(["--extern-only", "--defined-only", "--format=posix"])
+        .arg(root().join("build/libhost.a"));
+    let symbols = String::from_utf8(run(&mut nm, b"")).expect("text");
+    let symbols: BTreeSet<_> = symbols
+        .lines()
+        .filter_map(|line| line.split_once(" T "))
+        .map(|(name, _)| name)
+        .collect();
+    let names: BTreeSet<_> = exported.keys().map(String::as_str).collect();
+    assert_eq!(symbols, names, "the archive");
+}
+
+#[test]
+fn the_header_has_the_table_of_numbers() {
+    let text = text_of("host/include/rietknoest.h");
+    let (_, table) = text.split_once("enum rk_answer {").expect("the table");
+    let table = table.split("};").next().expect("its end");
+    let mut rows = vec!["RK_DONE = 0".to_string()];
+    for r in Refusal::ALL {
+        rows.push(format!("RK_{} = {}", r.name().to_uppercase(), r.number()));
+    }
+    let lines = table.lines().map(str::trim).filter(|l| !l.is_empty());
+    let said: Vec<_> = lines
+        .map(|l| l.split("/*").next().expect("a row"))
+        .map(|l| l.trim().trim_end_matches(',').to_string())
+        .collect();
+    assert_eq!(said, rows);
+}
+
+// THE SAME ANSWERS
+
+fn hex(bytes: &[u8]) -> String {
+    if bytes.is_empty() {
+        return "-".into();
+    }
+    bytes.iter().fold(String::new(), |mut s, b| {
+        write!(s, "{b:02x}").expect("memory");
+        s
+    })
+}
+
+/// The lines for the C program, and what it should print for each.
+#[derive(Default)]
+struct Script {
+    asked: String,
+    expected: Vec<String>,
+    given: BTreeSet<(&'static str, u32)>,
+}
+
+impl Script {
+    /// A call with its numbers, and its answer: the numbers and the bytes that are told, and the ledger behind a call that has one.
+    fn ask(
+        &mut self,
+        call: &'static str,
+        asked: &str,
+        answer: Result<(Vec<u64>, Option<&[u8]>), Refusal>,
+        ledger: Option<&Ledger>,
+    ) {
+        writeln!(self.asked, "{call} {asked}").expect("memory");
+        self.given
+            .insert((call, answer.as_ref().err().map_or(0, |r| r.number())));
+        let mut line = match answer {
+            Err(refusal) => refusal.number().to_string(),
+            Ok((numbers, bytes)) => {
+                let mut line = "0".to_string();
+                for n in numbers {
+                    write!(line, " {n}").expect("memory");
+                }
+                if let Some(bytes) = bytes {
+                    line += " ";
+                    if !bytes.is_empty() {
+                        line += &hex(bytes);
+                    }
+                }
+                line
+            }
+        };
+        if let Some(ledger) = ledger {
+            line += " :";
+            for word in ledger.to_words() {
+                write!(line, " {word}").expect("memory");
+            }
+        }
+        self.expected.push(line);
+    }
+
+    fn words(&mut self, ledger: &Ledger) {
+        let words = ledger.to_words().map(|w| w.to_string()).join(" ");
+        writeln!(self.asked, "words {words}").expect("memory");
+        self.expected.push(String::new());
+    }
+}
+
+fn frames(s: &mut Script, d: &mut Dice) {
+    let mut f = made::any_frame(d, &mut Ticks(0), 300);
+    if d.once_in(2) {
+        made::damage(d, &mut f);
+    }
+    f.extend(d.dull_bytes(3));
+    let place = if d.once_in(4) { d.len(f.len() + 3) } else { 0 };
+    let answer = host::read(&f, place).map(|r| {
+        let row = [
+            r.msg_type,
+            r.sending_time,
+            r.seq,
+            r.body_len,
+            r.channel,
+            r.tick,
+            r.first,
+            r.last,
+            r.status,
+        ];
+        (row.to_vec(), None)
+    });
+    s.ask("read", &format!("{place} {}", hex(&f)), answer, None);
+    let answer = host::search(&f, place).map(|found| (place_row(found), None));
+    s.ask("search", &format!("{place} {}", hex(&f)), answer, None);
+    let mut scrubbed = f.clone();
+    let answer = host::scrub(&mut scrubbed);
+    let answer = answer.map(|n| (vec![n as u64], Some(&scrubbed[..n])));
+    s.ask("scrub", &hex(&f), answer, None);
+
+    let (name, body) = made::any_body(d);
+    let name = u32::from_be_bytes(name);
+    let (time, seq) = (d.edge(), d.edge());
+    let mut out = vec![0; about(d, body.len() + 28)];
+    let asked = format!("{name} {time} {seq} {} {}", out.len(), hex(&body));
+    let answer = host::write(name, time, seq, &body, &mut out);
+    let answer = answer.map(|n| (vec![n as u64], Some(&out[..n])));
+    s.ask("write", &asked, answer, None);
+    spans(s, name, &body);
+}
+
+fn spans(s: &mut Script, name: u32, body: &[u8]) {
+    writeln!(s.asked, "private {name} {}", hex(body)).expect("memory");
+    let mut line = String::new();
+    for span in host::private_spans(name, body) {
+        write!(line, "0 {} {} {} ", span.place, span.len, span.fill).expect("memory");
+    }
+    s.expected.push(line + "0");
+}
+
+fn place_row(place: Option<usize>) -> Vec<u64> {
+    match place {
+        None => vec![0, 0],
+        Some(place) => vec![1, place as u64],
+    }
+}
+
+fn entries(s: &mut Script, d: &mut Dice) {
+    let mut b = made::body(d, b"M102", &mut Ticks(0), 200);
+    if d.once_in(2) {
+        made::spoil_body(d, b"M102", &mut b);
+    }
+    if d.once_in(20) {
+        b.resize(8_165, 0);
+    }
+    let answer = host::entries(&b).map(|_| (vec![73], None));
+    s.ask("entries", &hex(&b), answer, None);
+    let place = 73 + d.len(4) * d.of(&[10, 19]);
+    let answer = host::entry(&b, place).map(|e| {
+        let row = [e.short, e.kind, e.price, e.size, e.position, e.behind];
+        (row.to_vec(), None)
+    });
+    s.ask("entry", &format!("{place} {}", hex(&b)), answer, None);
+}
+
+fn ledgers(s: &mut Script, d: &mut Dice) {
+    let mut ledger = Ledger::of_words(made::any_words(d));
+    s.words(&ledger);
+    let channel = d.of(&[100, 0, 9_999, 10_000]);
+    let opened = Ledger::open(channel);
+    ledger = opened.unwrap_or(ledger);
+    let answer = opened.map(|_| (vec![], None));
+    s.ask("open", &channel.to_string(), answer, Some(&ledger));
+    if d.once_in(2) {
+        ledger = Ledger::of_words(made::any_words(d));
+        s.words(&ledger);
+    }
+    for _ in 0..12 {
+        let words = ledger.to_words();
+        let other = d.next() as u16;
+        let own = words[0] as u16;
+        let channel = d.of(&[own, own, own, own, other]);
+        let (near, edge) = (words[1].wrapping_add(d.below(262)), d.edge());
+        let n = d.of(&[near, near, near, edge]);
+        match d.below(6) {
+            0 => {
+                let answer = ledger.announce(channel, n).map(|()| (vec![], None));
+                s.ask("announce", &format!("{channel} {n}"), answer, Some(&ledger));
+            }
+            1 => {
+                let answer = ledger.request(channel);
+                let answer = answer.map(|r| (vec![r.first, r.last], None));
+                s.ask("request", &channel.to_string(), answer, Some(&ledger));
+            }
+            2 => {
+                let first = d.of(&[words[7], words[7], n]);
+                let status = d.of(&[1, 5, 99, 0]);
+                let answer = ledger.reply(channel, first, status);
+                let answer = answer.map(|()| (vec![], None));
+                let asked = format!("{channel} {first} {status}");
+                s.ask("reply", &asked, answer, Some(&ledger));
+            }
+            3 => {
+                let answer = ledger.told().map(|t| {
+                    let row = [
+                        t.channel,
+                        t.floor,
+                        t.top,
+                        t.missing,
+                        t.held,
+                        t.asked_first,
+                        t.asked_last,
+                    ];
+                    (row.to_vec(), None)
+                });
+                s.ask("told", "", answer, Some(&ledger));
+            }
+            _ => {
+                let answer = ledger.tick(channel, n);
+                let answer = answer.map(|p| (vec![p.first, p.count], None));
+                s.ask("tick", &format!("{channel} {n}"), answer, Some(&ledger));
+            }
+        }
+    }
+}
+
+fn captures(s: &mut Script, d: &mut Dice) {
+    let n = d.len(1_500);
+    let capture = made::capture(d, n, 40);
+    let mut ledger = Ledger::of_words(made::any_words(d));
+    s.words(&ledger);
+
+    let mut records = vec![0; host::records_room(capture.len())];
+    let whole = host::walk(&capture, &mut records).expect("room for all");
+    records.truncate(about(d, whole.records * host::RECORD));
+    let asked = format!("{} {}", records.len(), hex(&capture));
+    let walked = host::walk(&capture, &mut records);
+    ledger = walked.map_or(ledger, |w| w.ledger);
+    let answer = walked.map(|w| {
+        let row = vec![w.records as u64, w.frames, w.refused];
+        (row, Some(&records[..w.records * host::RECORD]))
+    });
+    s.ask("walk", &asked, answer, Some(&ledger));
+
+    let counts = host::Walked { ledger, ..whole };
+    let mut text = vec![0; host::text_room(records.len() / host::RECORD)];
+    let room = host::listing(&records, &counts, &mut text).unwrap_or(0);
+    text.truncate(about(d, room));
+    let asked = format!(
+        "{} {} {} {}",
+        counts.frames,
+        counts.refused,
+        text.len(),
+        hex(&records)
+    );
+    let answer = host::listing(&records, &counts, &mut text);
+    let answer = answer.map(|n| (vec![n as u64], Some(&text[..n])));
+    s.ask("listing", &asked, answer, Some(&ledger));
+
+    let mut out = vec![0; about(d, capture.len())];
+    let asked = format!("{} {}", out.len(), hex(&capture));
+    let cleaned = host::clean(&capture, &mut out);
+    let joined = &out[..cleaned.map_or(0, |c| c.bytes as usize)];
+    let answer = cleaned.map(|c| (vec![c.bytes, c.frames, c.after_damage], Some(joined)));
+    s.ask("clean", &asked, answer, None);
+    is_clean(s, joined);
+    is_clean(s, &capture);
+}
+
+fn is_clean(s: &mut Script, capture: &[u8]) {
+    let answer = Ok((place_row(host::is_clean(capture)), None));
+    s.ask("is_clean", &hex(capture), answer, None);
+}
+
+#[test]
+fn c_gets_the_answers_that_rust_gets() {
+    let mut s = Script::default();
+    for case in 0..400 {
+        let d = &mut Dice::new(7, case);
+        frames(&mut s, d);
+        entries(&mut s, d);
+        ledgers(&mut s, d);
+        captures(&mut s, d);
+    }
+    for (call, numbers) in ALL {
+        for n in numbers {
+            let given = s.given.contains(&(call, *n));
+            assert!(given || call.contains(' '), "{call} never gave {n}");
+        }
+    }
+    let program = compiled("cc", "-std=c11", "host/tests/calls.c");
+    let said = String::from_utf8(run(&mut Command::new(program), s.asked.as_bytes()));
+    let said = said.expect("text");
+    let mut lines = said.lines();
+    for (i, (expected, asked)) in s.expected.iter().zip(s.asked.lines()).enumerate() {
+        let call = asked.split(' ').next().expect("a name");
+        assert!(lines.next() == Some(expected), "line {i}, {call}, differs");
+    }
+    assert_eq!(lines.next(), None);
+}
+
+// THE EXAMPLES
+
+#[test]
+fn ten_lines_of_c_scrub_a_frame() {
+    let d = &mut Dice::new(3, 0);
+    let program = compiled("cc", "-std=c11", "host/examples/scrub.c");
+    for name in made::TYPES {
+        let body = made::body(d, name, &mut Ticks(0), 100);
+        let mut f = made::frame(d, name, &body);
+        let said = run(&mut Command::new(&program), &f);
+        host::scrub(&mut f).expect("a frame that reads");
+        assert!(said == f, "a scrubbed frame differs");
+    }
+}
+
+#[test]
+fn ten_lines_of_rust_drive_a_ledger() {
+    let mut cargo = Command::new(env!("CARGO"));
+    cargo
+        .args(["run", "--offline", "--quiet", "--example", "ledger"])
+        .args((!cfg!(debug_assertions)).then_some("--release"))
+        .current_dir(root().join("host"));
+    let said = String::from_utf8(run(&mut cargo, b"")).expect("text");
+    assert_eq!(said, "ask for 2 to 2\npassed 2 from 2 on\n");
+}
+
+/// A program in C++ takes the header too, where there is a compiler to say so.
+#[test]
+fn the_header_is_for_cpp_too() {
+    if Command::new("c++").arg("--version").output().is_err() {
+        println!("no c++ on this machine: not tried");
+        return;
+    }
+    let source = Path::new(env!("CARGO_TARGET_TMPDIR")).join("plus.cpp");
+    let text = "#include \"rietknoest.h\"\nint main() { rk_found f; unsigned char b = 0; return int(rk_search(&b, 1, 0, &f)); }\n";
+    fs::write(&source, text).expect("a writable folder");
+    let program = compiled("c++", "-std=c++11", source.to_str().expect("text"));
+    run(&mut Command::new(program), b"");
+}
