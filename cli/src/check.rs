@@ -1,0 +1,59 @@
+//! `check`: is this capture clean?
+
+use std::ffi::OsStr;
+
+use rietknoest_host::{is_clean, private_spans, read, Frame, HEADER};
+
+use crate::capture::Capture;
+use crate::{names, print, Status, Trouble};
+
+/// Amiss where cleaning the capture would change a byte of it. Told is the first place where it would, and what stands there.
+pub fn check(file: &OsStr) -> Result<Status, Trouble> {
+    let capture = Capture::read(file)?;
+    let Some(place) = is_clean(&capture.bytes) else {
+        print(format!("{}: clean\n", capture.name))?;
+        return Ok(Status::Well);
+    };
+    let what = standing_at(&capture, place)?;
+    print(format!(
+        "{}: not clean: place {place}: {what}\n",
+        capture.name
+    ))?;
+    Ok(Status::Amiss)
+}
+
+/// What stands at the first place that is not clean. Where a reading up to there was refused, the capture is out of step with its
+/// cleaned one from that reading on: its bytes are stray. Else the place lies in the last frame read.
+fn standing_at(capture: &Capture, place: usize) -> Result<String, Trouble> {
+    let walk = capture.walk()?;
+    let mut last = None;
+    for at in walk.places().take_while(|at| *at <= place) {
+        match read(&capture.bytes, at) {
+            Ok(frame) => last = Some((at, frame)),
+            Err(refusal) => {
+                return Ok(format!(
+                    "stray bytes from {at} on, where reading answers {refusal}"
+                ));
+            }
+        }
+    }
+    // the walk reads at 0, so there is one
+    Ok(last.map_or_else(String::new, |(at, frame)| {
+        let field = field_at(capture, at, &frame, place);
+        format!("{field} of the {} at {at}", names::letters(&frame))
+    }))
+}
+
+/// The name of the private field of a frame in which a place lies. Scrubbing changes these fields and the checksum, and no more.
+fn field_at(capture: &Capture, at: usize, frame: &Frame, place: usize) -> &'static str {
+    let body = &capture.bytes[at + HEADER..][..frame.body_len as usize];
+    let within = private_spans(frame.msg_type as u32, body)
+        .iter()
+        .position(|span| {
+            let from = at + HEADER + span.place as usize;
+            (from..from + span.len as usize).contains(&place)
+        });
+    within
+        .and_then(|i| names::private_fields(frame).get(i).copied())
+        .unwrap_or("CheckSum")
+}

@@ -1,0 +1,92 @@
+//! `explain`: what reading at a place answers, and why, in words.
+
+use std::ffi::OsStr;
+use std::fmt::Write;
+
+use rietknoest_host::{private_spans, read, Frame, HEADER};
+
+use crate::capture::{Capture, Walk};
+use crate::{count, names, print, Status, Trouble};
+
+/// Amiss where reading refuses. A frame's fields are told where the walk reads it, and nowhere else: a frame that reads inside another
+/// may lie in private bytes. Of a refused frame nothing is told but the answer's number, its name and its rule.
+pub fn explain(file: &OsStr, place: usize) -> Result<Status, Trouble> {
+    let capture = Capture::read(file)?;
+    let end = capture.bytes.len();
+    if place > end {
+        let what = format!("the place is beyond the end, {end}");
+        return Err(Trouble::File(capture.name, what));
+    }
+    let walk = capture.walk()?;
+    let seen = walk.places().take_while(|at| *at <= place).last();
+    let answer = read(&capture.bytes, place);
+    let why = match &answer {
+        Ok(_) => "a frame reads here, 0 (done): every check passes".to_string(),
+        Err(refusal) => format!("refused, {refusal}: {}", names::reason(*refusal)),
+    };
+    let more = match (&answer, seen) {
+        (Ok(frame), Some(at)) if at == place => fields(&capture, &walk, place, frame),
+        (Err(_), Some(at)) if at == place => onward(&walk, place),
+        (_, Some(at)) if place < end => passed_over(&capture, at),
+        _ => "this is the capture's end\n".to_string(),
+    };
+    print(format!("{}: place {place}: {why}\n{more}", capture.name))?;
+    Ok(Status::amiss(answer.is_err()))
+}
+
+/// The fields that may be told of a frame that the walk reads.
+fn fields(capture: &Capture, walk: &Walk, place: usize, frame: &Frame) -> String {
+    let mut text = format!(
+        "MsgType {}, {}\n",
+        names::letters(frame),
+        names::purpose(frame)
+    );
+    let header = [
+        ("SendingTime", frame.sending_time),
+        ("MsgSeqNum", frame.seq),
+        ("BodyLength", frame.body_len),
+    ];
+    for (name, value) in header.into_iter().chain(names::public_fields(frame)) {
+        let _ = writeln!(text, "{name} {value}");
+    }
+    let body = &capture.bytes[place + HEADER..][..frame.body_len as usize];
+    let spans = private_spans(frame.msg_type as u32, body);
+    for (name, span) in names::private_fields(frame).iter().zip(spans) {
+        let _ = writeln!(
+            text,
+            "{name} is private: {}, not shown",
+            count(span.len, "byte")
+        );
+    }
+    let len = frame.frame_len();
+    let _ = writeln!(
+        text,
+        "the frame has {} and ends before place {}",
+        count(len as u64, "byte"),
+        place + len
+    );
+    let before = walk.places().take_while(|at| *at < place).last();
+    if before.is_some_and(|at| read(&capture.bytes, at).is_err()) {
+        text.push_str(
+            "it stands after damage, and may lie inside private bytes of the damaged frame (docs/PRIVATE.md)\n",
+        );
+    }
+    text
+}
+
+/// Where the walk goes on behind a refused reading.
+fn onward(walk: &Walk, place: usize) -> String {
+    match walk.places().find(|at| *at > place) {
+        Some(next) => format!("the walk goes on at {next}, where the next frame reads\n"),
+        None => "no frame reads behind it: the walk stops\n".to_string(),
+    }
+}
+
+/// Where a place lies that the walk passes over, with its last reading at `at`.
+fn passed_over(capture: &Capture, at: usize) -> String {
+    let lies = match read(&capture.bytes, at) {
+        Ok(frame) => format!("inside the {} at {at}", names::letters(&frame)),
+        Err(_) => format!("among the stray bytes from {at} on"),
+    };
+    format!("the walk does not read here: the place lies {lies}, and no more is told of it\n")
+}

@@ -1,0 +1,184 @@
+//! No private byte of the sample appears in anything that the command writes.
+
+mod common;
+
+use std::collections::BTreeSet;
+use std::fs;
+
+use common::*;
+use rietknoest_host::{private_spans, read, search, Frame, CHECK_SUM, HEADER};
+
+/// Shorter rows of bytes stand anywhere by chance.
+const ROW: usize = 6;
+
+type Rows = BTreeSet<Vec<u8>>;
+
+/// What the sample's private bytes are, and what else may be written of it.
+#[derive(Default)]
+struct Told {
+    private: Rows,
+    public: Rows,
+}
+
+impl Told {
+    /// Every row of six bytes that are not fill.
+    fn hide(&mut self, bytes: &[u8], fill: u8) {
+        let rows = bytes.windows(ROW).filter(|row| !row.contains(&fill));
+        self.private.extend(rows.map(<[u8]>::to_vec));
+    }
+
+    fn show(&mut self, bytes: &[u8]) {
+        self.public.extend(bytes.windows(ROW).map(<[u8]>::to_vec));
+    }
+
+    /// A frame that reads: its public bytes, and its numbers as text, since two of them have the same day in them as a private
+    /// order number.
+    fn frame(&mut self, bytes: &[u8], frame: &Frame) {
+        let body = &bytes[HEADER..][..frame.body_len as usize];
+        let mut public_from = 0;
+        for span in private_spans(frame.msg_type as u32, body) {
+            let place = HEADER + span.place as usize;
+            let end = place + span.len as usize;
+            self.hide(&bytes[place..end], span.fill as u8);
+            self.show(&bytes[public_from..place]);
+            public_from = end;
+        }
+        self.show(&bytes[public_from..frame.frame_len() - CHECK_SUM]);
+        for number in [frame.sending_time, frame.seq, frame.tick] {
+            self.show(number.to_string().as_bytes());
+        }
+    }
+}
+
+/// The sample's frames, those that read and those that were damaged. Of a damaged one every byte is private: none is to be shown.
+fn told() -> Told {
+    let sample = sample();
+    let mut told = Told::default();
+    let mut at = 0;
+    while at < sample.len() {
+        match read(&sample, at) {
+            Ok(frame) => {
+                told.frame(&sample[at..], &frame);
+                at += frame.frame_len();
+            }
+            Err(_) => {
+                let next = search(&sample, at + 1).unwrap().unwrap_or(sample.len());
+                told.hide(&sample[at..next], b' ');
+                at = next;
+            }
+        }
+    }
+    told
+}
+
+/// What is searched for: private rows that no public part has too, nor the command's own words, as it says them of an empty capture.
+fn rows() -> Rows {
+    let mut told = told();
+    let folder = Folder::new();
+    told.show(&run(&folder, &["scrub", "-", "-o", "-"]).error);
+    told.private.difference(&told.public).cloned().collect()
+}
+
+/// How many of the rows stand in the bytes, as they are or spelt in hex. The bytes themselves are not printed.
+fn found(rows: &Rows, bytes: &[u8]) -> usize {
+    let plain = bytes.windows(ROW).filter(|row| rows.contains(*row));
+    let spelt = bytes.windows(2 * ROW).filter_map(of_hex);
+    plain.count() + spelt.filter(|row| rows.contains(row)).count()
+}
+
+fn of_hex(digits: &[u8]) -> Option<Vec<u8>> {
+    let digit = |b: u8| char::from(b).to_digit(16);
+    let pairs = digits.chunks(2);
+    pairs
+        .map(|pair| Some((digit(pair[0])? * 16 + digit(pair[1])?) as u8))
+        .collect()
+}
+
+/// The search finds what it should: the texts that tools/sample puts into private fields and damaged frames, in the sample itself.
+#[test]
+fn the_rows_are_those_of_the_sample() {
+    let rows = rows();
+    let texts = [
+        "MADE-UP BROKER",
+        "GATEWAY-1",
+        "MEMBER-A",
+        "TRADER-07",
+        "MADE-UP INVESTOR",
+        "MADE-UP NOTE",
+        "MADE-UP REASON: LINE TEST IS OVER",
+        "Q20260121000000005",
+        "1100100000000000",
+    ];
+    for text in texts {
+        assert!(found(&rows, text.as_bytes()) > 0, "{text}");
+    }
+    assert!(found(&rows, b"4d414445") == 0 && found(&rows, b" 4D4144452D5550 ") > 0);
+    assert!(found(&rows, &sample()) > 500);
+    assert!(rows.len() > 100);
+}
+
+#[test]
+fn no_private_byte_is_written() {
+    let rows = rows();
+    let folder = Folder::new().with("sample", &sample());
+    let mut words: Vec<Vec<String>> = [
+        "--help",
+        "list sample",
+        "check sample",
+        "scrub sample -o out",
+        "scrub sample -o -",
+        "scrub sample --whole -o whole",
+        "scrub out -o again --whole",
+        "scrub sample -o sample",
+        "scrub sample -o no/out",
+        "list out",
+        "check out",
+        "explain sample 9999",
+        "explain sample x",
+    ]
+    .iter()
+    .map(|line| line.split(' ').map(String::from).collect())
+    .collect();
+    for place in 0..=sample().len() {
+        words.push(vec!["explain".into(), "sample".into(), place.to_string()]);
+    }
+    for words in words {
+        let ran = run(&folder, &words);
+        assert_ne!(ran.status, None, "{words:?}");
+        assert_eq!(found(&rows, &ran.out), 0, "{words:?}");
+        assert_eq!(found(&rows, &ran.error), 0, "{words:?}");
+    }
+    assert_eq!(folder.names(), ["again", "out", "sample"]);
+    for name in ["again", "out"] {
+        assert_eq!(found(&rows, &fs::read(folder.path(name)).unwrap()), 0);
+    }
+}
+
+/// A tick whose extension holds the bytes of a frame. Reading at that place answers 0, and nothing of the frame is told; the frame stands
+/// for itself only where the one around it is damaged.
+#[test]
+fn a_frame_inside_private_bytes_is_not_told() {
+    let inner = frame(b"S003", 7_777_777, b"");
+    let outer = tick(1, &inner);
+    let damaged = [b"N", &outer[1..]].concat();
+    let folder = Folder::new()
+        .with("outer", &outer)
+        .with("damaged", &damaged);
+    run(&folder, &["explain", "outer", "69"]).quiet(
+        0,
+        "outer: place 69: a frame reads here, 0 (done): every check passes
+the walk does not read here: the place lies inside the M201 at 0, and no more is told of it
+",
+    );
+    let ran = run(&folder, &["scrub", "outer", "-o", "-", "--whole"]);
+    assert_eq!((ran.status, &ran.out), (Some(0), &tick(1, &[b' '; 28])));
+
+    let ran = run(&folder, &["explain", "damaged", "69"]);
+    assert!(ran.out().contains("\nMsgSeqNum 7777777\n"));
+    assert!(ran.out().contains("\nit stands after damage, "));
+    let ran = run(&folder, &["scrub", "damaged", "-o", "-"]);
+    assert_eq!((ran.status, &ran.out), (Some(1), &inner));
+    let counts = "rietknoest: damaged: kept 1 frame, left out 73 bytes, 1 frame after damage\n";
+    assert!(ran.error().starts_with(counts));
+    assert!(ran.error().contains("may lie inside private bytes"));
+}
