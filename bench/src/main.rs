@@ -191,15 +191,16 @@ fn places(capture: &[u8]) -> Vec<usize> {
 // THE LEDGER
 
 fn ledger(input: &str, ticks: &[u64]) {
+    let channel = host::ChannelNumber::new(100);
     let fresh = (
-        host::Ledger::open(100).expect("a channel"),
+        host::Ledger::open(channel).expect("a channel"),
         plain::Ledger::open(100),
     );
     let (mut a, mut b) = fresh;
     for n in ticks {
         let (next, answer) = b.tick(100, *n);
         b = next;
-        assert_eq!(number(a.tick(100, *n)), answer);
+        assert_eq!(number(a.tick(channel, host::TickNumber::new(*n))), answer);
         assert_eq!(a.to_words(), b.words());
     }
     // as if a tick had 50 bytes, for the turns
@@ -215,7 +216,7 @@ fn ledger(input: &str, ticks: &[u64]) {
         || {
             let mut ledger = fresh.0;
             for n in black_box(ticks) {
-                done(ledger.tick(100, *n));
+                done(ledger.tick(channel, host::TickNumber::new(*n)));
             }
             done(ledger);
         },

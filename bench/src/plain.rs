@@ -1,6 +1,6 @@
 //! The same jobs in plain Rust, as one would write them by hand for speed: the same checks in the same order, the same answers.
 
-use rietknoest_host::{Cleaned, Frame, Passed};
+use rietknoest_host::{ChannelNumber, Cleaned, Frame, Passed, SessionNumber, TickNumber};
 
 const fn name(bytes: &[u8; 4]) -> u32 {
     u32::from_be_bytes(*bytes)
@@ -145,20 +145,20 @@ pub fn read(bytes: &[u8], place: usize) -> Result<Frame, u32> {
     let mut frame = Frame {
         msg_type: msg_type.into(),
         sending_time: u64_at(bytes, 4),
-        seq: u64_at(bytes, 12),
+        seq: SessionNumber::new(u64_at(bytes, 12)),
         body_len: b.len() as u64,
         ..Frame::default()
     };
     match msg_type {
         P001 | M201 => {
-            frame.channel = u16_at(b, 1).into();
-            frame.tick = u64_at(b, 3);
+            frame.channel = ChannelNumber::new(u16_at(b, 1));
+            frame.tick = TickNumber::new(u64_at(b, 3));
         }
         P002 => {
-            frame.channel = u16_at(b, 0).into();
-            frame.tick = u64_at(b, 3);
+            frame.channel = ChannelNumber::new(u16_at(b, 0));
+            frame.tick = TickNumber::new(u64_at(b, 3));
             frame.first = frame.tick;
-            frame.last = u64_at(b, 11);
+            frame.last = TickNumber::new(u64_at(b, 11));
             frame.status = b[19].into();
         }
         _ => {}
@@ -301,7 +301,7 @@ impl Ledger {
         }
         self.map[word] |= bit;
         self.top = self.top.max(n);
-        let first = self.floor + 1;
+        let first = TickNumber::new(self.floor + 1);
         let count = self.run();
         if count > 0 {
             self.pass(count);
@@ -350,14 +350,15 @@ fn pass(capture: &[u8], records: &mut [u8]) -> Walked {
         let seen = read(capture, place);
         let (frame, answer, next) = match seen {
             Ok(f) => {
+                let (channel, tick) = (f.channel.value(), f.tick.value());
                 let answer = match f.msg_type as u32 {
                     M201 => {
-                        let (next, answer) = w.ledger.tick(f.channel as u16, f.tick);
+                        let (next, answer) = w.ledger.tick(channel, tick);
                         w.ledger = next;
                         answer.err().unwrap_or(0)
                     }
                     P001 => {
-                        let (next, answer) = w.ledger.announce(f.channel as u16, f.tick);
+                        let (next, answer) = w.ledger.announce(channel, tick);
                         w.ledger = next;
                         answer
                     }
@@ -379,9 +380,9 @@ fn pass(capture: &[u8], records: &mut [u8]) -> Walked {
             row[..8].copy_from_slice(&(place as u64).to_be_bytes());
             row[8..12].copy_from_slice(&(frame.msg_type as u32).to_be_bytes());
             row[12..16].copy_from_slice(&answer.to_be_bytes());
-            row[16..24].copy_from_slice(&frame.seq.to_be_bytes());
-            row[24..32].copy_from_slice(&frame.tick.to_be_bytes());
-            row[32..34].copy_from_slice(&(frame.channel as u16).to_be_bytes());
+            row[16..24].copy_from_slice(&frame.seq.value().to_be_bytes());
+            row[24..32].copy_from_slice(&frame.tick.value().to_be_bytes());
+            row[32..34].copy_from_slice(&frame.channel.value().to_be_bytes());
             row[34..36].fill(0);
             row[36..40].copy_from_slice(&(frame.body_len as u32).to_be_bytes());
             row[40..48].copy_from_slice(&w.ledger.floor.to_be_bytes());

@@ -18,8 +18,9 @@ list     prints a line for each reading of a capture: place, type (---- where
 scrub    writes the capture's good frames to OUT, each with its private fields
          painted over. Bytes that are no frame are left out; it says how many
          on standard error. With --whole it writes nothing where there is one.
-check    says whether a capture is clean: nothing private, no stray byte. If
-         not, at which place, and in which field.
+check    says whether a capture is clean: whether scrubbing it would change no
+         byte. If not, at which place, and in which field. It can't tell a
+         frame that came out of private bytes (docs/PRIVATE.md).
 explain  says in words what reading at a place of a capture answers, and why.
          It shows no private field.
 

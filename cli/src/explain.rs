@@ -43,7 +43,7 @@ fn fields(capture: &Capture, walk: &Walk, place: usize, frame: &Frame) -> String
     );
     let header = [
         ("SendingTime", frame.sending_time),
-        ("MsgSeqNum", frame.seq),
+        ("MsgSeqNum", frame.seq.value()),
         ("BodyLength", frame.body_len),
     ];
     for (name, value) in header.into_iter().chain(names::public_fields(frame)) {
@@ -65,10 +65,11 @@ fn fields(capture: &Capture, walk: &Walk, place: usize, frame: &Frame) -> String
         count(len as u64, "byte"),
         place + len
     );
-    let before = walk.places().take_while(|at| *at < place).last();
-    if before.is_some_and(|at| read(&capture.bytes, at).is_err()) {
+    // behind damage a frame was found by the search, or follows without a gap one that was
+    let mut before = walk.places().take_while(|at| *at < place);
+    if before.any(|at| read(&capture.bytes, at).is_err()) {
         text.push_str(
-            "it stands after damage, and may lie inside private bytes of the damaged frame (docs/PRIVATE.md)\n",
+            "it stands after damage, and may lie inside private bytes of a damaged frame (docs/PRIVATE.md)\n",
         );
     }
     text

@@ -36,15 +36,16 @@ pub fn private_fields(frame: &Frame) -> &'static [&'static str] {
 
 /// What the library tells of a body, by name; what the type does not have is left out.
 pub fn public_fields(frame: &Frame) -> Vec<(&'static str, u64)> {
+    let channel = ("ChannelNO", frame.channel.value().into());
     match &frame.type_name() {
-        b"P001" => vec![("ChannelNO", frame.channel), ("ApplLastSeqNum", frame.tick)],
+        b"P001" => vec![channel, ("ApplLastSeqNum", frame.tick.value())],
         b"P002" => vec![
-            ("ChannelNO", frame.channel),
-            ("ApplBegSeqNum", frame.first),
-            ("ApplEndSeqNum", frame.last),
+            channel,
+            ("ApplBegSeqNum", frame.first.value()),
+            ("ApplEndSeqNum", frame.last.value()),
             ("ResendStatus", frame.status),
         ],
-        b"M201" => vec![("ChannelNO", frame.channel), ("ApplSeqNum", frame.tick)],
+        b"M201" => vec![channel, ("ApplSeqNum", frame.tick.value())],
         _ => vec![],
     }
 }

@@ -12,6 +12,7 @@ use crate::{count, say, Status, Trouble};
 pub fn scrub(from: &OsStr, to: &OsStr, whole: bool) -> Result<Status, Trouble> {
     let capture = Capture::read(from)?;
     let target = Target::of(to, &capture.identity)?;
+    // memory of our own: each frame stands in it for a moment as it was, before it is painted
     let mut cleaned = capture.room(capture.bytes.len())?;
     let done = clean(&capture.bytes, &mut cleaned)
         .map_err(|refusal| Trouble::refused(&capture.name, refusal))?;

@@ -2,37 +2,37 @@
 //! scrubbed bytes are ever written.
 
 use std::ffi::OsStr;
-use std::fs::{self, File, OpenOptions};
+use std::fs::{self, File, Metadata, OpenOptions};
 use std::io::{self, ErrorKind, Write};
-use std::os::unix::fs::{OpenOptionsExt, PermissionsExt};
+use std::os::unix::fs::{MetadataExt, OpenOptionsExt, PermissionsExt};
 use std::path::{Path, PathBuf};
 use std::process;
 
 use crate::capture::{is_standard, metadata_of, shown, Identity};
 use crate::{put, Trouble};
 
-pub enum Target {
+const IS_INPUT: &str = "it is the input, which is never overwritten";
+
+pub enum Target<'a> {
     Standard,
     File {
         name: String,
         path: PathBuf,
-        /// The mode that a new file is made with, before the umask.
-        mode: u32,
+        access: Access,
+        input: &'a Identity,
     },
 }
 
-impl Target {
+impl<'a> Target<'a> {
     /// The file of that name, which need not be there; refused where it is the input, whatever it is called, or is no plain file. A file
-    /// that is replaced was perhaps open to fewer people than a new one would be: the new one is open to no more than both allow.
-    pub fn of(name: &OsStr, input: &Identity) -> Result<Target, Trouble> {
+    /// that is replaced was perhaps open to fewer people than a new one would be: the new one's mode has no bit that the
+    /// old one's lacks.
+    pub fn of(name: &OsStr, input: &'a Identity) -> Result<Target<'a>, Trouble> {
         if is_standard(name) {
             let same = metadata_of(io::stdout())
                 .is_ok_and(|data| data.is_file() && Identity::of(&data) == *input);
             return if same {
-                refused(
-                    "standard output",
-                    "it is the input, which is never overwritten",
-                )
+                Err(refused("standard output", IS_INPUT))
             } else {
                 Ok(Target::Standard)
             };
@@ -42,23 +42,25 @@ impl Target {
             return Ok(Target::File {
                 name: shown,
                 path: PathBuf::from(name),
-                mode: 0o666,
+                access: Access::default(),
+                input,
             });
         }
         // what is there is replaced where it stands, also behind a link
         let found = fs::canonicalize(name).and_then(|path| Ok((fs::metadata(&path)?, path)));
         let (data, path) = found.map_err(|error| Trouble::of(&shown, &error))?;
         if Identity::of(&data) == *input {
-            refused(&shown, "it is the input, which is never overwritten")
+            Err(refused(&shown, IS_INPUT))
         } else if data.is_dir() {
-            refused(&shown, "it is a folder")
+            Err(refused(&shown, "it is a folder"))
         } else if !data.is_file() {
-            refused(&shown, "it is no plain file; - is standard output")
+            Err(refused(&shown, "it is no plain file; - is standard output"))
         } else {
             Ok(Target::File {
                 name: shown,
                 path,
-                mode: 0o666 & data.permissions().mode(),
+                access: Access::of(&data),
+                input,
             })
         }
     }
@@ -66,17 +68,60 @@ impl Target {
     pub fn put(&self, bytes: &[u8]) -> Result<(), Trouble> {
         match self {
             Target::Standard => put(bytes),
-            Target::File { name, path, mode } => {
-                let written =
-                    Beside::made(path, *mode).and_then(|beside| beside.become_file(path, bytes));
-                written.map_err(|error| Trouble::of(name, &error))
+            Target::File {
+                name,
+                path,
+                access,
+                input,
+            } => {
+                let trouble = |error: io::Error| Trouble::of(name, &error);
+                let mut beside = Beside::for_access(path, access).map_err(trouble)?;
+                beside.write(bytes).map_err(trouble)?;
+                // tested before, and as late as can be: somebody may have put the input there meanwhile
+                if fs::metadata(path).is_ok_and(|data| Identity::of(&data) == **input) {
+                    return Err(refused(name, IS_INPUT));
+                }
+                beside.become_file(path).map_err(trouble)
             }
         }
     }
 }
 
-fn refused(name: &str, what: &str) -> Result<Target, Trouble> {
-    Err(Trouble::File(name.to_string(), what.to_string()))
+fn refused(name: &str, what: &str) -> Trouble {
+    Trouble::File(name.to_string(), what.to_string())
+}
+
+/// To whom a new file is open.
+pub struct Access {
+    /// The mode that it is made with, before the umask.
+    mode: u32,
+    /// The group of the file that it replaces.
+    group: Option<u32>,
+}
+
+impl Default for Access {
+    fn default() -> Access {
+        Access {
+            mode: 0o666,
+            group: None,
+        }
+    }
+}
+
+impl Access {
+    /// As a file has it that is to be replaced.
+    fn of(data: &Metadata) -> Access {
+        Access {
+            mode: 0o666 & data.permissions().mode(),
+            group: Some(data.gid()),
+        }
+    }
+
+    /// The mode for a file of another group: that group has nothing, and the old one, whose members are others now, no more than it had.
+    fn mode_for_another_group(&self) -> u32 {
+        let (group, others) = (self.mode >> 3, self.mode);
+        self.mode & 0o600 | (group & others & 0o006)
+    }
 }
 
 /// A new file beside another. It is removed when this value goes, unless it has become the other.
@@ -87,7 +132,19 @@ struct Beside {
 }
 
 impl Beside {
-    /// A file that was not there before, in the folder of the path.
+    /// A file in the folder of the path. Of which group a file is shows when it is made. Where it is another than that of the file to be
+    /// replaced, this one, still empty, is removed, and one with fewer bits made: who has opened the first reads nothing.
+    fn for_access(path: &Path, access: &Access) -> io::Result<Beside> {
+        let beside = Beside::made(path, access.mode)?;
+        let group = beside.file.metadata()?.gid();
+        if access.group.is_some_and(|old| old != group) {
+            drop(beside);
+            return Beside::made(path, access.mode_for_another_group());
+        }
+        Ok(beside)
+    }
+
+    /// A file that was not there before.
     fn made(path: &Path, mode: u32) -> io::Result<Beside> {
         let mut tries = 0;
         loop {
@@ -111,10 +168,13 @@ impl Beside {
         }
     }
 
-    /// Writes the bytes and takes the place of the path, whatever stood there.
-    fn become_file(mut self, path: &Path, bytes: &[u8]) -> io::Result<()> {
+    fn write(&mut self, bytes: &[u8]) -> io::Result<()> {
         self.file.write_all(bytes)?;
-        self.file.sync_all()?;
+        self.file.sync_all()
+    }
+
+    /// Takes the place of the path, whatever stood there.
+    fn become_file(mut self, path: &Path) -> io::Result<()> {
         fs::rename(&self.path, path)?;
         self.done = true;
         Ok(())
@@ -125,6 +185,52 @@ impl Drop for Beside {
     fn drop(&mut self) {
         if !self.done {
             let _ = fs::remove_file(&self.path);
+        }
+    }
+}
+
+#[cfg(test)]
+mod tests {
+    use super::*;
+
+    /// Between the first test and the writing the input is moved to where the result should go: it stays.
+    #[test]
+    fn the_input_that_comes_to_stand_there_stays() {
+        let folder = std::env::temp_dir().join(format!("rietknoest-target-{}", process::id()));
+        fs::create_dir(&folder).unwrap();
+        let (from, to) = (folder.join("in"), folder.join("out"));
+        for old in [None, Some(b"old")] {
+            fs::write(&from, b"input").unwrap();
+            if let Some(old) = old {
+                fs::write(&to, old).unwrap();
+            }
+            let identity = Identity::of(&fs::metadata(&from).unwrap());
+            let target = Target::of(to.as_os_str(), &identity).ok().unwrap();
+            fs::rename(&from, &to).unwrap();
+            let put = target.put(b"scrubbed");
+            assert!(matches!(put, Err(Trouble::File(_, what)) if what == IS_INPUT));
+            assert_eq!(fs::read(&to).unwrap(), b"input");
+            assert_eq!(fs::read_dir(&folder).unwrap().count(), 1);
+            fs::remove_file(&to).unwrap();
+        }
+        fs::remove_dir(&folder).unwrap();
+    }
+
+    #[test]
+    fn the_mode_for_another_group() {
+        let modes = [
+            (0o666, 0o606),
+            (0o664, 0o604),
+            (0o644, 0o604),
+            (0o640, 0o600),
+            (0o604, 0o600),
+            (0o646, 0o604),
+            (0o600, 0o600),
+        ];
+        for (mode, expected) in modes {
+            let group = Some(0);
+            let made = Access { mode, group }.mode_for_another_group();
+            assert_eq!(made, expected, "{mode:o}");
         }
     }
 }

@@ -5,7 +5,7 @@ mod common;
 use std::ffi::{OsStr, OsString};
 use std::fs::{self, File, OpenOptions};
 use std::os::unix::ffi::OsStrExt;
-use std::os::unix::fs::{symlink, MetadataExt, PermissionsExt};
+use std::os::unix::fs::{chown, symlink, MetadataExt, PermissionsExt};
 use std::process::{Command, Stdio};
 
 use common::*;
@@ -209,6 +209,31 @@ fn a_new_file_is_no_more_open_than_it_may_be() {
     let ran = run_behind(&folder, "umask 022", &["scrub", "in", "-o", "old"]);
     assert_eq!((ran.status, mode(&folder, "old")), (Some(0), 0o600));
     assert_eq!(fs::read(folder.path("old")).unwrap(), heartbeats(1));
+    // one of the group that a new file has keeps its group's bits
+    set_mode(&folder, "old", 0o640);
+    let ran = run_behind(&folder, "umask 022", &["scrub", "in", "-o", "old"]);
+    assert_eq!((ran.status, mode(&folder, "old")), (Some(0), 0o640));
+}
+
+/// Who may open the file that is replaced is told by its group. A new file of another group is open neither to that one nor, as to others,
+/// to the old one where it was not.
+#[test]
+fn a_new_file_of_another_group() {
+    let folder = Folder::new().with("in", &heartbeats(1));
+    for (old, expected) in [(0o664, 0o604), (0o640, 0o600), (0o604, 0o600)] {
+        fs::write(folder.path("old"), b"").unwrap();
+        let group = fs::metadata(folder.path("old")).unwrap().gid();
+        if chown(folder.path("old"), None, Some(group + 1)).is_err() {
+            println!("only root may give a file to another group: not tried");
+            return;
+        }
+        set_mode(&folder, "old", old);
+        let ran = run_behind(&folder, "umask 022", &["scrub", "in", "-o", "old"]);
+        assert_eq!((ran.status, mode(&folder, "old")), (Some(0), expected));
+        let data = fs::metadata(folder.path("old")).unwrap();
+        assert_eq!(data.gid(), group);
+        assert_eq!(folder.names(), ["in", "old"]);
+    }
 }
 
 /// A file may have 4,096 or 8,192 bytes here, by the shell's unit: writing fails half way.

@@ -18,13 +18,25 @@ type Rows = BTreeSet<Vec<u8>>;
 struct Told {
     private: Rows,
     public: Rows,
+    /// Private numbers as text.
+    numbers: BTreeSet<String>,
 }
 
 impl Told {
-    /// Every row of six bytes that are not fill.
+    /// Every row of six bytes that are not fill, and every number of six digits or more that four or eight bytes spell: fields of fewer
+    /// bytes have fewer digits.
     fn hide(&mut self, bytes: &[u8], fill: u8) {
         let rows = bytes.windows(ROW).filter(|row| !row.contains(&fill));
         self.private.extend(rows.map(<[u8]>::to_vec));
+        for width in [4, 8] {
+            for field in bytes.windows(width) {
+                let number = field.iter().fold(0, |n, b| n << 8 | u64::from(*b));
+                let digits = number.to_string();
+                if digits.len() >= ROW {
+                    self.numbers.insert(digits);
+                }
+            }
+        }
     }
 
     fn show(&mut self, bytes: &[u8]) {
@@ -44,7 +56,7 @@ impl Told {
             public_from = end;
         }
         self.show(&bytes[public_from..frame.frame_len() - CHECK_SUM]);
-        for number in [frame.sending_time, frame.seq, frame.tick] {
+        for number in [frame.sending_time, frame.seq.value(), frame.tick.value()] {
             self.show(number.to_string().as_bytes());
         }
     }
@@ -71,19 +83,36 @@ fn told() -> Told {
     told
 }
 
-/// What is searched for: private rows that no public part has too, nor the command's own words, as it says them of an empty capture.
-fn rows() -> Rows {
-    let mut told = told();
-    let folder = Folder::new();
-    told.show(&run(&folder, &["scrub", "-", "-o", "-"]).error);
-    told.private.difference(&told.public).cloned().collect()
+/// What is searched for.
+struct Sought {
+    /// Private rows that no public part has too, nor the command's own words, as it says them of an empty capture.
+    rows: Rows,
+    /// Private numbers as text. No public one is the same.
+    numbers: BTreeSet<String>,
 }
 
-/// How many of the rows stand in the bytes, as they are or spelt in hex. The bytes themselves are not printed.
-fn found(rows: &Rows, bytes: &[u8]) -> usize {
-    let plain = bytes.windows(ROW).filter(|row| rows.contains(*row));
-    let spelt = bytes.windows(2 * ROW).filter_map(of_hex);
-    plain.count() + spelt.filter(|row| rows.contains(row)).count()
+impl Sought {
+    fn of_sample() -> Sought {
+        let mut told = told();
+        let folder = Folder::new();
+        told.show(&run(&folder, &["scrub", "-", "-o", "-"]).error);
+        Sought {
+            rows: told.private.difference(&told.public).cloned().collect(),
+            numbers: told.numbers,
+        }
+    }
+
+    /// How many of the rows stand in the bytes, as they are or spelt in hex, and how many of the numbers, each a whole run of digits. The
+    /// bytes themselves are not printed.
+    fn found(&self, bytes: &[u8]) -> usize {
+        let plain = bytes.windows(ROW).filter(|row| self.rows.contains(*row));
+        let spelt = bytes.windows(2 * ROW).filter_map(of_hex);
+        let digits = bytes.split(|b| !b.is_ascii_digit());
+        let numbers = digits.map(|run| String::from_utf8_lossy(run));
+        plain.count()
+            + spelt.filter(|row| self.rows.contains(row)).count()
+            + numbers.filter(|run| self.numbers.contains(&**run)).count()
+    }
 }
 
 fn of_hex(digits: &[u8]) -> Option<Vec<u8>> {
@@ -94,10 +123,10 @@ fn of_hex(digits: &[u8]) -> Option<Vec<u8>> {
         .collect()
 }
 
-/// The search finds what it should: the texts that tools/sample puts into private fields and damaged frames, in the sample itself.
+/// The search finds what it should: the texts and numbers that tools/sample puts into private fields and damaged frames, in the sample itself.
 #[test]
 fn the_rows_are_those_of_the_sample() {
-    let rows = rows();
+    let sought = Sought::of_sample();
     let texts = [
         "MADE-UP BROKER",
         "GATEWAY-1",
@@ -108,18 +137,22 @@ fn the_rows_are_those_of_the_sample() {
         "MADE-UP REASON: LINE TEST IS OVER",
         "Q20260121000000005",
         "1100100000000000",
+        "an amount 200630000, and",
+        "a date 20260121",
     ];
     for text in texts {
-        assert!(found(&rows, text.as_bytes()) > 0, "{text}");
+        assert!(sought.found(text.as_bytes()) > 0, "{text}");
     }
-    assert!(found(&rows, b"4d414445") == 0 && found(&rows, b" 4D4144452D5550 ") > 0);
-    assert!(found(&rows, &sample()) > 500);
-    assert!(rows.len() > 100);
+    assert_eq!(sought.found(b"4d414445"), 0);
+    assert!(sought.found(b" 4D4144452D5550 ") > 0);
+    assert_eq!(sought.found(b"SendingTime 20260121093000010"), 0);
+    assert!(sought.found(&sample()) > 500);
+    assert!(sought.rows.len() > 100);
 }
 
 #[test]
 fn no_private_byte_is_written() {
-    let rows = rows();
+    let sought = Sought::of_sample();
     let folder = Folder::new().with("sample", &sample());
     let mut words: Vec<Vec<String>> = [
         "--help",
@@ -145,12 +178,12 @@ fn no_private_byte_is_written() {
     for words in words {
         let ran = run(&folder, &words);
         assert_ne!(ran.status, None, "{words:?}");
-        assert_eq!(found(&rows, &ran.out), 0, "{words:?}");
-        assert_eq!(found(&rows, &ran.error), 0, "{words:?}");
+        assert_eq!(sought.found(&ran.out), 0, "{words:?}");
+        assert_eq!(sought.found(&ran.error), 0, "{words:?}");
     }
     assert_eq!(folder.names(), ["again", "out", "sample"]);
     for name in ["again", "out"] {
-        assert_eq!(found(&rows, &fs::read(folder.path(name)).unwrap()), 0);
+        assert_eq!(sought.found(&fs::read(folder.path(name)).unwrap()), 0);
     }
 }
 
@@ -181,4 +214,30 @@ the walk does not read here: the place lies inside the M201 at 0, and no more is
     let counts = "rietknoest: damaged: kept 1 frame, left out 73 bytes, 1 frame after damage\n";
     assert!(ran.error().starts_with(counts));
     assert!(ran.error().contains("may lie inside private bytes"));
+    // once it stands alone nothing can tell, and the help says so
+    run_on(&folder, &["check", "-"], &inner).quiet(0, "standard input: clean\n");
+    let help = run(&folder, &["--help"])
+        .out()
+        .split_whitespace()
+        .collect::<Vec<_>>()
+        .join(" ");
+    assert!(help.contains("It can't tell a frame that came out of private bytes"));
+}
+
+/// Two frames end to end in the extension of a damaged tick: the second follows the first without a gap, and is as suspect.
+#[test]
+fn every_frame_behind_damage_is_warned_of() {
+    let damaged = tick(1, &[heartbeats(2), vec![b' ']].concat());
+    let damaged = [b"N", &damaged[1..]].concat();
+    let capture = [heartbeats(1), damaged, heartbeats(1)].concat();
+    let folder = Folder::new().with("in", &capture);
+    let warned = |place: usize| {
+        let ran = run(&folder, &["explain", "in", &place.to_string()]);
+        assert_eq!(ran.status, Some(0));
+        assert!(ran.out().contains("\nMsgType S003, "), "{place}");
+        ran.out().contains("\nit stands after damage, ")
+    };
+    let first = 28 + HEADER + 45;
+    let places = [0, first, first + 28, capture.len() - 28];
+    assert_eq!(places.map(warned), [false, true, true, true]);
 }

@@ -96,6 +96,7 @@ fn calls(folder: &Folder) -> String {
 #[test]
 fn the_script() {
     it_builds_once_and_again_when_something_changed();
+    a_library_that_is_there_takes_no_minutes();
     what_can_not_be_built_is_told();
 }
 
@@ -155,6 +156,17 @@ rietknoest: built
         let ran = run_script(&folder, &script, &[]);
         assert_eq!(ran.error().lines().count(), 4);
     }
+}
+
+/// tools/archive was run before, by itself.
+fn a_library_that_is_there_takes_no_minutes() {
+    let folder = project();
+    put(folder.path("project/build/libhost.a"), "", 0o644);
+    let ran = run_script(&folder, &folder.path("project/rietknoest"), &[]);
+    let first = "rietknoest: first use: the library is there, ";
+    assert!(ran.error().starts_with(first) && !ran.error().contains("minutes"));
+    assert_eq!((ran.status, ran.out()), (Some(1), "elsewhere: 0 \n"));
+    assert_eq!(calls(&folder), "archive\ncargo\n");
 }
 
 fn what_can_not_be_built_is_told() {

@@ -1,13 +1,14 @@
 //! Drives a ledger: two ticks with a gap between them, the request that asks for what is missing, and the resent tick.
-use rietknoest_host::{Ledger, Refusal};
+use rietknoest_host::{ChannelNumber, Ledger, Refusal, TickNumber};
 
 fn main() -> Result<(), Refusal> {
-    let mut ledger = Ledger::open(100)?;
-    ledger.tick(100, 1)?;
-    ledger.tick(100, 3)?;
-    let asked = ledger.request(100)?;
-    println!("ask for {} to {}", asked.first, asked.last);
-    let passed = ledger.tick(100, 2)?;
-    println!("passed {} from {} on", passed.count, passed.first);
+    let channel = ChannelNumber::new(100);
+    let mut ledger = Ledger::open(channel)?;
+    ledger.tick(channel, TickNumber::new(1))?;
+    ledger.tick(channel, TickNumber::new(3))?;
+    let asked = ledger.request(channel)?;
+    println!("ask for {} to {}", asked.first.value(), asked.last.value());
+    let passed = ledger.tick(channel, asked.first)?;
+    println!("passed {} from {} on", passed.count, passed.first.value());
     Ok(())
 }

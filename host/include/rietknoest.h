@@ -7,6 +7,8 @@
  * A refusal writes nothing into anything lent: the answer is all there is. One exception: rk_ledger_tick's 12 raises the ledger's top.
  * Success writes every number of what it tells, the buffer's bytes that the answer counts, and no byte beyond them.
  *
+ * The numbers of sessions, ticks and channels are plain numbers in C, and the compiler does not tell one from another; in Rust it does.
+ *
  * What the caller owes: every pointer is to so many readable bytes, or writable ones where it is not const; it is not null, also where the
  * length is 0; rows are aligned as their type is; nothing that is written overlaps anything else that is lent. */
 #ifndef RIETKNOEST_H
@@ -127,7 +129,7 @@ typedef struct {
 } rk_ledger;
 RK_SIZE(rk_ledger, 9);
 
-/* The numbers that the floor has newly passed: the first and how many, perhaps none. */
+/* The numbers that the floor has newly passed: the first and how many. Where there are none, the first is floor + 1. */
 typedef struct {
     uint64_t first;
     uint64_t count;
@@ -152,7 +154,8 @@ typedef struct {
 RK_SIZE(rk_told, 7);
 
 /* A fresh ledger for a channel. 0, 10.
- * 0 writes *state. */
+ * 0 writes *state. 10 leaves the words as they were. Lend it zeroed ( = {0} ): nine zeros are a fresh ledger for channel 0, and words that
+ * nobody has set may be any ledger. Look at the answer all the same: what was lent zeroed goes on as that ledger of channel 0. */
 uint32_t rk_ledger_open(uint16_t channel, rk_ledger *state);
 
 /* Offers a tick. 0, 10 to 13, 18.
@@ -191,7 +194,8 @@ RK_SIZE(rk_counts, 3);
 typedef struct {
     uint64_t bytes;
     uint64_t frames;
-    uint64_t after_damage; /* frames that the search found: such a frame may lie inside private bytes of a damaged one */
+    uint64_t after_damage; /* frames that the search found, the first behind each damage: such a frame may lie inside private bytes of a
+                            * damaged one, and so may those that follow it without a gap, which are not counted */
 } rk_cleaned;
 RK_SIZE(rk_cleaned, 3);
 
@@ -205,7 +209,8 @@ uint32_t rk_listing(const uint8_t *records, size_t records_len, uint64_t frames,
                     size_t text_len, uint64_t *told);
 
 /* A capture, scrubbed: its accepted frames at the front of out, stray bytes left out. 0, 8; len bytes are always room enough.
- * 0 writes out's first told->bytes bytes and *told. */
+ * 0 writes out's first told->bytes bytes and *told. While it runs, out holds each frame for a moment as the capture has it, before its
+ * private bytes are painted over: lend memory of your own, and not a mapped file. */
 uint32_t rk_clean(const uint8_t *capture, size_t len, uint8_t *out, size_t out_len, rk_cleaned *told);
 
 /* Whether a capture is what cleaning it gives. Always 0. It takes about 9 KB of stack; no other function takes more than 1 KB.

@@ -128,6 +128,98 @@ fn told<T>(answer: u32, value: T) -> Result<T, Refusal> {
     }
 }
 
+// NUMBERS
+
+/// A session's count of frames: MsgSeqNum. Neither a tick's number nor a channel's is taken for one:
+///
+/// ```
+/// # use rietknoest_host::*;
+/// write(0x53303033, 20260121093000000, SessionNumber::new(1), b"", &mut [0; 28]).unwrap();
+/// ```
+/// ```compile_fail,E0308
+/// # use rietknoest_host::*;
+/// write(0x53303033, 20260121093000000, TickNumber::new(1), b"", &mut [0; 28]).unwrap();
+/// ```
+/// ```compile_fail,E0308
+/// # use rietknoest_host::*;
+/// write(0x53303033, 20260121093000000, ChannelNumber::new(1), b"", &mut [0; 28]).unwrap();
+/// ```
+#[derive(Clone, Copy, Debug, Default, PartialEq, Eq, PartialOrd, Ord, Hash)]
+#[repr(transparent)]
+pub struct SessionNumber(u64);
+
+impl SessionNumber {
+    pub const fn new(value: u64) -> SessionNumber {
+        SessionNumber(value)
+    }
+
+    pub const fn value(self) -> u64 {
+        self.0
+    }
+}
+
+/// A number of a tick channel: of a tick, of a resend's ends, of a ledger's floor and top. Neither a session's number nor a channel's is
+/// taken for one:
+///
+/// ```
+/// # use rietknoest_host::*;
+/// let channel = ChannelNumber::new(100);
+/// Ledger::open(channel).unwrap().tick(channel, TickNumber::new(1)).unwrap();
+/// ```
+/// ```compile_fail,E0308
+/// # use rietknoest_host::*;
+/// let channel = ChannelNumber::new(100);
+/// Ledger::open(channel).unwrap().tick(channel, SessionNumber::new(1)).unwrap();
+/// ```
+/// ```compile_fail,E0308
+/// # use rietknoest_host::*;
+/// let channel = ChannelNumber::new(100);
+/// Ledger::open(channel).unwrap().tick(channel, ChannelNumber::new(1)).unwrap();
+/// ```
+#[derive(Clone, Copy, Debug, Default, PartialEq, Eq, PartialOrd, Ord, Hash)]
+#[repr(transparent)]
+pub struct TickNumber(u64);
+
+impl TickNumber {
+    pub const fn new(value: u64) -> TickNumber {
+        TickNumber(value)
+    }
+
+    pub const fn value(self) -> u64 {
+        self.0
+    }
+}
+
+/// A channel: ChannelNO. Neither a session's number nor a tick's is taken for one:
+///
+/// ```
+/// # use rietknoest_host::*;
+/// Ledger::open(ChannelNumber::new(100)).unwrap();
+/// ```
+/// ```compile_fail,E0308
+/// # use rietknoest_host::*;
+/// Ledger::open(SessionNumber::new(100)).unwrap();
+/// ```
+/// ```compile_fail,E0308
+/// # use rietknoest_host::*;
+/// Ledger::open(TickNumber::new(100)).unwrap();
+/// ```
+///
+/// It is kept in eight bytes, as the library tells it; the number itself fits into two.
+#[derive(Clone, Copy, Debug, Default, PartialEq, Eq, PartialOrd, Ord, Hash)]
+#[repr(transparent)]
+pub struct ChannelNumber(u64);
+
+impl ChannelNumber {
+    pub const fn new(value: u16) -> ChannelNumber {
+        ChannelNumber(value as u64)
+    }
+
+    pub const fn value(self) -> u16 {
+        self.0 as u16
+    }
+}
+
 // FRAMES
 
 /// What reading a frame tells. Channel, tick, first, last and status are 0 where the type has none.
@@ -136,14 +228,14 @@ fn told<T>(answer: u32, value: T) -> Result<T, Refusal> {
 pub struct Frame {
     pub msg_type: u64,
     pub sending_time: u64,
-    pub seq: u64,
+    pub seq: SessionNumber,
     pub body_len: u64,
-    pub channel: u64,
+    pub channel: ChannelNumber,
     /// ApplSeqNum of M201, ApplLastSeqNum of P001, ApplBegSeqNum of P002.
-    pub tick: u64,
+    pub tick: TickNumber,
     /// A resend's first and last number, and its status.
-    pub first: u64,
-    pub last: u64,
+    pub first: TickNumber,
+    pub last: TickNumber,
     pub status: u64,
 }
 
@@ -174,12 +266,12 @@ pub fn read(bytes: &[u8], place: usize) -> Result<Frame, Refusal> {
 pub fn write(
     msg_type: u32,
     sending_time: u64,
-    seq: u64,
+    seq: SessionNumber,
     body: &[u8],
     out: &mut [u8],
 ) -> Result<usize, Refusal> {
     let mut bytes = 0;
-    let answer = raw::write(msg_type, sending_time, seq, body, out, &mut bytes);
+    let answer = raw::write(msg_type, sending_time, seq.value(), body, out, &mut bytes);
     told(answer, bytes as usize)
 }
 
@@ -273,11 +365,11 @@ pub struct Ledger {
     words: [u64; 9],
 }
 
-/// A run of numbers: the first, and how many; perhaps none.
+/// A run of numbers: the first, and how many. Where there are none, the first is the one above the floor.
 #[derive(Clone, Copy, Debug, Default, PartialEq, Eq)]
 #[repr(C)]
 pub struct Passed {
-    pub first: u64,
+    pub first: TickNumber,
     pub count: u64,
 }
 
@@ -285,53 +377,64 @@ pub struct Passed {
 #[derive(Clone, Copy, Debug, Default, PartialEq, Eq)]
 #[repr(C)]
 pub struct Request {
-    pub first: u64,
-    pub last: u64,
+    pub first: TickNumber,
+    pub last: TickNumber,
 }
 
 /// What a ledger has to tell. `asked_first` and `asked_last` are the pending request's, 0 and 0 where nothing is pending.
 #[derive(Clone, Copy, Debug, Default, PartialEq, Eq)]
 #[repr(C)]
 pub struct Told {
-    pub channel: u64,
-    pub floor: u64,
-    pub top: u64,
+    pub channel: ChannelNumber,
+    pub floor: TickNumber,
+    pub top: TickNumber,
     pub missing: u64,
     pub held: u64,
-    pub asked_first: u64,
-    pub asked_last: u64,
+    pub asked_first: TickNumber,
+    pub asked_last: TickNumber,
 }
 
 impl Ledger {
     /// A fresh ledger for a channel, or 10.
-    pub fn open(channel: u16) -> Result<Ledger, Refusal> {
+    pub fn open(channel: ChannelNumber) -> Result<Ledger, Refusal> {
         let mut ledger = Ledger { words: [0; 9] };
-        let answer = raw::ledger_open(channel, &mut ledger);
+        let answer = raw::ledger_open(channel.value(), &mut ledger);
         told(answer, ledger)
     }
 
     /// Offers a tick, and answers the numbers that the floor has newly passed. Of the refusals 12 alone changes the ledger: it raises the top.
-    pub fn tick(&mut self, channel: u16, number: u64) -> Result<Passed, Refusal> {
+    pub fn tick(&mut self, channel: ChannelNumber, number: TickNumber) -> Result<Passed, Refusal> {
         let mut passed = Passed::default();
-        let answer = raw::ledger_tick(self, channel, number, &mut passed);
+        let answer = raw::ledger_tick(self, channel.value(), number.value(), &mut passed);
         told(answer, passed)
     }
 
     /// Announces the channel's last number.
-    pub fn announce(&mut self, channel: u16, last: u64) -> Result<(), Refusal> {
-        told(raw::ledger_announce(self, channel, last), ())
+    pub fn announce(&mut self, channel: ChannelNumber, last: TickNumber) -> Result<(), Refusal> {
+        told(
+            raw::ledger_announce(self, channel.value(), last.value()),
+            (),
+        )
     }
 
     /// Asks for a resend request, which is pending from now on.
-    pub fn request(&mut self, channel: u16) -> Result<Request, Refusal> {
+    pub fn request(&mut self, channel: ChannelNumber) -> Result<Request, Refusal> {
         let mut request = Request::default();
-        let answer = raw::ledger_request(self, channel, &mut request);
+        let answer = raw::ledger_request(self, channel.value(), &mut request);
         told(answer, request)
     }
 
     /// The exchange's reply to the pending request, which is cleared.
-    pub fn reply(&mut self, channel: u16, first: u64, status: u8) -> Result<(), Refusal> {
-        told(raw::ledger_reply(self, channel, first, status), ())
+    pub fn reply(
+        &mut self,
+        channel: ChannelNumber,
+        first: TickNumber,
+        status: u8,
+    ) -> Result<(), Refusal> {
+        told(
+            raw::ledger_reply(self, channel.value(), first.value(), status),
+            (),
+        )
     }
 
     /// What the ledger has to tell, or 13.
@@ -403,8 +506,8 @@ pub fn listing(records: &[u8], walked: &Walked, text: &mut [u8]) -> Result<usize
     told(answer, bytes as usize)
 }
 
-/// What cleaning a capture comes to. `after_damage` counts the frames that the search found behind damage: such a frame may lie inside
-/// private bytes of a damaged one.
+/// What cleaning a capture comes to. `after_damage` counts the frames that the search found, the first behind each damage: such a frame may
+/// lie inside private bytes of a damaged one, and so may those that follow it without a gap, which are not counted.
 #[derive(Clone, Copy, Debug, Default, PartialEq, Eq)]
 #[repr(C)]
 pub struct Cleaned {
@@ -414,7 +517,8 @@ pub struct Cleaned {
 }
 
 /// A capture, scrubbed: its accepted frames at the front of `out`, stray bytes left out; 8 where they have no room. As many bytes as the
-/// capture has are always enough.
+/// capture has are always enough. While it runs, `out` holds each frame for a moment as the capture has it, before its private bytes are
+/// painted over: lend memory of your own, and not a mapped file.
 pub fn clean(capture: &[u8], out: &mut [u8]) -> Result<Cleaned, Refusal> {
     let mut cleaned = Cleaned::default();
     let answer = raw::clean(capture, out, &mut cleaned);

@@ -15,7 +15,10 @@ use oracle::ledger::{Ledger as Plain, Pending};
 use oracle::numbers::{Channel, Session, Tick};
 use oracle::record::{summary, Record, BLANK, SIZE};
 use rietknoest_host as host;
-use rietknoest_host::{Entry, Frame, Ledger, Passed, Refusal, Request, Span, Told, Walked};
+use rietknoest_host::{
+    ChannelNumber, Entry, Frame, Ledger, Passed, Refusal, Request, SessionNumber, Span, TickNumber,
+    Told, Walked,
+};
 use std::cell::RefCell;
 use std::collections::BTreeMap;
 use std::env;
@@ -58,23 +61,25 @@ fn lent(d: &mut Dice, n: usize) -> Vec<u8> {
 /// What the library tells of a frame that reads.
 fn told(m: &Message) -> Frame {
     let field = |at: usize, width: usize| number(&m.body[at..at + width]);
+    let channel = |at: usize| ChannelNumber::new(field(at, 2) as u16);
+    let tick = |at: usize| TickNumber::new(field(at, 8));
     let mut frame = Frame {
         msg_type: number(&m.msg_type),
         sending_time: m.sending_time,
-        seq: m.seq.0,
+        seq: SessionNumber::new(m.seq.0),
         body_len: m.body.len() as u64,
         ..Frame::default()
     };
     match &m.msg_type {
         b"M201" | b"P001" => {
-            frame.channel = field(1, 2);
-            frame.tick = field(3, 8);
+            frame.channel = channel(1);
+            frame.tick = tick(3);
         }
         b"P002" => {
-            frame.channel = field(0, 2);
-            frame.tick = field(3, 8);
-            frame.first = field(3, 8);
-            frame.last = field(11, 8);
+            frame.channel = channel(0);
+            frame.tick = tick(3);
+            frame.first = tick(3);
+            frame.last = tick(11);
             frame.status = field(19, 1);
         }
         _ => {}
@@ -159,7 +164,7 @@ fn write_case(d: &mut Dice) {
     let mut b = a.clone();
     let theirs = plain(oracle::frame::write(&message, &mut b));
     let name = number(&msg_type) as u32;
-    let (time, seq) = (message.sending_time, message.seq.0);
+    let (time, seq) = (message.sending_time, SessionNumber::new(message.seq.0));
     let answer = host::write(name, time, seq, &message.body, &mut a);
     alike("write", answer, &theirs);
     same(a, b, "write's buffer");
@@ -245,6 +250,14 @@ fn entry_of(e: oracle::entries::Entry, behind: u64) -> Entry {
 
 // THE LEDGER
 
+fn channel_of(channel: Channel) -> ChannelNumber {
+    ChannelNumber::new(channel.0)
+}
+
+fn tick_of(tick: Tick) -> TickNumber {
+    TickNumber::new(tick.0)
+}
+
 /// The second program's ledger of nine words. A channel above two bytes is none: it breaks the state rules.
 fn plain_ledger(w: [u64; 9]) -> Plain {
     Plain {
@@ -288,22 +301,22 @@ fn told_of(w: [u64; 9]) -> Result<Told, u32> {
     let missing = plain(l.missing().1)?;
     let held = plain(l.held().1)?;
     Ok(Told {
-        channel: w[0],
-        floor: w[1],
-        top: w[2],
+        channel: channel_of(l.channel),
+        floor: tick_of(l.floor),
+        top: tick_of(l.top),
         missing,
         held,
-        asked_first: w[7],
-        asked_last: w[8],
+        asked_first: TickNumber::new(w[7]),
+        asked_last: TickNumber::new(w[8]),
     })
 }
 
 fn ledger_case(d: &mut Dice) {
     let any = d.next() as u16;
-    let first = d.of(&[100, 100, 0, 9_999, 10_000, u16::MAX, any]);
-    let (fresh, answer) = Plain::open(Channel(first));
+    let first = Channel(d.of(&[100, 100, 0, 9_999, 10_000, u16::MAX, any]));
+    let (fresh, answer) = Plain::open(first);
     let theirs = plain(answer).map(|()| words_of(fresh));
-    let opened = Ledger::open(first).map(Ledger::to_words);
+    let opened = Ledger::open(channel_of(first)).map(Ledger::to_words);
     alike("open", opened, &theirs);
     let mut words = if d.once_in(2) {
         made::any_words(d)
@@ -315,22 +328,24 @@ fn ledger_case(d: &mut Dice) {
         let mut ledger = Ledger::of_words(words);
         let l = plain_ledger(words);
         let other = d.next() as u16;
-        let channel = d.of(&[l.channel.0, l.channel.0, l.channel.0, l.channel.0, other]);
+        let asked = d.of(&[l.channel.0, l.channel.0, l.channel.0, l.channel.0, other]);
+        let (asked, channel) = (Channel(asked), ChannelNumber::new(asked));
         let near = l.floor.0.wrapping_add(d.below(262));
         let edge = d.edge();
         let n = d.of(&[near, near, l.floor.0.wrapping_add(1), l.top.0, edge]);
         let (next, number) = match d.below(8) {
             0 => {
-                let (next, answer) = l.announce(Channel(channel), Tick(n));
+                let (next, answer) = l.announce(asked, Tick(n));
                 let theirs = plain(answer);
-                alike("announce", ledger.announce(channel, n), &theirs);
+                let ours = ledger.announce(channel, TickNumber::new(n));
+                alike("announce", ours, &theirs);
                 (next, theirs.err())
             }
             1 => {
-                let (next, answer) = l.request(Channel(channel));
+                let (next, answer) = l.request(asked);
                 let theirs = plain(answer).map(|r| Request {
-                    first: r.first.0,
-                    last: r.last.0,
+                    first: tick_of(r.first),
+                    last: tick_of(r.last),
                 });
                 alike("request", ledger.request(channel), &theirs);
                 (next, theirs.err())
@@ -338,26 +353,27 @@ fn ledger_case(d: &mut Dice) {
             2 => {
                 let first = d.of(&[words[7], words[7], n]);
                 let status = d.of(&[1, 2, 3, 4, 5, 99, 0, 6, 98, 100, 255]);
-                let (next, answer) = l.reply(Channel(channel), Tick(first), status);
+                let (next, answer) = l.reply(asked, Tick(first), status);
                 let theirs = plain(answer);
-                alike("reply", ledger.reply(channel, first, status), &theirs);
+                let ours = ledger.reply(channel, TickNumber::new(first), status);
+                alike("reply", ours, &theirs);
                 (next, theirs.err())
             }
             _ => {
                 let n = if d.once_in(2) { n } else { ticks.next(d) };
-                let (next, answer) = l.tick(Channel(channel), Tick(n));
+                let (next, answer) = l.tick(asked, Tick(n));
                 let theirs = plain(answer).map(|r| match r {
                     // nothing passed: the first number that would be, and 0 of them
                     None => Passed {
-                        first: l.floor.0 + 1,
+                        first: TickNumber::new(l.floor.0 + 1),
                         count: 0,
                     },
                     Some(r) => Passed {
-                        first: r.first.0,
+                        first: tick_of(r.first),
                         count: r.last.0 - r.first.0 + 1,
                     },
                 });
-                alike("tick", ledger.tick(channel, n), &theirs);
+                alike("tick", ledger.tick(channel, TickNumber::new(n)), &theirs);
                 (next, theirs.err())
             }
         };
@@ -462,7 +478,7 @@ fn listing_of(d: &mut Dice, records: &[u8], counts: &Walked, capture: &[u8]) {
         for r in records.chunks_exact(SIZE) {
             text.extend(Record::of(r.try_into().expect("64 bytes")).line());
         }
-        let (floor, top) = (Tick(told.floor), Tick(told.top));
+        let (floor, top) = (Tick(told.floor.value()), Tick(told.top.value()));
         text.extend(summary(
             counts.frames,
             counts.refused,

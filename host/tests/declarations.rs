@@ -5,11 +5,12 @@ mod made;
 
 use made::{about, Dice, Ticks, ALL};
 use rietknoest_host as host;
-use rietknoest_host::{Ledger, Refusal};
+use rietknoest_host::{ChannelNumber, Ledger, Refusal, SessionNumber, TickNumber};
 use std::collections::{BTreeMap, BTreeSet};
 use std::fmt::Write as _;
 use std::fs;
 use std::io::Write as _;
+use std::mem::size_of;
 use std::path::{Path, PathBuf};
 use std::process::{Command, Stdio};
 
@@ -54,26 +55,41 @@ fn compiled(compiler: &str, standard: &str, source: &str) -> PathBuf {
     program
 }
 
-// THE SAME FUNCTIONS WITH THE SAME PARAMETERS
+// THE SAME FUNCTIONS WITH THE SAME PARAMETERS AND ANSWERS
 
 /// The text up to the bracket that closes.
 fn in_brackets(text: &str) -> &str {
     &text[..text.find(')').expect("a closing bracket")]
 }
 
-/// The functions behind a mark, each with its parameters.
-fn functions<'a>(text: &'a str, mark: &str) -> Vec<(&'a str, Vec<&'a str>)> {
-    let found = text.split(mark).skip(1).filter(|t| t.starts_with("rk_"));
-    found
-        .map(|t| {
-            let (name, rest) = t.split_once('(').expect("parameters");
-            let parameters = in_brackets(rest).split(',').map(str::trim);
-            (name, parameters.filter(|p| !p.is_empty()).collect())
-        })
-        .collect()
+/// A function's name, its parameters, and what stands behind their bracket up to the end of its line.
+fn parts(text: &str) -> (&str, Vec<&str>, &str) {
+    let (name, rest) = text.split_once('(').expect("parameters");
+    let parameters = in_brackets(rest);
+    let behind = rest[parameters.len() + 1..].lines().next();
+    let parameters = parameters.split(',').map(str::trim);
+    (
+        name,
+        parameters.filter(|p| !p.is_empty()).collect(),
+        behind.expect("the end of its line"),
+    )
 }
 
-type Functions = BTreeMap<String, Vec<String>>;
+/// The functions behind a mark.
+fn functions<'a>(text: &'a str, mark: &str) -> Vec<(&'a str, Vec<&'a str>, &'a str)> {
+    let found = text.split(mark).skip(1).filter(|t| t.starts_with("rk_"));
+    found.map(parts).collect()
+}
+
+/// What a declaration in Rust's manner answers.
+fn answer_of(behind: &str) -> String {
+    let answer = behind.trim_start().strip_prefix("-> ").unwrap_or("()");
+    let end = answer.find([' ', ';', '{']).unwrap_or(answer.len());
+    answer[..end].to_string()
+}
+
+/// Each by its name: its parameters' types, and the answer's.
+type Functions = BTreeMap<String, (Vec<String>, String)>;
 
 /// A row by how many numbers it has.
 fn row(pointer: &str, numbers: usize) -> String {
@@ -84,7 +100,7 @@ fn row(pointer: &str, numbers: usize) -> String {
 fn of_crate() -> Functions {
     let text = text_of("crates/host/src/lib.rt");
     let mut all = Functions::new();
-    for (name, parameters) in functions(&text, "#[no_mangle]\npub extern \"C\" fn ") {
+    for (name, parameters, behind) in functions(&text, "#[no_mangle]\npub extern \"C\" fn ") {
         let mut kinds = Vec::new();
         for p in parameters {
             let kind = p.split_once(": ").expect("a type").1;
@@ -101,7 +117,7 @@ fn of_crate() -> Functions {
                 _ => kinds.push(kind.into()),
             }
         }
-        all.insert(name.into(), kinds);
+        all.insert(name.into(), (kinds, answer_of(behind)));
     }
     all
 }
@@ -113,8 +129,21 @@ fn of_header() -> Functions {
         let (name, numbers) = in_brackets(part).split_once(", ").expect("a row's size");
         rows.insert(name, numbers.parse().expect("a number"));
     }
+    let number = |kind: &str| match kind {
+        "size_t" => "usize".to_string(),
+        _ => kind.replace("uint", "u").replace("_t", ""),
+    };
     let mut all = Functions::new();
-    for (name, parameters) in functions(&text, "\nuint32_t ") {
+    // at the start of a line: one word, which is the answer's type, the name and a bracket
+    for (end, _) in text.match_indices('\n') {
+        let Some((answer, declared)) = text[end + 1..].split_once(' ') else {
+            continue;
+        };
+        let is_function = |(name, _): (&str, &str)| name.starts_with("rk_") && is_word(name);
+        if !is_word(answer) || !declared.split_once('(').is_some_and(is_function) {
+            continue;
+        }
+        let (name, parameters, _) = parts(declared);
         let kinds = parameters.iter().map(|p| {
             let (kind, _) = p.rsplit_once([' ', '*']).expect("a type");
             let pointer = if kind.starts_with("const") {
@@ -126,13 +155,16 @@ fn of_header() -> Functions {
             match (p.contains('*'), kind) {
                 (true, "uint8_t") => format!("*{pointer} u8"),
                 (true, _) => row(pointer, rows[kind]),
-                (false, "size_t") => "usize".into(),
-                (false, _) => kind.replace("uint", "u").replace("_t", ""),
+                (false, _) => number(kind),
             }
         });
-        all.insert(name.into(), kinds.collect());
+        all.insert(name.into(), (kinds.collect(), number(answer)));
     }
     all
+}
+
+fn is_word(text: &str) -> bool {
+    text.bytes().all(|b| b.is_ascii_alphanumeric() || b == b'_')
 }
 
 fn of_wrapper() -> Functions {
@@ -157,7 +189,7 @@ fn of_wrapper() -> Functions {
         }
     };
     let mut all = Functions::new();
-    for (name, parameters) in functions(&text, "\n    fn ") {
+    for (name, parameters, behind) in functions(&text, "\n    fn ") {
         let kinds = parameters.iter().map(|p| {
             let kind = p.split_once(": ").expect("a type").1;
             match kind.split_once(' ') {
@@ -165,7 +197,7 @@ fn of_wrapper() -> Functions {
                 _ => kind.into(),
             }
         });
-        all.insert(name.into(), kinds.collect());
+        all.insert(name.into(), (kinds.collect(), answer_of(behind)));
     }
     all
 }
@@ -174,6 +206,7 @@ fn of_wrapper() -> Functions {
 fn everyone_declares_the_same_functions() {
     let exported = of_crate();
     assert_eq!(exported.len(), 17);
+    assert!(exported.values().all(|(_, answer)| answer == "u32"));
     assert_eq!(of_header(), exported, "the header");
     assert_eq!(of_wrapper(), exported, "the wrapper");
     let mut nm = Command::new("nm");
@@ -204,6 +237,13 @@ fn the_header_has_the_table_of_numbers() {
         .map(|l| l.trim().trim_end_matches(',').to_string())
         .collect();
     assert_eq!(said, rows);
+}
+
+/// As the header says of a ledger that is lent zeroed.
+#[test]
+fn nine_zeros_are_a_fresh_ledger_for_channel_0() {
+    let fresh = Ledger::open(ChannelNumber::new(0)).expect("a channel");
+    assert_eq!(fresh.to_words(), [0; 9]);
 }
 
 // THE SAME ANSWERS
@@ -281,12 +321,12 @@ fn frames(s: &mut Script, d: &mut Dice) {
         let row = [
             r.msg_type,
             r.sending_time,
-            r.seq,
+            r.seq.value(),
             r.body_len,
-            r.channel,
-            r.tick,
-            r.first,
-            r.last,
+            r.channel.value().into(),
+            r.tick.value(),
+            r.first.value(),
+            r.last.value(),
             r.status,
         ];
         (row.to_vec(), None)
@@ -304,7 +344,7 @@ fn frames(s: &mut Script, d: &mut Dice) {
     let (time, seq) = (d.edge(), d.edge());
     let mut out = vec![0; about(d, body.len() + 28)];
     let asked = format!("{name} {time} {seq} {} {}", out.len(), hex(&body));
-    let answer = host::write(name, time, seq, &body, &mut out);
+    let answer = host::write(name, time, SessionNumber::new(seq), &body, &mut out);
     let answer = answer.map(|n| (vec![n as u64], Some(&out[..n])));
     s.ask("write", &asked, answer, None);
     spans(s, name, &body);
@@ -348,7 +388,7 @@ fn ledgers(s: &mut Script, d: &mut Dice) {
     let mut ledger = Ledger::of_words(made::any_words(d));
     s.words(&ledger);
     let channel = d.of(&[100, 0, 9_999, 10_000]);
-    let opened = Ledger::open(channel);
+    let opened = Ledger::open(ChannelNumber::new(channel));
     ledger = opened.unwrap_or(ledger);
     let answer = opened.map(|_| (vec![], None));
     s.ask("open", &channel.to_string(), answer, Some(&ledger));
@@ -363,20 +403,21 @@ fn ledgers(s: &mut Script, d: &mut Dice) {
         let channel = d.of(&[own, own, own, own, other]);
         let (near, edge) = (words[1].wrapping_add(d.below(262)), d.edge());
         let n = d.of(&[near, near, near, edge]);
+        let (its, tick) = (ChannelNumber::new(channel), TickNumber::new(n));
         match d.below(6) {
             0 => {
-                let answer = ledger.announce(channel, n).map(|()| (vec![], None));
+                let answer = ledger.announce(its, tick).map(|()| (vec![], None));
                 s.ask("announce", &format!("{channel} {n}"), answer, Some(&ledger));
             }
             1 => {
-                let answer = ledger.request(channel);
-                let answer = answer.map(|r| (vec![r.first, r.last], None));
+                let answer = ledger.request(its);
+                let answer = answer.map(|r| (vec![r.first.value(), r.last.value()], None));
                 s.ask("request", &channel.to_string(), answer, Some(&ledger));
             }
             2 => {
                 let first = d.of(&[words[7], words[7], n]);
                 let status = d.of(&[1, 5, 99, 0]);
-                let answer = ledger.reply(channel, first, status);
+                let answer = ledger.reply(its, TickNumber::new(first), status);
                 let answer = answer.map(|()| (vec![], None));
                 let asked = format!("{channel} {first} {status}");
                 s.ask("reply", &asked, answer, Some(&ledger));
@@ -384,21 +425,21 @@ fn ledgers(s: &mut Script, d: &mut Dice) {
             3 => {
                 let answer = ledger.told().map(|t| {
                     let row = [
-                        t.channel,
-                        t.floor,
-                        t.top,
+                        t.channel.value().into(),
+                        t.floor.value(),
+                        t.top.value(),
                         t.missing,
                         t.held,
-                        t.asked_first,
-                        t.asked_last,
+                        t.asked_first.value(),
+                        t.asked_last.value(),
                     ];
                     (row.to_vec(), None)
                 });
                 s.ask("told", "", answer, Some(&ledger));
             }
             _ => {
-                let answer = ledger.tick(channel, n);
-                let answer = answer.map(|p| (vec![p.first, p.count], None));
+                let answer = ledger.tick(its, tick);
+                let answer = answer.map(|p| (vec![p.first.value(), p.count], None));
                 s.ask("tick", &format!("{channel} {n}"), answer, Some(&ledger));
             }
         }

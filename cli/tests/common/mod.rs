@@ -9,6 +9,8 @@ use std::path::{Path, PathBuf};
 use std::process::{self, Command, Stdio};
 use std::sync::atomic::{AtomicU32, Ordering};
 
+use rietknoest_host::SessionNumber;
+
 /// The root of the project.
 pub fn root() -> PathBuf {
     Path::new(env!("CARGO_MANIFEST_DIR")).join("..")
@@ -134,6 +136,7 @@ pub fn run_on<S: AsRef<OsStr>>(folder: &Folder, words: &[S], input: &[u8]) -> Ra
 pub fn frame(kind: &[u8; 4], seq: u64, body: &[u8]) -> Vec<u8> {
     let mut out = vec![0; 8192];
     let msg_type = u32::from_be_bytes(*kind);
+    let seq = SessionNumber::new(seq);
     let n = rietknoest_host::write(msg_type, 20260121093000000, seq, body, &mut out).unwrap();
     out.truncate(n);
     out
