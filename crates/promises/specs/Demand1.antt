@@ -4,7 +4,6 @@
 use Prim.Native.Nat.{ℕ, zero, suc, max}
 use mathlib.Core.Path.{_≡_, refl}
 use mathlib.Core.Bool.{Bool, true, false, _&&_, _||_}
-use mathlib.Core.Logic.{_⊎_, inl, inr}
 use mathlib.Core.List.{List}
 use lib.Dec.{eqb, leb}
 use Rattle.terms.specs.Counters.{tickOf}
@@ -48,9 +47,6 @@ use Rattle.book.specs.Answers.{OnlyTop}
 use Rattle.book.proofs.Answers.{keeps}
 use Rattle.ledger.specs.Papers.{tickPaper, requestPaper, replyPaper, paperOf}
 use Rattle.ledger.specs.Trace.{Promise}
-use Rattle.stream.specs.declared.StreamAnswer.{StreamAnswer}
-use Rattle.stream.specs.declared.StreamAnswer.the-variants as streamed
-use Rattle.stream.specs.Calls.{answerNumber}
 use Rattle.book.specs.Words.{answered}
 use Rattle.ledger.proofs.Promised.{refused-gives-back, far-raises-top}
 use Rattle.terms.proofs.OneAnswer as terms
@@ -65,7 +61,6 @@ use Rattle.ledger.proofs.OneAnswer as ledger
 use Rattle.record.proofs.OneAnswer as «record»
 use Rattle.view.proofs.OneAnswer as view
 use Rattle.walk.proofs.OneAnswer as walk
-use Rattle.stream.proofs.OneAnswer as stream
 use Rattle.lines.proofs.OneAnswer as lines
 use Rattle.clean.proofs.OneAnswer as clean
 use Rattle.host.proofs.OneAnswer as host
@@ -202,14 +197,6 @@ walk-answers =
     let walk-one-answer = walk.walk-one-answer in
     named
 
--- stream
-stream-answers : Named
-stream-answers =
-    let Stream-opened-one-answer = stream.Stream-opened-one-answer in
-    let Stream-feed-one-answer = stream.Stream-feed-one-answer in
-    let Stream-close-one-answer = stream.Stream-close-one-answer in
-    named
-
 -- lines
 lines-answers : Named
 lines-answers =
@@ -332,15 +319,6 @@ pub plain-numbered : (x : Answer) → Numbered (paperOf x .number)
 plain-numbered plain.Done = done refl
 plain-numbered (plain.Refused w) = refused (refusal-in-table w)
 
--- a stream also gives the two numbers of CR 1, 19 and 29
-pub stream-numbered : (x : StreamAnswer) → Numbered (answerNumber x) ⊎ ((answerNumber x ≡ 19) ⊎ (answerNumber x ≡ 29))
-unfolding inTable
-stream-numbered streamed.Done = inl (done refl)
-stream-numbered streamed.State = inl (refused refl)
-stream-numbered streamed.Closed = inr (inl refl)
-stream-numbered streamed.Places = inr (inr refl)
-stream-numbered streamed.Room = inl (refused refl)
-
 -- "A REFUSAL WRITES NOTHING INTO A LENT BUFFER": of each function that is lent one, that its later contents are fixed, and that a refusal leaves them.
 
 octets-buffers : Named
@@ -388,14 +366,6 @@ walk-buffers : Named
 walk-buffers =
     let walk-one-buffer = walk.walk-one-buffer in
     let walk-refused-keeps = walk.walk-refused-keeps in
-    named
-
-stream-buffers : Named
-stream-buffers =
-    let Stream-feed-one-buffer = stream.Stream-feed-one-buffer in
-    let Stream-feed-refused-keeps = stream.Stream-feed-refused-keeps in
-    let Stream-close-one-buffer = stream.Stream-close-one-buffer in
-    let Stream-close-refused-keeps = stream.Stream-close-refused-keeps in
     named
 
 lines-buffers : Named
