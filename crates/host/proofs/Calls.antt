@@ -11,8 +11,9 @@ use Rattle.terms.specs.Counters.{channelOf}
 use Rattle.book.specs.Calls.{Call, answerTo, nextOf, openNumber, openOf}
 use Rattle.ledger.specs.declared.Ledger.{Ledger}
 use Rattle.ledger.specs.State.{bookOf, ledgerOf}
-use Rattle.host.specs.Told.{Tells, tells-done, tells-why}
-use Rattle.host.specs.Words.{ledgerIn, keptBy, callTold, wordsAfter, openWords}
+use Rattle.words.specs.Told.{Tells, tells-done, tells-why}
+use Rattle.words.specs.Words.{ledgerIn}
+use Rattle.host.specs.Words.{keptBy, callTold, wordsAfter, openWords}
 
 -- the call as it is given, on the ledger l, and the ledger next that it gives
 module _ (w : List ℕ) {l next : Ledger} {given call : Call} (le : l ≡ ledgerIn w) (ce : given ≡ call) (xe : next ≡ ledgerOf (nextOf (bookOf l) given)) where

@@ -19,7 +19,8 @@ use Rattle.ledger.proofs.Seam.{announce-not-12, request-not-12, reply-not-12}
 use Rattle.walk.specs.Walk.{fitsIn, walkAnswer, walkLeaves}
 use Rattle.walk.specs.Answers.{left-kept, answer-done}
 use Rattle.clean.specs.Clean as clean
-use Rattle.host.specs.Words.{bookIn, keptBy, callTold, wordsAfter, openWords}
+use Rattle.words.specs.Words.{bookIn}
+use Rattle.host.specs.Words.{keptBy, callTold, wordsAfter, openWords}
 use Rattle.host.specs.Captures.{walkWords, listed, listingTold, listingLeaves}
 
 -- THE WORDS

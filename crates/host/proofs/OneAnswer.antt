@@ -6,7 +6,7 @@ use denote.Ref.{now}
 use Rattle.terms.specs.OneAnswer.{OneAnswer}
 use Rattle.terms.specs.OneBuffer.{OneBuffer, RefusedKeeps}
 use Rattle.wire.specs.WriteLaws.{left-kept}
-use Rattle.host.specs.Told.{both, Refuses, tells-kept}
+use Rattle.words.specs.Told.{both, Refuses, tells-kept}
 use Rattle.host.proofs.Kept.{call-kept, announce-kept, request-kept, reply-kept, open-kept, walk-kept, walk-left, scrub-kept, clean-kept, listing-kept}
 use Rattle.host.proofs.rk_read.Reads as rk-read
 use Rattle.host.proofs.rk_read.Kinds as rk-read-kinds

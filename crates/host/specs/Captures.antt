@@ -17,8 +17,9 @@ use Rattle.record.specs.declared.Summary.{Summary}
 use Rattle.walk.specs.Walk.{walkAnswer, walkBook}
 use Rattle.lines.specs.Listing.{listingOf}
 use Rattle.clean.specs.Clean.{checkOf}
-use Rattle.host.specs.Told.{perhaps, retold, Tells, tells-refused}
-use Rattle.host.specs.Words.{ledgerIn, keptBy, callTold}
+use Rattle.words.specs.Told.{perhaps, retold, Tells, tells-refused}
+use Rattle.words.specs.Words.{ledgerIn}
+use Rattle.host.specs.Words.{keptBy, callTold}
 
 -- the words after a walk: those of channel 100's ledger; beside 8 as they were
 unfoldable pub walkWords : List ℕ → ℕ → List ℕ → List ℕ

@@ -16,7 +16,7 @@ use Rattle.entries.specs.Papers.{entryPaper}
 use Rattle.entries.specs.Reader.{openOf, stepOf, placeAfter}
 use Rattle.scrub.specs.declared.Span.{Span}
 use Rattle.scrub.specs.Private.{privateOf, spanAt}
-use Rattle.host.specs.Told.{perhaps, retold}
+use Rattle.words.specs.Told.{perhaps, retold}
 
 -- channel, tick number, first and last resend number, resend status
 abbrev pub viewNumbers : View → List ℕ

@@ -1,6 +1,6 @@
-pub mod Told
 pub mod Frames
 pub mod Private
 pub mod Words
-pub mod Rows
+pub mod Called
 pub mod Captures
+pub mod Listed

@@ -2,10 +2,8 @@
 // lent: a fixed row of numbers, which C declares as a struct of 64-bit numbers (include/rietknoest.h). A refusal writes nothing
 // there, nor into a buffer; only 12 changes a ledger, and only its top.
 ghost use mathlib.Core.Path.{_≡_};
-ghost use Prim.Native.Nat.{min};
 ghost use mathlib.Core.List.{[], _∷_, _++_};
-ghost use lib.ListN.{length, drop, getD};
-ghost use Rattle.terms.specs.Counters.{channelOf};
+ghost use lib.ListN.{length, drop};
 ghost use Rattle.octets.specs.Papers.{writtenPaper};
 ghost use Rattle.wire.specs.Write.{message, writeOf, leftOf};
 ghost use Rattle.scrub.specs.Scrub.{scrubAnswer, scrubbed};
@@ -14,9 +12,9 @@ ghost use Rattle.book.specs.Calls.{Tick, Announce, Request, Reply, openNumber};
 ghost use Rattle.ledger.specs.Papers.{paperOf, replyPaper};
 ghost use Rattle.walk.specs.Walk.{walkAnswer, walkLeaves};
 ghost use Rattle.clean.specs.Clean.{cleanAnswer, cleanLeaves};
-ghost use Rattle.host.specs.Told.{Tells};
+ghost use Rattle.words.specs.Told.{Tells};
 ghost use Rattle.host.specs.Frames.{readTold, searchTold, privateTold, entriesTold, entryNumbers, entryTold};
-ghost use Rattle.host.specs.Words.{firstAsked, lastAsked, wordsOf, pendingIn, ledgerIn, keptBy, callTold, wordsAfter, openWords, ledgerTold};
+ghost use Rattle.host.specs.Words.{keptBy, callTold, wordsAfter, openWords, ledgerTold};
 ghost use Rattle.host.specs.Captures.{walkWords, listingTold, listingLeaves, cleanTold};
 use clean::Check;
 use entries::Entry;
@@ -24,11 +22,9 @@ use frame::Found;
 use frame::Read;
 use ledger::Answer;
 use ledger::Ledger;
-use ledger::Pending;
 use ledger::ReplyAnswer;
 use ledger::RequestAnswer;
 use ledger::TickAnswer;
-use map::Map;
 use octets::Written;
 use record::Summary;
 use rules::Verdict;
@@ -190,87 +186,7 @@ pub extern "C" fn rk_entry(body: &[u8], place: usize, told: &mut [u64; 6]) -> u3
     }
 }
 
-// THE LEDGER, AS NINE NUMBERS: channel, floor, top, the map's four words, the pending request's first and last number, 0 and 0 where
-// nothing is pending. They are the host's to keep and not to read: the calls tell all there is to know.
-
-// A channel above two bytes is none, and stands for one that breaks the state rules.
-fn channel_in(word: u64) -> ChannelNumber
-    ensures { λ r. ⌜ r ≡ channelOf (min word 65535) ⌝ }
-{
-    if word > 65535 {
-        return ChannelNumber::new(65535);
-    }
-    ChannelNumber::new(word as u16)
-}
-
-// No request starts at 0; from 0 to another number is one that breaks the state rules.
-fn pending_in(first: u64, last: u64) -> Pending
-    ensures { λ r. ⌜ r ≡ pendingIn first last ⌝ }
-{
-    if (first == 0) & (last == 0) {
-        return Pending::Nothing;
-    }
-    Pending::Range {
-        first: TickNumber::new(first),
-        last: TickNumber::new(last),
-    }
-}
-
-fn ledger_in(state: &[u64; 9]) -> Ledger
-    ensures { λ r. ⌜ r ≡ ledgerIn (now (state .entry)) ⌝ }
-{
-    let words: [u64; 4] = [state[3], state[4], state[5], state[6]];
-    let map = Map { words };
-    let pending = pending_in(state[7], state[8]);
-    Ledger {
-        channel: channel_in(state[0]),
-        floor: TickNumber::new(state[1]),
-        top: TickNumber::new(state[2]),
-        map,
-        pending,
-    }
-}
-
-// 0 where nothing is pending, and so is the last number.
-fn first_asked(pending: Pending) -> u64
-    ensures { λ r. ⌜ r ≡ firstAsked pending ⌝ }
-{
-    match pending {
-        Pending::Nothing => 0,
-        Pending::Range { first, last: _ } => first.value(),
-    }
-}
-
-fn last_asked(pending: Pending) -> u64
-    ensures { λ r. ⌜ r ≡ lastAsked pending ⌝ }
-{
-    match pending {
-        Pending::Nothing => 0,
-        Pending::Range { first: _, last } => last.value(),
-    }
-}
-
-fn state_of(ledger: Ledger) -> [u64; 9]
-    ensures { λ r. ⌜ r ≡ wordsOf ledger ⌝ }
-{
-    let channel = ledger.channel;
-    let floor = ledger.floor;
-    let top = ledger.top;
-    let map = ledger.map;
-    let words = map.words;
-    let pending = ledger.pending;
-    [
-        channel.value() as u64,
-        floor.value(),
-        top.value(),
-        words[0],
-        words[1],
-        words[2],
-        words[3],
-        first_asked(pending),
-        last_asked(pending),
-    ]
-}
+// THE LEDGER, AS NINE NUMBERS: those of the crate `words`. They are the host's to keep and not to read: the calls tell all there is to know.
 
 fn number_of(a: Answer) -> u32
     ensures { λ r. ⌜ r ≡ paperOf a .number ⌝ }
@@ -286,9 +202,9 @@ fn keep(state: &mut [u64; 9], answer: u32, next: Ledger)
     ensures { λ _. ⌜ now (state .exit) ≡ keptBy answer next (now (state .entry)) ⌝ }
 {
     if answer == 0 {
-        *state = state_of(next);
+        *state = words::state_of(next);
     } else if answer == 12 {
-        *state = state_of(next);
+        *state = words::state_of(next);
     }
 }
 
@@ -316,7 +232,7 @@ pub extern "C" fn rk_ledger_tick(
     ensures { λ r. ⌜ Tells (callTold (now (state .entry)) (Tick channel number)) (now (told .entry)) r (now (told .exit))
         × (now (state .exit) ≡ wordsAfter (now (state .entry)) (Tick channel number)) ⌝ }
 {
-    let ticked = ledger_in(state).tick(ChannelNumber::new(channel), TickNumber::new(number));
+    let ticked = words::ledger_in(state).tick(ChannelNumber::new(channel), TickNumber::new(number));
     let next = ticked.next;
     let answer = ticked.answer;
     match answer {
@@ -339,7 +255,10 @@ pub extern "C" fn rk_ledger_announce(state: &mut [u64; 9], channel: u16, last: u
     ensures { λ r. ⌜ (r ≡ callTold (now (state .entry)) (Announce channel last) .number)
         × (now (state .exit) ≡ wordsAfter (now (state .entry)) (Announce channel last)) ⌝ }
 {
-    let noted = ledger_in(state).announce(ChannelNumber::new(channel), TickNumber::new(last));
+    let noted = words::ledger_in(state).announce(
+        ChannelNumber::new(channel),
+        TickNumber::new(last),
+    );
     let next = noted.next;
     let given = noted.answer;
     let answer = number_of(given);
@@ -353,7 +272,7 @@ pub extern "C" fn rk_ledger_request(state: &mut [u64; 9], channel: u16, told: &m
     ensures { λ r. ⌜ Tells (callTold (now (state .entry)) (Request channel)) (now (told .entry)) r (now (told .exit))
         × (now (state .exit) ≡ wordsAfter (now (state .entry)) (Request channel)) ⌝ }
 {
-    let asked = ledger_in(state).request(ChannelNumber::new(channel));
+    let asked = words::ledger_in(state).request(ChannelNumber::new(channel));
     let asking = asked.next;
     let answer = asked.answer;
     match answer {
@@ -385,7 +304,7 @@ pub extern "C" fn rk_ledger_reply(state: &mut [u64; 9], channel: u16, first: u64
     ensures { λ r. ⌜ (r ≡ callTold (now (state .entry)) (Reply channel first status) .number)
         × (now (state .exit) ≡ wordsAfter (now (state .entry)) (Reply channel first status)) ⌝ }
 {
-    let replied = ledger_in(state).reply(
+    let replied = words::ledger_in(state).reply(
         ChannelNumber::new(channel),
         TickNumber::new(first),
         status,
@@ -403,7 +322,7 @@ pub extern "C" fn rk_ledger_reply(state: &mut [u64; 9], channel: u16, first: u64
 pub extern "C" fn rk_ledger_told(state: &[u64; 9], told: &mut [u64; 7]) -> u32
     ensures { λ r. ⌜ Tells (ledgerTold (now (state .entry))) (now (told .entry)) r (now (told .exit)) ⌝ }
 {
-    let ledger = ledger_in(state);
+    let ledger = words::ledger_in(state);
     let missing = ledger.missing();
     let held = ledger.held();
     let given = missing.answer;
@@ -419,8 +338,8 @@ pub extern "C" fn rk_ledger_told(state: &[u64; 9], told: &mut [u64; 7]) -> u32
             top.value(),
             missing.count,
             held.count,
-            first_asked(pending),
-            last_asked(pending),
+            words::first_asked(pending),
+            words::last_asked(pending),
         ];
     }
     answer
@@ -470,7 +389,7 @@ pub extern "C" fn rk_listing(
     ensures { λ r. ⌜ Tells (listingTold (now (records .entry)) frames refused (now (state .entry)) (length (now (text .entry)))) (now (told .entry) ∷ []) r (now (told .exit) ∷ [])
         × (now (text .exit) ≡ listingLeaves (now (records .entry)) frames refused (now (state .entry)) (now (text .entry))) ⌝ }
 {
-    let ledger = ledger_in(state);
+    let ledger = words::ledger_in(state);
     let counted = ledger.missing();
     let given = counted.answer;
     let answer = number_of(given);

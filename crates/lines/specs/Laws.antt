@@ -11,7 +11,7 @@ use Rattle.octets.specs.Octets.{laid, Bytes}
 use Rattle.octets.specs.Numerals.{numeral-below}
 use Rattle.octets.specs.Overlays.{laid-same}
 use Rattle.octets.specs.Papers.{laidIfRoom, laid-there}
-use Rattle.steps.specs.Frames.{joined, eachOf}
+use Rattle.steps.specs.Frames.{joined, eachOf, each-long}
 use Rattle.record.specs.declared.Record.{Record}
 use Rattle.record.specs.declared.Summary.{Summary}
 use Rattle.record.specs.Record.{recordOf, recordAt, blankOf}
@@ -35,9 +35,7 @@ abbrev pub tableOf : List Record → List ℕ
 tableOf rs = joined (eachOf recordOf rs)
 
 pub length-table : (rs : List Record) → length (tableOf rs) ≡ 64 * length rs
-unfolding joined eachOf
-length-table [] = refl
-length-table (r ∷ rs) = simp length-append (rw (length-record r) (omega (arith, length-table rs)))
+length-table = each-long recordOf 64 length-record
 
 -- a record behind other bytes is read from its place on
 record-behind : (at : ℕ) (p c : List ℕ) (r : Record) → length p ≡ at → Fits r → recordAt at (p ++ (recordOf r ++ c)) ≡ r

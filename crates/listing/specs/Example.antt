@@ -17,7 +17,8 @@ use Rattle.record.specs.Listing.{recordA, recordFF, recordB, listing}
 use Rattle.record.specs.Text.{column, named, summaryOf}
 use Rattle.walk.specs.Literal.{walkFrom, literalWalk}
 use Rattle.lines.specs.Listing.{linesOf}
-use Rattle.listing.specs.Output.{listedOf, outputOf}
+use Rattle.lines.specs.Listed.{listedOf}
+use Rattle.listing.specs.Output.{outputOf}
 
 unfoldable pub capture : List ℕ
 capture = frameA (0 ∷ 0 ∷ 0 ∷ 0 ∷ []) (0 ∷ 0 ∷ 0 ∷ 0x8E ∷ []) ++ (0xFF ∷ frameB)

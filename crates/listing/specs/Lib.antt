@@ -1,4 +1,3 @@
 pub mod Output
-pub mod Fit
 pub mod Listed
 pub mod Example

@@ -1,36 +1,25 @@
 -- From the walk's records to the listing: what the text of the walk's records and counts is, and how long it is at most.
 use Prim.Native.Nat.{ℕ, _+_, _*_, _/_, _≤_}
-use mathlib.Core.Path.{_≡_, ap, _∙_}
+use mathlib.Core.Path.{_≡_, ap}
 use mathlib.Core.List.{List}
 use native.Mathlib.Omega.{arith}
 use lib.ListN.{length, take, length-append}
 use Rattle.octets.specs.Octets.{Bytes}
 use Rattle.octets.specs.Overlays.{take-front, length-laid}
-use Rattle.ledger.specs.State.{bookOf, ledgerOf}
-use Rattle.book.specs.Trace.{after}
-use Rattle.book.proofs.Agree.{agrees}
-use Rattle.ledger.proofs.Seam.{book-of}
 use Rattle.record.specs.Lengths.{summary-most}
 use Rattle.walk.specs.declared.Walked.{Walked}
-use Rattle.walk.specs.Walk.{callsOf}
 use Rattle.walk.specs.WalkLaws.{records-few}
-use Rattle.walk.specs.CallLaws.{walk-ledger}
 use Rattle.walk.specs.Literal.{Walk, literalWalk}
 use Rattle.walk.specs.Promises.{literal-walk, Listed}
 use Rattle.lines.specs.Listing.{listingOf}
 use Rattle.lines.specs.Laws.{tableOf, length-table, listing-table, LastFits, lines-most}
-use Rattle.listing.specs.Output.{lastAt, lastBy, listedOf}
-use Rattle.listing.specs.Fit.{walk-fits}
+use Rattle.lines.specs.Fit.{walk-fits}
+use Rattle.lines.specs.Listed.{lastAt, listedOf, walked-book}
+use Rattle.listing.specs.Output.{lastBy}
 
 module _ (s : List ℕ) where
   pub walked-few : length (literalWalk s .records) ≤ 2 * (length s / 29) + 2
   walked-few = rw (ap (λ (w : Walk). length (w .records)) (literal-walk s)) (records-few s)
-
-  -- the walk's ledger is told whole from the code's
-  walked-book : bookOf (ledgerOf (literalWalk s .ledger)) ≡ literalWalk s .ledger
-  walked-book =
-      let e : literalWalk s .ledger ≡ after 100 (callsOf s) = ap (λ (w : Walk). w .ledger) (literal-walk s) ∙ walk-ledger s in
-      rw e (book-of (after 100 (callsOf s)) (agrees 100 (omega arith) (callsOf s) .rules .places))
 
 -- of a capture s, a buffer d that is d′ after the walk, and what the walk answered
 module _ (s d d′ : List ℕ) (x : Walked) (l : Listed (literalWalk s) d d′ x) where

@@ -1,38 +1,17 @@
 -- Document 01, "Fault records and the listing": what the program prints for an input.
 use Prim.Native.Nat.{ℕ}
-use mathlib.Core.List.{List, [], _∷_, _++_}
+use mathlib.Core.List.{List, [], _∷_}
 use lib.Dec.{leb}
 use lib.ListN.{length}
 use Rattle.terms.specs.Paper.{pick}
-use Rattle.terms.specs.Counters.{tickOf}
-use Rattle.book.specs.State.{Book}
 use Rattle.ledger.specs.State.{bookOf}
-use Rattle.book.specs.Calls.{Missing, answerTo}
-use Rattle.book.specs.Words.{valueAt}
 use Rattle.record.specs.declared.Summary.{Summary}
-use Rattle.record.specs.Text.{summaryOf}
 use Rattle.walk.specs.declared.Walked.{Walked}
-use Rattle.walk.specs.Literal.{literalWalk}
-use Rattle.lines.specs.Listing.{linesOf}
+use Rattle.lines.specs.Listed.{lastAt, listedOf}
 
--- "`missing` is the ledger's"
-abbrev pub lastAt : ℕ → ℕ → Book → Summary
-lastAt frames refused b =
-    record {
-      frames = frames;
-      refused = refused;
-      floor = tickOf (b .floor);
-      top = tickOf (b .top);
-      missing = valueAt (answerTo b Missing) 0;
-    }
-
--- of what the code's walk hands back
+-- the last line's numbers, of what the code's walk hands back
 unfoldable pub lastBy : Walked → Summary
 lastBy w = lastAt (w .frames) (w .refused) (bookOf (w .ledger))
-
--- the line of each record of document 01's walk, and the last line
-unfoldable pub listedOf : List ℕ → List ℕ
-listedOf s = linesOf (literalWalk s .records) ++ summaryOf (lastAt (literalWalk s .frames) (literalWalk s .refused) (literalWalk s .ledger))
 
 -- `capture over 65536 bytes`, and a newline
 abbrev pub over : List ℕ

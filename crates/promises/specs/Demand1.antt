@@ -4,6 +4,7 @@
 use Prim.Native.Nat.{ℕ, zero, suc, max}
 use mathlib.Core.Path.{_≡_, refl}
 use mathlib.Core.Bool.{Bool, true, false, _&&_, _||_}
+use mathlib.Core.Logic.{_⊎_, inl, inr}
 use mathlib.Core.List.{List}
 use lib.Dec.{eqb, leb}
 use Rattle.terms.specs.Counters.{tickOf}
@@ -47,6 +48,9 @@ use Rattle.book.specs.Answers.{OnlyTop}
 use Rattle.book.proofs.Answers.{keeps}
 use Rattle.ledger.specs.Papers.{tickPaper, requestPaper, replyPaper, paperOf}
 use Rattle.ledger.specs.Trace.{Promise}
+use Rattle.stream.specs.declared.StreamAnswer.{StreamAnswer}
+use Rattle.stream.specs.declared.StreamAnswer.the-variants as streamed
+use Rattle.stream.specs.Calls.{answerNumber}
 use Rattle.book.specs.Words.{answered}
 use Rattle.ledger.proofs.Promised.{refused-gives-back, far-raises-top}
 use Rattle.terms.proofs.OneAnswer as terms
@@ -61,9 +65,12 @@ use Rattle.ledger.proofs.OneAnswer as ledger
 use Rattle.record.proofs.OneAnswer as «record»
 use Rattle.view.proofs.OneAnswer as view
 use Rattle.walk.proofs.OneAnswer as walk
+use Rattle.stream.proofs.OneAnswer as stream
 use Rattle.lines.proofs.OneAnswer as lines
 use Rattle.clean.proofs.OneAnswer as clean
+use Rattle.words.proofs.OneAnswer as words
 use Rattle.host.proofs.OneAnswer as host
+use Rattle.follow.proofs.OneAnswer as follow
 
 -- "EVERY PUBLIC ENTRY POINT TAKES ALL INPUT": of each public function, the theorem that its promise fixes the answer for all input.
 -- (tools/promises compares these lists with the public functions.)
@@ -194,7 +201,17 @@ walk-answers : Named
 walk-answers =
     let see-one-answer = walk.see-one-answer in
     let offer-one-answer = walk.offer-one-answer in
+    let made-one-answer = walk.made-one-answer in
+    let note-one-answer = walk.note-one-answer in
     let walk-one-answer = walk.walk-one-answer in
+    named
+
+-- stream
+stream-answers : Named
+stream-answers =
+    let Stream-opened-one-answer = stream.Stream-opened-one-answer in
+    let Stream-feed-one-answer = stream.Stream-feed-one-answer in
+    let Stream-close-one-answer = stream.Stream-close-one-answer in
     named
 
 -- lines
@@ -208,6 +225,15 @@ clean-answers : Named
 clean-answers =
     let clean-one-answer = clean.clean-one-answer in
     let is-clean-one-answer = clean.is-clean-one-answer in
+    named
+
+-- words
+words-answers : Named
+words-answers =
+    let ledger-in-one-answer = words.ledger-in-one-answer in
+    let state-of-one-answer = words.state-of-one-answer in
+    let first-asked-one-answer = words.first-asked-one-answer in
+    let last-asked-one-answer = words.last-asked-one-answer in
     named
 
 -- host
@@ -230,6 +256,14 @@ host-answers =
     let rk-listing-one-answer = host.rk-listing-one-answer in
     let rk-clean-one-answer = host.rk-clean-one-answer in
     let rk-is-clean-one-answer = host.rk-is-clean-one-answer in
+    named
+
+-- follow
+follow-answers : Named
+follow-answers =
+    let rk-stream-open-one-answer = follow.rk-stream-open-one-answer in
+    let rk-stream-feed-one-answer = follow.rk-stream-feed-one-answer in
+    let rk-stream-close-one-answer = follow.rk-stream-close-one-answer in
     named
 
 -- "AND REFUSES WHAT IT CAN'T USE WITH A NUMBER FROM DOCUMENT 01"
@@ -319,6 +353,15 @@ pub plain-numbered : (x : Answer) → Numbered (paperOf x .number)
 plain-numbered plain.Done = done refl
 plain-numbered (plain.Refused w) = refused (refusal-in-table w)
 
+-- a stream also gives the two numbers of CR 1, 19 and 29
+pub stream-numbered : (x : StreamAnswer) → Numbered (answerNumber x) ⊎ ((answerNumber x ≡ 19) ⊎ (answerNumber x ≡ 29))
+unfolding inTable
+stream-numbered streamed.Done = inl (done refl)
+stream-numbered streamed.State = inl (refused refl)
+stream-numbered streamed.Closed = inr (inl refl)
+stream-numbered streamed.Places = inr (inr refl)
+stream-numbered streamed.Room = inl (refused refl)
+
 -- "A REFUSAL WRITES NOTHING INTO A LENT BUFFER": of each function that is lent one, that its later contents are fixed, and that a refusal leaves them.
 
 octets-buffers : Named
@@ -364,8 +407,17 @@ record-buffers =
 
 walk-buffers : Named
 walk-buffers =
+    let note-one-buffer = walk.note-one-buffer in
     let walk-one-buffer = walk.walk-one-buffer in
     let walk-refused-keeps = walk.walk-refused-keeps in
+    named
+
+stream-buffers : Named
+stream-buffers =
+    let Stream-feed-one-buffer = stream.Stream-feed-one-buffer in
+    let Stream-feed-refused-keeps = stream.Stream-feed-refused-keeps in
+    let Stream-close-one-buffer = stream.Stream-close-one-buffer in
+    let Stream-close-refused-keeps = stream.Stream-close-refused-keeps in
     named
 
 lines-buffers : Named
@@ -417,6 +469,16 @@ host-buffers =
     let rk-clean-refused-keeps = host.rk-clean-refused-keeps in
     let rk-is-clean-one-buffer = host.rk-is-clean-one-buffer in
     let rk-is-clean-refused-keeps = host.rk-is-clean-refused-keeps in
+    named
+
+follow-buffers : Named
+follow-buffers =
+    let rk-stream-open-one-buffer = follow.rk-stream-open-one-buffer in
+    let rk-stream-open-refused-keeps = follow.rk-stream-open-refused-keeps in
+    let rk-stream-feed-one-buffer = follow.rk-stream-feed-one-buffer in
+    let rk-stream-feed-refused-keeps = follow.rk-stream-feed-refused-keeps in
+    let rk-stream-close-one-buffer = follow.rk-stream-close-one-buffer in
+    let rk-stream-close-refused-keeps = follow.rk-stream-close-refused-keeps in
     named
 
 -- "ONLY A TICK NUMBER TOO FAR AHEAD CHANGES THE LEDGER, AND ONLY ITS KNOWN TOP."

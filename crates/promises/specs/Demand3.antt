@@ -1,6 +1,7 @@
 -- Demand 3, of every row of calls of the code on a ledger that it opened. `Ran channel calls l h` says that the ledger l and the history h come of
 -- the calls, each meeting its promise; h has the calls and their answers alone. Words.antt of `book` tells each word from h.
 use Prim.Native.Nat.{ℕ, _+_, _≤_}
+use mathlib.Core.List.{List}
 use mathlib.Core.Path.{_≡_, ap, _∙_}
 use Rattle.book.specs.State.{Book, StateRules}
 use Rattle.ledger.specs.State.{bookOf}
@@ -16,6 +17,9 @@ use Rattle.book.proofs.Agree.{agrees}
 use Rattle.ledger.proofs.Seam.{book-of}
 use Rattle.ledger.proofs.Promised as Promised
 use Rattle.ledger.proofs.Promised.{ran-is-trace, ran-demand-3}
+use Rattle.words.specs.Words.{bookIn}
+use Rattle.host.specs.Called.{HostRan}
+use Rattle.host.proofs.Promised as Hosted
 
 module _ (channel : ℕ) (opens : channel ≤ 9999) {calls : Calls} {l : Ledger} {h : History} (ran : Ran channel calls l h) where
   all : Demand3 h channel (bookOf l)
@@ -57,7 +61,12 @@ module _ (channel : ℕ) (opens : channel ≤ 9999) {calls : Calls} {l : Ledger}
 pub each-answer : (channel : ℕ) → channel ≤ 9999 → (calls : Calls) → Answers channel calls
 each-answer = Answered.answers
 
--- that opening and each call of the code, by the checker's promise of its `ensures`, are the start and the steps that `Ran` is made of
+-- The same through the host, on the nine words that rk_ledger_open wrote: `HostRan channel calls w h` says that the words w and the history h
+-- come of such calls. What rk_ledger_told then tells are the numbers of h (`host-told` of `host`).
+pub through-the-host : (channel : ℕ) → channel ≤ 9999 → {calls : Calls} {w : List ℕ} {h : History} → HostRan channel calls w h → Demand3 h channel (bookIn w)
+through-the-host = Hosted.host-ran-demand-3
+
+-- that opening and each call of the code, by the checker's promise of its `ensures`, are the start and the steps that `Ran` and `HostRan` are made of
 data Named : Type 0 where
   named : Named
 
@@ -70,4 +79,11 @@ ties =
     let reply-is-step = Promised.reply-is-step in
     let missing-is-step = Promised.missing-is-step in
     let held-is-step = Promised.held-is-step in
+    let open-is-opening = Hosted.open-is-opening in
+    let tick-is-call = Hosted.tick-is-call in
+    let announce-is-call = Hosted.announce-is-call in
+    let request-is-call = Hosted.request-is-call in
+    let reply-is-call = Hosted.reply-is-call in
+    let told-is-missing = Hosted.told-is-missing in
+    let told-is-held = Hosted.told-is-held in
     named

@@ -26,9 +26,10 @@ use Rattle.book.specs.State.{Book, largest, has, soundOf}
 use Rattle.book.specs.Calls.{Call, Tick, Announce, Request, Reply, Missing, Held, tickNumber, replyStatus, isPending, startsAt, elsewhere, ownNumber, checkedOf, numberTo, answerTo, openNumber}
 use Rattle.walk.specs.Walk as walk
 use Rattle.clean.specs.Clean as clean
-use Rattle.host.specs.Told.{Tells}
+use Rattle.words.specs.Told.{Tells}
 use Rattle.host.specs.Frames.{readTold, searchTold, privateTold, entriesTold, entryTold}
-use Rattle.host.specs.Words.{bookIn, callTold, ledgerTold}
+use Rattle.words.specs.Words.{bookIn}
+use Rattle.host.specs.Words.{callTold, ledgerTold}
 use Rattle.host.specs.Captures.{listed, listingTold, cleanTold}
 use Rattle.promises.specs.Demand1.{inTable, Numbered, done, refused, reads-numbered}
 

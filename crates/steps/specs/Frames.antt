@@ -1,9 +1,10 @@
 -- Captures made of frames end to end (CR 13), and the accepted frames of any capture (CR 11).
-use Prim.Native.Nat.{ℕ, zero, suc, _+_, _-_, _≤_}
+use Prim.Native.Nat.{ℕ, zero, suc, _+_, _-_, _*_, _≤_}
 use mathlib.Core.Path.{_≡_, refl, sym, ap, _∙_}
 use mathlib.Core.List.{List, [], _∷_, _++_, append-assoc, append-nil}
 use native.Mathlib.Omega.{arith}
-use lib.ListN.{length, take}
+use native.Mathlib.Nat.{mul-zero, mul-suc}
+use lib.ListN.{length, take, length-append}
 use lib.Seq.{drop-at, length-take-le}
 use Rattle.steps.specs.Walk.{Says, frame, more, bad, Sight, Mode, within, seeking, after, next, found, noted, sightsOf}
 use Rattle.steps.specs.Literal.{sights-skip, from-step}
@@ -87,6 +88,18 @@ each-append : {A B : Type 0} (f : A → B) (a b : List A) → eachOf f (a ++ b) 
 unfolding eachOf
 each-append f [] b = refl
 each-append f (x ∷ a) b = rw (each-append f a b)
+
+-- made into bytes and joined: two lists one behind the other, and how long where each makes n
+module _ {A : Type 0} (f : A → List ℕ) where
+  pub each-joined : (a b : List A) → joined (eachOf f (a ++ b)) ≡ joined (eachOf f a) ++ joined (eachOf f b)
+  unfolding joined eachOf
+  each-joined [] b = refl
+  each-joined (x ∷ a) b = rw (each-joined a b, append-assoc)
+
+  pub each-long : (n : ℕ) → ((x : A) → length (f x) ≡ n) → (xs : List A) → length (joined (eachOf f xs)) ≡ n * length xs
+  unfolding joined eachOf
+  each-long n h [] = sym (mul-zero n)
+  each-long n h (x ∷ xs) = simp length-append (rw (h x, each-long n h xs, mul-suc n (length xs)) (omega arith))
 
 module _ {R : Type 0} (readOf : List ℕ → R) (saysOf : R → Says) where
   -- the readings that were frames, in order: all that figures are counted from

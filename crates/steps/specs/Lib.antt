@@ -3,3 +3,8 @@ pub mod Account
 pub mod Literal
 pub mod Frames
 pub mod Seen
+pub mod Waits
+pub mod Kept
+pub mod WaitLaws
+pub mod Closing
+pub mod Cuts

@@ -38,10 +38,15 @@ module _ {R : Type 0} (readOf : List ℕ → R) (saysOf : R → Says) where
 
 -- NO FRAME IS LOST
 
--- the place q is recorded, or lies inside a recorded frame
+-- the place q lies inside a recorded frame, and is not its first
+pub data Inside {R : Type 0} (saysOf : R → Says) (q : ℕ) : List (Sight R) → Type 0 where
+  i-in : {x : Sight R} {xs : List (Sight R)} (n : ℕ) → saysOf (x .read) ≡ frame n → x .place < q → q < x .place + n → Inside saysOf q (x ∷ xs)
+  i-later : {x : Sight R} {xs : List (Sight R)} → Inside saysOf q xs → Inside saysOf q (x ∷ xs)
+
+-- it is recorded, or lies inside a recorded frame
 pub data Has {R : Type 0} (saysOf : R → Says) (q : ℕ) : List (Sight R) → Type 0 where
   h-at : {x : Sight R} {xs : List (Sight R)} → x .place ≡ q → Has saysOf q (x ∷ xs)
-  h-in : {x : Sight R} {xs : List (Sight R)} (n : ℕ) → saysOf (x .read) ≡ frame n → x .place < q → q < x .place + n → Has saysOf q (x ∷ xs)
+  h-in : {xs : List (Sight R)} → Inside saysOf q xs → Has saysOf q xs
   h-later : {x : Sight R} {xs : List (Sight R)} → Has saysOf q xs → Has saysOf q (x ∷ xs)
 
 module _ {R : Type 0} (readOf : List ℕ → R) (saysOf : R → Says) where
@@ -49,8 +54,12 @@ module _ {R : Type 0} (readOf : List ℕ → R) (saysOf : R → Says) where
   has-behind q [] xs h = h
   has-behind q (x ∷ a) xs h = h-later (has-behind q a xs h)
 
+  pub inside-behind : (q : ℕ) (a xs : List (Sight R)) → Inside saysOf q xs → Inside saysOf q (a ++ xs)
+  inside-behind q [] xs h = h
+  inside-behind q (x ∷ a) xs h = i-later (inside-behind q a xs h)
+
   -- byte i from here on belongs to the frame that the walk stands in
-  abbrev Within : Mode → ℕ → Type 0
+  abbrev pub Within : Mode → ℕ → Type 0
   Within (within k) i = i < k
   Within seeking i = ⊥
 
@@ -64,13 +73,13 @@ module _ {R : Type 0} (readOf : List ℕ → R) (saysOf : R → Says) where
   first seeking p b s xs r = inr (rw (r .1) (h-at refl))
 
   -- what the next byte's mode covers, this byte's mode covers, or the reading noted here does
-  carry : (m : Mode) (p b i : ℕ) (s : List ℕ) (xs : List (Sight R)) (w : Says) → saysOf (readOf (b ∷ s)) ≡ w → Within (next m w) i → Within m (suc i) ⊎ Has saysOf (p + suc i) (noted m w p (readOf (b ∷ s)) ++ xs)
+  pub carry : (m : Mode) (p b i : ℕ) (s : List ℕ) (xs : List (Sight R)) (w : Says) → saysOf (readOf (b ∷ s)) ≡ w → Within (next m w) i → Within m (suc i) ⊎ Inside saysOf (p + suc i) (noted m w p (readOf (b ∷ s)) ++ xs)
   unfolding next after noted found
-  carry (within zero) p b i s xs (frame n) e h = inr (h-in {x = record { place = p; read = readOf (b ∷ s) }} n e (omega arith) (omega arith))
+  carry (within zero) p b i s xs (frame n) e h = inr (i-in {x = record { place = p; read = readOf (b ∷ s) }} n e (omega arith) (omega arith))
   carry (within zero) p b i s xs more e h = absurd h
   carry (within zero) p b i s xs bad e h = absurd h
   carry (within (suc k)) p b i s xs w e h = inl (omega arith)
-  carry seeking p b i s xs (frame n) e h = inr (h-in {x = record { place = p; read = readOf (b ∷ s) }} n e (omega arith) (omega arith))
+  carry seeking p b i s xs (frame n) e h = inr (i-in {x = record { place = p; read = readOf (b ∷ s) }} n e (omega arith) (omega arith))
   carry seeking p b i s xs more e h = absurd h
   carry seeking p b i s xs bad e h = absurd h
 
@@ -82,7 +91,7 @@ module _ {R : Type 0} (readOf : List ℕ → R) (saysOf : R → Says) where
       rw e (first m p b s _ r)
   kept-at m p (suc i) (b ∷ s) h r =
       let e : p + 1 + i ≡ p + suc i = omega arith in
-      ⊎-elim (λ (x : Within (next m (saysOf (readOf (b ∷ s)))) i). carry m p b i s _ _ refl x)
+      ⊎-elim (λ (x : Within (next m (saysOf (readOf (b ∷ s)))) i). ⊎-elim (λ y. inl y) (λ y. inr (h-in y)) (carry m p b i s _ _ refl x))
       (λ x. inr (has-behind (p + suc i) (noted m (saysOf (readOf (b ∷ s))) p (readOf (b ∷ s))) _ (rw e at x)))
       (kept-at (next m (saysOf (readOf (b ∷ s)))) (p + 1) i s (omega arith) r)
 
@@ -137,18 +146,22 @@ all-of saysOf (x ∷ xs) = either (saysOf (x .read)) (all-of saysOf xs)
     either more e = omega arith
     either bad e = omega arith
 
+-- the bytes that the frame stood in still wants, and the refusals that may come before the next frame
+abbrev pub wants : Mode → ℕ
+wants (within k) = k
+wants seeking = 0
+
+abbrev spare : Mode → ℕ
+spare (within k) = 1
+spare seeking = 0
+
+spare-few : (m : Mode) → spare m ≤ 1
+spare-few (within k) = omega arith
+spare-few seeking = omega arith
+
 module _ {R : Type 0} (readOf : List ℕ → R) (saysOf : R → Says)
     (long : (s : List ℕ) (n : ℕ) → saysOf (readOf s) ≡ frame n → 28 ≤ n)
     (there : (s : List ℕ) (n : ℕ) → saysOf (readOf s) ≡ frame n → n ≤ length s) where
-  -- the bytes that the frame stood in still wants, and the refusals that may come before the next frame
-  abbrev wants : Mode → ℕ
-  wants (within k) = k
-  wants seeking = 0
-
-  abbrev spare : Mode → ℕ
-  spare (within k) = 1
-  spare seeking = 0
-
   -- frames have 28 bytes or more, a refusal takes one; behind a refusal comes a frame or nothing
   record Few (m : Mode) (s : List ℕ) (xs : List (Sight R)) : Type 0 where
     bytes : 28 * framesOf saysOf xs + refusedOf saysOf xs + wants m ≤ length s
@@ -198,8 +211,8 @@ module _ {R : Type 0} (readOf : List ℕ → R) (saysOf : R → Says)
       let w = saysOf (readOf (b ∷ s)) in
       few-step m p b s _ w refl (few (next m w) (p + 1) s (wants-next m b s w refl h))
 
-  -- n bytes make at most 2 (n / 29) + 2 readings
-  pub readings-few : (s : List ℕ) → length (sightsOf readOf saysOf (within zero) 0 s) ≤ 2 * (length s / 29) + 2
-  readings-few s =
-      let f = few (within zero) 0 s (omega arith) in
-      omega (arith, f .bytes, f .turns, all-of saysOf (sightsOf readOf saysOf (within zero) 0 s))
+  -- n bytes make at most 2 (n / 29) + 2 readings, whether the first is read or searched from
+  pub readings-few : (m : Mode) (p : ℕ) (s : List ℕ) → wants m ≤ length s → length (sightsOf readOf saysOf m p s) ≤ 2 * (length s / 29) + 2
+  readings-few m p s h =
+      let f = few m p s h in
+      omega (arith, f .bytes, f .turns, spare-few m, all-of saysOf (sightsOf readOf saysOf m p s))

@@ -18,7 +18,7 @@ use Rattle.record.specs.Record.{blankOf}
 use Rattle.steps.specs.Walk.{Sight, within}
 use Rattle.steps.specs.Account as Account
 use Rattle.steps.specs.Account.{accountOf}
-use Rattle.steps.specs.Seen.{Rising, r-nil, r-cons, places-rise, Has, h-at, h-in, h-later, none-lost}
+use Rattle.steps.specs.Seen.{Rising, r-nil, r-cons, places-rise, Inside, i-in, i-later, Has, h-at, h-in, h-later, none-lost}
 use Rattle.walk.specs.declared.Seen.{Seen}
 use Rattle.walk.specs.Seen.{seenOf, saysOf}
 use Rattle.walk.specs.SeenLaws.{says-frame, frame-says, seen-answer}
@@ -87,12 +87,16 @@ pub data Covers (q : ℕ) : List (Sight Seen) → Type 0 where
   covers-here : {x : Sight Seen} {xs : List (Sight Seen)} → x .read .answer ≡ 0 → x .place < q → q < x .place + x .read .size → Covers q (x ∷ xs)
   covers-later : {x : Sight Seen} {xs : List (Sight Seen)} → Covers q xs → Covers q (x ∷ xs)
 
+pub covered : (q : ℕ) (xs : List (Sight Seen)) → Inside saysOf q xs → Covers q xs
+covered q xs (i-in {x = x} {xs = ys} n e l m) =
+    let f = frame-says (x .read) n e in
+    covers-here {x = x} {xs = ys} (f .0) l (rw (f .1) m)
+covered q xs (i-later {x = x} {xs = ys} h) = covers-later (covered q ys h)
+
 either : (b : Book) (q : ℕ) (xs : List (Sight Seen)) → Has saysOf q xs → At q (accountOf recordBy bookBy b xs .records) ⊎ Covers q xs
 unfolding accountOf recordBy madeOf
 either b q xs (h-at {x = x} {xs = ys} e) = inl (at-here {r = recordBy b x} e)
-either b q xs (h-in {x = x} {xs = ys} n e l m) =
-    let f = frame-says (x .read) n e in
-    inr (covers-here {x = x} {xs = ys} (f .0) l (rw (f .1) m))
+either b q xs (h-in h) = inr (covered q xs h)
 either b q xs (h-later {x = x} {xs = ys} h) = ⊎-elim (λ a. inl (at-later a)) (λ c. inr (covers-later c)) (either (bookBy b x) q ys h)
 
 -- a place that reads 0 and lies inside no frame that was read has a record

@@ -1,5 +1,5 @@
 -- How many records there are, whether they fit, and what the walk then answers and leaves.
-use Prim.Native.Nat.{ℕ, _+_, _*_, _/_, _-_, _≤_}
+use Prim.Native.Nat.{ℕ, zero, _+_, _*_, _/_, _-_, _≤_}
 use mathlib.Core.Path.{_≡_, refl, sym, ap, _∙_}
 use mathlib.Core.Bool.{true, false}
 use mathlib.Core.List.{List, [], _∷_}
@@ -14,6 +14,7 @@ use Rattle.book.specs.Calls.{fresh}
 use Rattle.ledger.specs.declared.Ledger.{Ledger}
 use Rattle.steps.specs.Account as Account
 use Rattle.steps.specs.Account.{account-length}
+use Rattle.steps.specs.Walk.{within}
 use Rattle.steps.specs.Seen.{readings-few}
 use Rattle.walk.specs.declared.Passed.{Passed}
 use Rattle.walk.specs.Seen.{seenOf, saysOf}
@@ -30,7 +31,7 @@ one-each s = account-length recordBy bookBy (fresh 100) (sights s)
 
 -- n bytes make at most 2 (n / 29) + 2 records
 pub records-few : (s : List ℕ) → length (walkOf s .records) ≤ 2 * (length s / 29) + 2
-records-few s = rw (one-each s) (readings-few seenOf saysOf (λ t n e. seen-fits t n e .0) (λ t n e. seen-fits t n e .1) s)
+records-few s = rw (one-each s) (readings-few seenOf saysOf (λ t n e. seen-fits t n e .0) (λ t n e. seen-fits t n e .1) (within zero) 0 s (omega arith))
 
 pub counts-all : (s : List ℕ) → framesOf (sights s) + refusedOf (sights s) ≡ length (walkOf s .records)
 counts-all s = counts (sights s) ∙ sym (one-each s)

@@ -193,7 +193,7 @@ fn onward(capture: &[u8], p: usize, seen: Seen) -> usize
 }
 
 // The record of a reading: what was seen, the answer, and the ledger's floor and top after the offer.
-fn made(place: u64, seen: Seen, after: Offered) -> Record
+pub fn made(place: u64, seen: Seen, after: Offered) -> Record
     ensures { λ r. ⌜ r ≡ madeOf place seen (after .answer) (after .ledger .floor) (after .ledger .top) ⌝ }
 {
     let ledger = after.ledger;
@@ -216,7 +216,7 @@ fn made(place: u64, seen: Seen, after: Offered) -> Record
 }
 
 // Lays record k into the table of records, where it has room.
-fn note(out: &mut [u8], k: usize, r: Record)
+pub fn note(out: &mut [u8], k: usize, r: Record)
     ensures { λ _. ⌜ now (out .exit) ≡ notedAt k r (now (out .entry)) ⌝ }
 {
     if k < out.len() / 64 {

@@ -1,5 +1,5 @@
 -- `rk_clean`: the cleaner's paper is told, and the buffer is as it left it. Assumes nothing.
-use Rattle.host.specs.Told.{tells-then, tells-else}
+use Rattle.words.specs.Told.{tells-then, tells-else}
 use borrow.Author.Needs.{needs}
 use Rattle.host.proofs.rk_clean.Statement.{statement}
 use Rattle.host.proofs.rk_clean.Tie as tie

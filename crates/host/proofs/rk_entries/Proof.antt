@@ -4,7 +4,7 @@ use mathlib.Core.Path.{sym, ap, _∙_}
 use mathlib.Core.List.{[], _∷_}
 use Rattle.terms.specs.Paper.{answer}
 use Rattle.rules.specs.Verdicts.{verdictNumber}
-use Rattle.host.specs.Told.{tells-done, tells-why}
+use Rattle.words.specs.Told.{tells-done, tells-why}
 use Rattle.host.specs.Frames.{entriesTold}
 use borrow.Author.Needs.{needs}
 use Rattle.host.proofs.rk_entries.Statement.{statement}

@@ -3,7 +3,7 @@ use mathlib.Core.Path.{sym, ap, _∙_}
 use Rattle.terms.specs.Paper.{answer, one-number}
 use Rattle.entries.specs.Papers.{answerPaper}
 use Rattle.host.specs.Frames.{entry-told, entryTold}
-use Rattle.host.specs.Told.{tells-done, tells-why}
+use Rattle.words.specs.Told.{tells-done, tells-why}
 use borrow.Author.Needs.{needs}
 use Rattle.host.proofs.rk_entry.Statement.{statement}
 use Rattle.host.proofs.rk_entry.Tie as tie

@@ -1,5 +1,5 @@
 -- `rk_ledger_told`: 13, or what the ledger has to tell. Assumes nothing.
-use Rattle.host.specs.Told.{tells-then, tells-else}
+use Rattle.words.specs.Told.{tells-then, tells-else}
 use Rattle.host.specs.Words.{ledger-told}
 use borrow.Author.Needs.{needs}
 use Rattle.host.proofs.rk_ledger_told.Statement.{statement}

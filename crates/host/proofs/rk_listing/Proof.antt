@@ -5,7 +5,7 @@ use Rattle.book.specs.Words.{valueAt}
 use Rattle.book.specs.Calls.{Missing, answerTo}
 use Rattle.ledger.specs.declared.Ledger.{Ledger}
 use Rattle.ledger.specs.State.{bookOf}
-use Rattle.host.specs.Told.{tells-as}
+use Rattle.words.specs.Told.{tells-as}
 use Rattle.host.specs.Captures.{last-line, listing-refused, listing-laid}
 use borrow.Author.Needs.{needs}
 use Rattle.host.proofs.rk_listing.Statement.{statement}

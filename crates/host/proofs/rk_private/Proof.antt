@@ -6,7 +6,7 @@ use Rattle.rules.specs.declared.Kind.{Kind}
 use Rattle.rules.specs.Table.{kind-is}
 use Rattle.scrub.specs.Private.{privateOf, spanAt}
 use Rattle.scrub.specs.declared.Span.{Span}
-use Rattle.host.specs.Told.{tells-done}
+use Rattle.words.specs.Told.{tells-done}
 use Rattle.host.specs.Frames.{spanNumbers, privateTold}
 use borrow.Author.Needs.{needs}
 use Rattle.host.proofs.rk_private.Statement.{statement}

@@ -13,7 +13,7 @@ use Rattle.wire.specs.Places.{read-inside, read-part}
 use Rattle.frame.specs.Papers.{readPaper}
 use Rattle.view.specs.View.{viewOf}
 use Rattle.host.specs.Frames.{read-told, readTold}
-use Rattle.host.specs.Told.{tells-done, tells-why}
+use Rattle.words.specs.Told.{tells-done, tells-why}
 use borrow.Author.Needs.{needs}
 use Rattle.host.proofs.rk_read.Statement.{statement}
 use Rattle.host.proofs.rk_read.Tie as tie

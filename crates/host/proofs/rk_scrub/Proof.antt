@@ -1,5 +1,5 @@
 -- `rk_scrub`: the scrubber's paper is told, and the frame is as it left it. Assumes nothing.
-use Rattle.host.specs.Told.{tells-as}
+use Rattle.words.specs.Told.{tells-as}
 use borrow.Author.Needs.{needs}
 use Rattle.host.proofs.rk_scrub.Statement.{statement}
 use Rattle.host.proofs.rk_scrub.Tie as tie

@@ -3,7 +3,7 @@ use mathlib.Core.Path.{sym, ap, _∙_}
 use native.Mathlib.Omega.{arith}
 use Rattle.terms.specs.Paper.{Paper}
 use Rattle.frame.specs.Papers.{foundPaper}
-use Rattle.host.specs.Told.{perhaps, retold, tells-done, tells-refused}
+use Rattle.words.specs.Told.{perhaps, retold, tells-done, tells-refused}
 use Rattle.host.specs.Frames.{searchTold}
 use borrow.Author.Needs.{needs}
 use Rattle.host.proofs.rk_search.Statement.{statement}

@@ -1,5 +1,5 @@
 -- `rk_write`: the writer's paper is told, and the buffer is as it left it. Assumes nothing.
-use Rattle.host.specs.Told.{tells-as}
+use Rattle.words.specs.Told.{tells-as}
 use borrow.Author.Needs.{needs}
 use Rattle.host.proofs.rk_write.Statement.{statement}
 use Rattle.host.proofs.rk_write.Tie as tie

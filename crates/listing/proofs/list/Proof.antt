@@ -14,7 +14,7 @@ use Rattle.walk.specs.Promises.{Listed, with-room}
 use Rattle.lines.specs.Answered.{answered}
 use Rattle.lines.specs.Laws.{LastFits}
 use Rattle.lines.specs.Listing.{listingOf}
-use Rattle.listing.specs.Output.{listedOf}
+use Rattle.lines.specs.Listed.{listedOf}
 use Rattle.listing.specs.Listed.{walked-few, table-within, listing-is, listing-short}
 use borrow.Author.Needs.{needs}
 use Rattle.listing.proofs.list.Statement.{statement}

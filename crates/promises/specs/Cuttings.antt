@@ -1,0 +1,117 @@
+-- CR 1 in the request's words, of every row of calls of the code on a stream that it opened, refused calls and empty cuts among them. `Row calls x`
+-- says that the stream x comes of the calls, each meeting its promise. `taken` has "the joined bytes of the calls not refused", `ended` says whether
+-- the closing call is among those, and `heard` has what a host then has from its buffers. No capture is too long: `answered` knows no such number.
+use Prim.Native.Nat.{ℕ, _^_, _≤_, _<_}
+use mathlib.Core.Path.{_≡_, sym, ap, _∙_}
+use mathlib.Core.Bool.{true}
+use mathlib.Core.List.{List, _++_}
+use native.Mathlib.Omega.{arith}
+use lib.ListN.{length, drop}
+use Rattle.octets.specs.Octets.{Bytes}
+use Rattle.ledger.specs.State.{bookOf, ledgerOf}
+use Rattle.record.specs.Text.{summaryOf}
+use Rattle.wire.specs.Frame.{readOf}
+use Rattle.walk.specs.Walk.{sights, tableOf}
+use Rattle.walk.specs.Records.{Covers}
+use Rattle.walk.specs.Literal.{Walk, literalWalk}
+use Rattle.walk.specs.Promises.{literal-walk}
+use Rattle.lines.specs.Listing.{linesOf, listingOf}
+use Rattle.lines.specs.Laws.{listing-table}
+use Rattle.lines.specs.Fit.{walk-fits}
+use Rattle.lines.specs.Listed.{lastAt, listedOf, walked-book}
+use Rattle.stream.specs.declared.Stream.{Stream}
+use Rattle.stream.specs.declared.Fed.{Fed}
+use Rattle.stream.specs.declared.StreamAnswer.the-variants.{Done}
+use Rattle.stream.specs.State.{headOf, StreamRules}
+use Rattle.stream.specs.Calls.{Call, cutOf, closes, answerNumber}
+use Rattle.stream.specs.CallLaws.{Promised}
+use Rattle.stream.specs.Answers.{refused-leaves, refused-stream}
+use Rattle.stream.specs.Trace.{Calls, after, given, taken, ended, Row, heard}
+use Rattle.stream.specs.Words.{waitAt, decided, answered}
+use Rattle.stream.proofs.Rules.{rules-facts}
+use Rattle.stream.proofs.Cuttings.{every-cutting, one-state, ran-is, waits-there, waits-first}
+use Rattle.stream.proofs.Promised as Promised
+use Rattle.stream.proofs.Promised.{ran-rules, ran-few, ran-heard, ran-closed, ran-number}
+
+-- "A place that answers 1 waits for more": `waitAt` is such a place, or the end, and every one before it lies inside a frame that was read
+pub waits-for-more : (s : List ℕ) → waitAt s < length s → readOf (drop (waitAt s) s) .number ≡ 1
+waits-for-more = waits-there
+
+pub waits-at-first : (s : List ℕ) (i : ℕ) → i < waitAt s → readOf (drop i s) .number ≡ 1 → Covers i (sights s)
+waits-at-first = waits-first
+
+module _ {calls : Calls} {x : Stream} (row : Row calls x) where
+  -- so far the host has the records below that place; after the closing call, all
+  pub so-far : heard row ≡ tableOf (decided (ended calls) (taken calls))
+  so-far = ran-heard row
+
+  -- the bytes taken have places of 64 bits
+  taken-fits : length (taken calls) < 256 ^ 8
+  taken-fits = omega (arith, every-cutting calls .places, rules-facts (after calls) (every-cutting calls .rules) .places)
+
+  -- "at the closing call what remains is walked by document 01. Records, listing and ledger equal those of the closed walk over the joined bytes of
+  -- the calls not refused, for every cutting."
+  module _ (e : ended calls ≡ true) where
+    pub same-ledger : x .tally .ledger ≡ ledgerOf (literalWalk (taken calls) .ledger)
+    same-ledger = ran-closed row e .1 .ledger ∙ ap (λ (w : Walk). ledgerOf (w .ledger)) (sym (literal-walk (taken calls)))
+
+    -- records given, counts and ledger are those of the walk in document 01's own words
+    pub same-walk : _≡_ {A = Walk} (record { records = given calls; frames = x .tally .frames; refused = x .tally .refused; ledger = bookOf (x .tally .ledger) }) (literalWalk (taken calls))
+    same-walk =
+        let s = taken calls in
+        let c = ran-closed row e in
+        let b : bookOf (x .tally .ledger) ≡ literalWalk s .ledger = ap bookOf same-ledger ∙ walked-book s in
+        rw (b, c .0, c .1 .frames, c .1 .refused) (sym (rw (literal-walk s)))
+
+    pub same-records : heard row ≡ tableOf (literalWalk (taken calls) .records)
+    same-records = so-far ∙ ap tableOf (sym (every-cutting calls .records) ∙ ap (λ (w : Walk). w .records) same-walk)
+
+    pub same-listing : linesOf (given calls) ++ summaryOf (lastAt (x .tally .frames) (x .tally .refused) (bookOf (x .tally .ledger))) ≡ listedOf (taken calls)
+    unfolding listedOf
+    same-listing = ap (λ (w : Walk). linesOf (w .records) ++ summaryOf (lastAt (w .frames) (w .refused) (w .ledger))) same-walk
+
+    -- and so is the text that `lines::put_listing` makes of the bytes that the host has
+    pub same-text : Bytes (taken calls) → listingOf (heard row) (lastAt (x .tally .frames) (x .tally .refused) (bookOf (x .tally .ledger))) ≡ listedOf (taken calls)
+    same-text bytes =
+        let s = taken calls in
+        let last = lastAt (x .tally .frames) (x .tally .refused) (bookOf (x .tally .ledger)) in
+        let g : literalWalk s .records ≡ given calls = ap (λ (w : Walk). w .records) (sym same-walk) in
+        ap (λ (b : List ℕ). listingOf b last) same-records
+        ∙ listing-table (literalWalk s .records) last (walk-fits s bytes taken-fits)
+        ∙ rw g same-listing
+
+  -- "At most 8,191 bytes are kept between calls.": the last of the bytes taken
+  pub few-kept : x .len ≤ 8191
+  few-kept = ran-few row
+
+  pub last-kept : headOf (x .len) (x .kept) ≡ drop (x .place) (taken calls)
+  last-kept = rw (ran-is row) (every-cutting calls .keeps-last)
+
+  pub stream-rules : StreamRules x
+  stream-rules = ran-rules row
+
+  module _ (call : Call) (d d′ : List ℕ) (r : Fed) (p : Promised x (closes call) (cutOf call) d d′ r) where
+    -- "Refusals: 19 for any call after the closing one, then 29 where places would pass 64 bits, then 8 where this call's records don't fit"
+    pub its-number : answerNumber (r .answer) ≡ answered calls call (length d)
+    its-number = ran-number row call d d′ r p
+
+    -- "nothing changes."
+    pub nothing-changes : (r .answer ≡ Done → ⊥) → (r .stream ≡ x) × (d′ ≡ d)
+    nothing-changes w = (refused-stream x (closes call) (cutOf call) d d′ r p w, refused-leaves x (closes call) (cutOf call) d d′ r p w)
+
+-- "for every cutting", before the closing call too: the same bytes taken leave one stream, and one row of records
+pub one-outcome : {calls others : Calls} {x y : Stream} (row : Row calls x) (other : Row others y) → taken calls ≡ taken others → ended calls ≡ ended others
+    → (x ≡ y) × (heard row ≡ heard other)
+one-outcome {calls} {others} row other t e =
+    (ran-is row ∙ one-state calls others t e ∙ sym (ran-is other), so-far row ∙ rw (t, e) (sym (so-far other)))
+
+-- that opening and each call of the code, by the checker's promise of its `ensures`, begin such a row and lengthen it
+data Named : Type 0 where
+  named : Named
+
+ties : Calls → Named
+ties calls =
+    let opened-is-opening = Promised.opened-is-opening in
+    let feed-goes-on = Promised.feed-goes-on {calls = calls} in
+    let close-goes-on = Promised.close-goes-on {calls = calls} in
+    named

@@ -1,0 +1,122 @@
+-- `run`. The invariant: what is left at p, behind the records so far, gives what the whole run gives (`Left`). The measure is what is left
+-- of the window. Assumes nothing.
+use borrow.Author.Needs.{needs}
+use native.Mathlib.Omega.{arith}
+use Prim.Native.Nat.{_+_, _-_, _≤_}
+use mathlib.Core.Path.{_≡_, sym, _∙_}
+use mathlib.Core.Bool.{false}
+use lib.ListN.{length}
+use Rattle.stream.specs.Run.{strideOf, waitsAt}
+use Rattle.stream.specs.RunLaws.{Left, left-start, left-over, left-note, left-wait, left-end, seen-at}
+use Rattle.stream.proofs.run.Statement.{statement}
+use Rattle.stream.proofs.run.Tie as tie
+
+abbrev Inv-loop : tie.InvT-loop
+Inv-loop w base seek closing k out₀ p₀ seeking₀ count₀ tally₀ out p seeking count tally = Left w out₀ base seeking₀ closing tally₀ count₀ out p seeking count tally
+
+abbrev μ-loop : tie.MeasureT-loop
+μ-loop w base seek closing k out₀ p₀ seeking₀ count₀ tally₀ out p seeking count tally = length w - p
+
+-- the place does not wait
+not-waiting : (c : tie.Else1 Inv-loop μ-loop) → waitsAt (c .before .before .before .before .before .before .before .args .closing) (c .before .before .see .result .answer) ≡ false
+not-waiting c = sym (c .before .waits .ensures) ∙ c .if1 .left
+
+-- how far a reading goes
+far : (c : tie.Else2 Inv-loop μ-loop) → (1 ≤ strideOf (c .before .before .before .before .see .result)) × (c .before .before .before .before .before .before .loop .p + strideOf (c .before .before .before .before .see .result) ≤ length (c .before .before .before .before .before .before .before .before .before .args .w .now))
+far c =
+    seen-at (c .before .before .before .before .before .before .loop .seeking) (c .before .before .before .before .before .before .before .before .before .args .closing) (c .before .before .before .before .before .before .before .before .before .args .base) (c .before .before .before .before .before .before .loop .p) (c .before .before .before .before .before .before .before .before .before .args .w .now) (c .before .before .before .before .see .result) (omega arith) (c .before .before .before .before .see .ensures)
+    (not-waiting (c .before .before)) (sym (c .before .passes .ensures) ∙ c .if2 .left) .1
+
+loop-holds : tie.Need-loop-holds Inv-loop μ-loop
+loop-holds c = left-start _ _ _ _ _ _ _ (c .before .before .pre .1 .1)
+
+see-requires : tie.Need-see-requires Inv-loop μ-loop
+see-requires c κs = search needs
+
+waits-requires : tie.Need-waits-requires Inv-loop μ-loop
+waits-requires c κs = search needs
+
+passes-requires : tie.Need-passes-requires Inv-loop μ-loop
+passes-requires c κs = search needs
+
+add-p : tie.Need-add-p Inv-loop μ-loop
+add-p c = omega arith
+
+loop-less : tie.Need-loop-less Inv-loop μ-loop
+loop-less c = omega arith
+
+loop-again : tie.Need-loop-again Inv-loop μ-loop
+loop-again c = left-over _ _ _ _ _ _ _ _ _ _ _ _ (c .before .before .before .before .before .before .loop .inv) _ (omega arith) (c .before .before .before .before .see .ensures) (not-waiting (c .before .before)) (sym (c .before .passes .ensures) ∙ c .if2 .taken)
+
+offer-requires : tie.Need-offer-requires Inv-loop μ-loop
+offer-requires c κs = search needs
+
+add-made : tie.Need-add-made Inv-loop μ-loop
+add-made c = search needs
+
+made-requires : tie.Need-made-requires Inv-loop μ-loop
+made-requires c κs = search needs
+
+note-requires : tie.Need-note-requires Inv-loop μ-loop
+note-requires c κs = search needs
+
+stride-requires : tie.Need-stride-requires Inv-loop μ-loop
+stride-requires c κs = search needs
+
+add-p-2 : tie.Need-add-p-2 Inv-loop μ-loop
+add-p-2 c = omega (arith, c .stride .ensures, far (c .before .before .before .before .before .before .before .before) .1, c .before .before .before .before .before .before .before .before .before .before .before .before .before .before .before .before .before .pre .0)
+
+add-count : tie.Need-add-count Inv-loop μ-loop
+add-count c = omega (arith, c .before .before .before .before .before .before .before .before .before .before .before .before .before .before .loop .inv .few, c .before .before .before .before .before .before .before .before .before .before .before .before .before .before .before .before .before .pre .1 .0)
+
+counted-requires : tie.Need-counted-requires Inv-loop μ-loop
+counted-requires c κs = omega (arith, c .before .before .before .before .before .before .before .before .before .before .before .before .before .before .before .loop .inv .counts, c .before .before .before .before .before .before .before .before .before .before .before .before .before .before .before .before .before .before .pre .0)
+
+loop-less-2 : tie.Need-loop-less-2 Inv-loop μ-loop
+loop-less-2 c = omega (arith, c .before .before .stride .ensures, far (c .before .before .before .before .before .before .before .before .before .before) .0, far (c .before .before .before .before .before .before .before .before .before .before) .1)
+
+loop-again-2 : tie.Need-loop-again-2 Inv-loop μ-loop
+loop-again-2 c =
+    rw (c .before .before .stride .ensures)
+    (left-note _ _ _ _ _ _ _ _ _ _ _ _ (c .before .before .before .before .before .before .before .before .before .before .before .before .before .before .before .before .loop .inv) _ _ _ _ _ (c .before .before .before .before .before .before .before .before .before .before .before .before .before .before .before .loop-test .taken) (c .before .before .before .before .before .before .before .before .before .before .before .before .before .before .see .ensures) (not-waiting (c .before .before .before .before .before .before .before .before .before .before .before .before)) (sym (c .before .before .before .before .before .before .before .before .before .before .before .passes .ensures) ∙ c .before .before .before .before .before .before .before .before .before .before .if2 .left)
+    (c .before .before .before .before .before .before .before .before .offer .ensures) (c .before .before .before .before .before .before .made .ensures) (c .counted .ensures) (c .before .before .before .before .before .note .ensures))
+
+same-length : tie.Need-same-length Inv-loop μ-loop
+same-length c = c .before .loop .inv .room
+
+returns : tie.Need-returns Inv-loop μ-loop
+returns c = left-end _ _ _ _ _ _ _ _ _ _ _ _ (c .before .loop .inv) (c .loop-test .left)
+
+same-length-2 : tie.Need-same-length-2 Inv-loop μ-loop
+same-length-2 c = c .before .before .before .before .loop .inv .room
+
+returns-2 : tie.Need-returns-2 Inv-loop μ-loop
+returns-2 c = left-wait _ _ _ _ _ _ _ _ _ _ _ _ (c .before .before .before .before .loop .inv) _ (omega arith) (c .before .before .see .ensures) (sym (c .before .waits .ensures) ∙ c .if1 .taken)
+
+pub run-spec : {M : Type 1} → statement M
+run-spec =
+    tie.close
+    (tie.spec
+    Inv-loop
+    μ-loop
+    loop-holds
+    see-requires
+    waits-requires
+    passes-requires
+    add-p
+    loop-less
+    loop-again
+    offer-requires
+    add-made
+    made-requires
+    note-requires
+    stride-requires
+    add-p-2
+    add-count
+    counted-requires
+    loop-less-2
+    loop-again-2
+    same-length
+    returns
+    same-length-2
+    returns-2)
