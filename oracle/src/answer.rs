@@ -41,10 +41,14 @@ pub enum No {
     Status,
     /// 18: call names another channel
     Channel,
+    /// 19: any call after the closing one (CR 1)
+    Closed,
     /// 20: the entry reader's body is below 73 bytes, its place is not
     /// 73 + k sizes with k below NoMDEntries, or that entry passes the body's
     /// end
     Entries,
+    /// 29: places would pass 64 bits (CR 1)
+    Places,
 }
 
 impl No {
@@ -67,7 +71,9 @@ impl No {
             No::Unasked => 16,
             No::Status => 17,
             No::Channel => 18,
+            No::Closed => 19,
             No::Entries => 20,
+            No::Places => 29,
         }
     }
 }

@@ -1,9 +1,10 @@
-//! The second, independent program: document 01 written down plainly.
+//! The second, independent program: document 01 written down plainly, and CR 1
+//! of document 02.
 //!
 //! Nothing here was taken from the proved crates. Each module follows the
 //! section of document 01 that it is named after, and quotes its rules; what
-//! the document leaves open follows the list of decided points (0.1 to 0.19),
-//! cited by number.
+//! the documents leave open follows the list of decided points (0.1 to 0.19,
+//! 1.1 to 1.6), cited by number.
 
 pub mod answer;
 pub mod bytes;
@@ -15,5 +16,6 @@ pub mod numbers;
 pub mod record;
 pub mod rules;
 pub mod scrub;
+pub mod stream;
 pub mod vectors;
 pub mod walk;

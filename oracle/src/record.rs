@@ -1,5 +1,6 @@
 //! Fault records, their listing lines and the summary line.
 
+use crate::answer::No;
 use crate::bytes::{number, put};
 use crate::numbers::{Channel, Session, Tick};
 
@@ -88,6 +89,18 @@ impl Record {
         line.extend_from_slice(rest.as_bytes());
         line
     }
+}
+
+/// "Records go to a lent buffer; if it can't take all of them, 8, nothing is
+/// written". A buffer of 64 k + r bytes takes k records (0.18).
+pub fn lay(records: &[Record], buffer: &mut [u8]) -> Result<(), No> {
+    if buffer.len() / SIZE < records.len() {
+        return Err(No::Room);
+    }
+    for (i, record) in records.iter().enumerate() {
+        buffer[i * SIZE..(i + 1) * SIZE].copy_from_slice(&record.bytes());
+    }
+    Ok(())
 }
 
 /// The last line of a listing. "`frames` counts readings answered 0, `refused`

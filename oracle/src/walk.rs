@@ -1,11 +1,11 @@
 //! The walk over a capture: one record for each reading.
 
-use crate::answer::{number, No};
+use crate::answer::{number, No, DONE};
 use crate::bytes;
 use crate::frame::{read, search, Message};
 use crate::ledger::Ledger;
 use crate::numbers::{Channel, Tick};
-use crate::record::{Record, SIZE};
+use crate::record::{lay, Record};
 use crate::rules::Kind;
 
 /// "The walk opens a ledger for channel 100."
@@ -35,6 +35,36 @@ fn numbers_of(message: &Message) -> (Channel, Tick) {
     }
 }
 
+/// The record of a frame that reads at a place, and the ledger after it. "On 0
+/// it offers M201 and P001 to the ledger (the record's answer is the ledger's,
+/// its floor and top those after the call)". A P002 is never offered (0.14).
+pub fn offered(place: u64, message: &Message, ledger: Ledger) -> (Record, Ledger) {
+    let (channel, tick) = numbers_of(message);
+    let (ledger, answer) = match Kind::of(message.msg_type) {
+        Some(Kind::M201) => {
+            let (next, answer) = ledger.tick(channel, tick);
+            (next, number(&answer))
+        }
+        Some(Kind::P001) => {
+            let (next, answer) = ledger.announce(channel, tick);
+            (next, number(&answer))
+        }
+        _ => (ledger, DONE),
+    };
+    let record = Record {
+        place,
+        msg_type: message.msg_type,
+        answer,
+        seq: message.seq,
+        tick,
+        channel,
+        body_length: message.body.len() as u32,
+        floor: ledger.floor,
+        top: ledger.top,
+    };
+    (record, ledger)
+}
+
 /// The walk itself, with as many records as it makes.
 pub fn records(capture: &[u8]) -> (Vec<Record>, Walked) {
     let (mut ledger, _) = Ledger::open(CHANNEL);
@@ -47,36 +77,11 @@ pub fn records(capture: &[u8]) -> (Vec<Record>, Walked) {
         // "At each place it reads."
         match read(&capture[place..]) {
             Ok(message) => {
-                let (channel, tick) = numbers_of(&message);
-                // "On 0 it offers M201 and P001 to the ledger (the record's
-                // answer is the ledger's, its floor and top those after the
-                // call) and steps past the frame." A P002 is never offered
-                // (0.14).
-                let answer = match Kind::of(message.msg_type) {
-                    Some(Kind::M201) => {
-                        let (next, answer) = ledger.tick(channel, tick);
-                        ledger = next;
-                        number(&answer)
-                    }
-                    Some(Kind::P001) => {
-                        let (next, answer) = ledger.announce(channel, tick);
-                        ledger = next;
-                        number(&answer)
-                    }
-                    _ => 0,
-                };
-                made.push(Record {
-                    place: place as u64,
-                    msg_type: message.msg_type,
-                    answer,
-                    seq: message.seq,
-                    tick,
-                    channel,
-                    body_length: message.body.len() as u32,
-                    floor: ledger.floor,
-                    top: ledger.top,
-                });
+                let (record, next) = offered(place as u64, &message, ledger);
+                made.push(record);
+                ledger = next;
                 frames += 1;
+                // "and steps past the frame"
                 place += message.frame_length();
             }
             Err(no) => {
@@ -110,7 +115,7 @@ pub fn records(capture: &[u8]) -> (Vec<Record>, Walked) {
 /// then 0 (0.18).
 pub fn walk(capture: &[u8], buffer: &mut [u8]) -> (Walked, Result<(), No>) {
     let (made, walked) = records(capture);
-    if buffer.len() / SIZE < made.len() {
+    if let Err(no) = lay(&made, buffer) {
         let (ledger, _) = Ledger::open(CHANNEL);
         let nothing = Walked {
             records: 0,
@@ -118,10 +123,7 @@ pub fn walk(capture: &[u8], buffer: &mut [u8]) -> (Walked, Result<(), No>) {
             refused: 0,
             ledger,
         };
-        return (nothing, Err(No::Room));
-    }
-    for (i, record) in made.iter().enumerate() {
-        buffer[i * SIZE..(i + 1) * SIZE].copy_from_slice(&record.bytes());
+        return (nothing, Err(no));
     }
     (walked, Ok(()))
 }

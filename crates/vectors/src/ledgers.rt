@@ -162,7 +162,7 @@ fn range(first: u64, last: u64) -> Pending {
     }
 }
 
-fn ledger_of(channel: u64, floor: u64, top: u64, map: Map, pending: Pending) -> Ledger {
+pub fn ledger_of(channel: u64, floor: u64, top: u64, map: Map, pending: Pending) -> Ledger {
     Ledger {
         channel: channel_of(channel),
         floor: TickNumber::new(floor),
@@ -498,7 +498,7 @@ struct Run {
     twelve: u64,
 }
 
-fn one_if(yes: bool) -> u64 {
+pub fn one_if(yes: bool) -> u64 {
     if yes { 1 } else { 0 }
 }
 

@@ -1,5 +1,6 @@
 // Runs every case of docs/VECTORS.md, whose text it takes from standard input, and prints what came out.
 mod buffer;
+mod cuts;
 mod frames;
 mod generator;
 mod hand;
@@ -18,7 +19,7 @@ struct Cases {
 }
 
 // The parts in the order printed.
-const PARTS: usize = 19;
+const PARTS: usize = 25;
 
 fn from(first: u64, count: u64) -> Cases {
     Cases { first, count }
@@ -54,7 +55,13 @@ fn cases_of(part: usize, r: &[u8]) -> Cases {
         15 => from(1000, 120), // 5.9
         16 => from(1000, 6), // 5.10
         17 => rows_of(r, rows::ENTRY, 5), // 5.11
-        _ => from(1000, 100),
+        18 => from(1000, 100),
+        19 => from(0, 11), // 5.12
+        20 => from(0, 5),
+        21 => from(200, 3),
+        22 => from(300, 1),
+        23 => rows_of(r, rows::STREAM, 12),
+        _ => from(1000, 120),
     }
 }
 
@@ -101,12 +108,25 @@ fn counting(part: usize, case: u64, r: &[u8], b: &mut [u8], t: &mut [u8]) {
     }
 }
 
+// A case of bytes that arrive in cuts.
+fn streaming(part: usize, case: u64, r: &[u8], b: &mut [u8], out: &mut [u8], t: &mut [u8]) {
+    match part {
+        19 => cuts::every_cut(t, b, out, r, case),
+        20 => cuts::byte_by_byte(t, b, out, r, case),
+        21 => cuts::long_frame(t, b, out, case),
+        22 => cuts::last_places(t, b, out, r, case),
+        23 => cuts::row(t, b, out, r, case),
+        _ => cuts::generated(t, b, out, case),
+    }
+}
+
 fn run_case(part: usize, case: u64, r: &[u8], b: &mut [u8], out: &mut [u8], t: &mut [u8]) {
     match part {
         0..=2 | 7..=8 => reading(part, case, r, b, t),
         3..=6 => writing(part, case, r, b, out, t),
         9..=13 => walking(part, case, r, b, out, t),
-        _ => counting(part, case, r, b, t),
+        14..=18 => counting(part, case, r, b, t),
+        _ => streaming(part, case, r, b, out, t),
     }
 }
 

@@ -19,11 +19,13 @@ pub const ENTRY: usize = 5;
 
 pub const PLACES: usize = 6;
 
+pub const STREAM: usize = 7;
+
 // What stands for `*`.
 pub const STAR: u64 = 9999;
 
 // How many bytes all tables take, each with room for 2,999 cells and their number.
-pub const SIZE: usize = 168000;
+pub const SIZE: usize = 192000;
 
 const TABLE: usize = 24000;
 
@@ -51,7 +53,7 @@ const NAMED: u64 = 4;
 const REMARK: u64 = 5;
 
 fn start_of(table: usize) -> usize {
-    (table % 7) * TABLE
+    (table % 8) * TABLE
 }
 
 // How many cells a table has.

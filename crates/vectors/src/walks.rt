@@ -29,14 +29,14 @@ fn rec_line(t: &mut [u8], out: &[u8], case: u64, k: usize) {
     listed(t, n, buffer::part(out, at, 64), record::record_at(out, at));
 }
 
-fn rec_lines(t: &mut [u8], out: &[u8], case: u64, records: usize) {
+pub fn rec_lines(t: &mut [u8], out: &[u8], case: u64, records: usize) {
     for k in 0..records {
         rec_line(t, out, case, k);
     }
 }
 
 // The line `sum`.
-fn sum_line(t: &mut [u8], case: u64, frames: u64, refused: u64, l: Ledger) {
+pub fn sum_line(t: &mut [u8], case: u64, frames: u64, refused: u64, l: Ledger) {
     let counted = l.missing();
     let s = Summary {
         frames,

@@ -6,6 +6,7 @@ mod make;
 mod page;
 mod print;
 mod readers;
+mod streams;
 mod walks;
 
 use make::Maker;
@@ -27,6 +28,7 @@ pub fn vectors(inputs: bool) -> Vec<u8> {
     ledgers::generated(&mut maker, &mut print);
     ledgers::runs(&mut maker, &mut print);
     readers::entries(&mut maker, &mut print);
+    streams::streaming(&mut maker, &mut print);
     print.text()
 }
 
@@ -34,7 +36,7 @@ pub fn vectors(inputs: bool) -> Vec<u8> {
 pub fn rows() -> Vec<u8> {
     let mut out = String::new();
     for name in [
-        "read", "write", "capture", "state", "ledger", "entry", "places",
+        "read", "write", "capture", "state", "ledger", "entry", "places", "stream",
     ] {
         out += &format!("{name}\n");
         for row in page::rows(name) {
@@ -71,7 +73,7 @@ mod tests {
     fn the_text_is_of_a_size_to_be_stored() {
         let text = text();
         let lines = text.lines().count();
-        assert!((3_000..=8_000).contains(&lines), "{lines} lines");
+        assert!((3_000..=20_000).contains(&lines), "{lines} lines");
         assert!(text.len() < 2_000_000, "{} bytes", text.len());
         assert!(text.ends_with('\n'));
         assert!(text
@@ -88,8 +90,8 @@ mod tests {
             let items: Vec<&str> = line.split(' ').collect();
             let answer = match items[0] {
                 "read" | "write" | "scrub" | "missing" | "held" => 2,
-                "open" | "request" | "reader" | "step" => 3,
-                "walk" | "search" | "tick" | "announce" => 4,
+                "open" | "request" | "reader" | "step" | "close" => 3,
+                "walk" | "search" | "tick" | "announce" | "feed" => 4,
                 "reply" => 5,
                 _ => continue,
             };
@@ -97,7 +99,7 @@ mod tests {
                 .or_default()
                 .insert(items[answer].parse().unwrap());
         }
-        let expected: [(&str, &[u64]); 14] = [
+        let expected: [(&str, &[u64]); 16] = [
             ("read", &[0, 1, 2, 3, 4, 5, 6]),
             ("write", &[0, 2, 3, 4, 6, 8]),
             ("scrub", &[0, 1, 2, 3, 4, 5, 6]),
@@ -112,6 +114,8 @@ mod tests {
             ("tick", &[0, 10, 11, 12, 13, 18]),
             ("announce", &[0, 10, 13, 18]),
             ("reply", &[0, 13, 16, 17, 18]),
+            ("feed", &[0, 8, 13, 19, 29]),
+            ("close", &[0, 8, 13, 19]),
         ];
         for (word, answers) in expected {
             let set: BTreeSet<u64> = answers.iter().copied().collect();

@@ -109,6 +109,7 @@ mod tests {
             ("state", 10),
             ("ledger", 4),
             ("entry", 5),
+            ("stream", 12),
         ];
         for (name, width) in blocks {
             let rows = rows(name);

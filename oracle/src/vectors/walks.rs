@@ -12,7 +12,7 @@ use crate::rules::KINDS;
 use crate::walk::walk;
 
 /// 5.4: the captures made by hand.
-fn captures(maker: &mut Maker) -> Vec<Vec<u8>> {
+pub fn captures(maker: &mut Maker) -> Vec<Vec<u8>> {
     let rows = rows("capture");
     let count = 1 + rows.iter().map(|r| r[0].get()).max().unwrap();
     (0..count)
@@ -82,6 +82,14 @@ pub fn searching(maker: &mut Maker, print: &mut Print) {
     }
 }
 
+/// A record in hex and its listing line.
+pub fn print_record(print: &mut Print, case: u64, bytes: &[u8; SIZE]) {
+    print
+        .line("rec", case)
+        .hex(bytes)
+        .listed(&Record::of(bytes).line());
+}
+
 fn print_walk(print: &mut Print, case: u64, capture: &[u8], room: usize) {
     print.input(case, capture);
     let mut buffer = [0xA5; 18_432];
@@ -104,10 +112,7 @@ fn print_walk(print: &mut Print, case: u64, capture: &[u8], room: usize) {
     }
     for chunk in buffer[..written].chunks(SIZE) {
         let bytes: [u8; SIZE] = chunk.try_into().expect("records have 64 bytes");
-        print
-            .line("rec", case)
-            .hex(&bytes)
-            .listed(&Record::of(&bytes).line());
+        print_record(print, case, &bytes);
     }
     let ledger = walked.ledger;
     let missing = ledger.missing().1.expect("the walk keeps the state rules");

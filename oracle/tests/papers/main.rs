@@ -10,3 +10,4 @@ mod marked;
 mod properties;
 mod samples;
 mod scrubbing;
+mod streams;

@@ -11,10 +11,10 @@ use oracle::walk::records;
 use std::collections::BTreeSet;
 
 /// A generator of the tests' own.
-struct Dice(u64);
+pub struct Dice(pub u64);
 
 impl Dice {
-    fn roll(&mut self, n: u64) -> u64 {
+    pub fn roll(&mut self, n: u64) -> u64 {
         self.0 ^= self.0 << 13;
         self.0 ^= self.0 >> 7;
         self.0 ^= self.0 << 17;
@@ -52,7 +52,7 @@ impl Dice {
     }
 
     /// Frames with stray bytes and damage between them.
-    fn capture(&mut self) -> Vec<u8> {
+    pub fn capture(&mut self) -> Vec<u8> {
         let mut capture = Vec::new();
         for _ in 0..self.roll(12) {
             let (msg_type, body) = self.body();

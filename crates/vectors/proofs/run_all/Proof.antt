@@ -10,7 +10,7 @@ abbrev Inv-loop : tie.InvT-loop
 Inv-loop r b₀ out₀ t₀ part₀ b out t part = (length b ≡ length b₀) × (length out ≡ length out₀) × (length t ≡ length t₀)
 
 abbrev μ-loop : tie.MeasureT-loop
-μ-loop r b₀ out₀ t₀ part₀ b out t part = 19 - part
+μ-loop r b₀ out₀ t₀ part₀ b out t part = 25 - part
 
 pub run-all-spec : {M : Type 1} → statement M
 run-all-spec =
