@@ -6,7 +6,7 @@ use crate::capture::shown;
 use crate::Trouble;
 
 pub const HELP: &str = "\
-usage: rietknoest list [FILE]
+usage: rietknoest list [--follow] [FILE]
        rietknoest scrub IN -o OUT [--whole]
        rietknoest check FILE
        rietknoest explain FILE PLACE
@@ -15,9 +15,11 @@ usage: rietknoest list [FILE]
 list     prints a line for each reading of a capture: place, type (---- where
          it was refused), answer, MsgSeqNum, channel, tick number, floor, top;
          then a line that counts. Without FILE it lists standard input.
+         With --follow each line comes as soon as its reading is decided.
 scrub    writes the capture's good frames to OUT, each with its private fields
-         painted over. Bytes that are no frame are left out; it says how many
-         on standard error. With --whole it writes nothing where there is one.
+         painted over, as they arrive. Bytes that are no frame are left out; it
+         says how many on standard error. With --whole it reads all of IN first,
+         and writes nothing where there is one.
 check    says whether a capture is clean: whether scrubbing it would change no
          byte. If not, at which place, and in which field. It can't tell a
          frame that came out of private bytes (docs/PRIVATE.md).
@@ -36,6 +38,7 @@ pub enum Command {
     Version,
     List {
         file: OsString,
+        follow: bool,
     },
     Scrub {
         from: OsString,
@@ -68,12 +71,14 @@ fn command(name: &str, mut words: impl Iterator<Item = OsString>) -> Result<Comm
     let mut files = Vec::new();
     let mut to = None;
     let mut whole = false;
+    let mut follow = false;
     let mut options = true;
     while let Some(word) = words.next() {
         match word.to_str() {
             Some("--") if options => options = false,
             Some("--help") if options => return Ok(Command::Help),
             Some("--whole") if options && name == "scrub" => whole = true,
+            Some("--follow") if options && name == "list" => follow = true,
             Some("-o") if options && name == "scrub" => match words.next() {
                 Some(out) if to.is_none() => to = Some(out),
                 Some(_) => return wrong("scrub: -o is given twice"),
@@ -94,7 +99,7 @@ fn command(name: &str, mut words: impl Iterator<Item = OsString>) -> Result<Comm
         return wrong(format!("{name}: it takes one file"));
     };
     match (name, to) {
-        ("list", _) => Ok(Command::List { file }),
+        ("list", _) => Ok(Command::List { file, follow }),
         ("check", _) => Ok(Command::Check { file }),
         (_, Some(to)) => Ok(Command::Scrub {
             from: file,

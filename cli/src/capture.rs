@@ -1,13 +1,13 @@
-//! A capture read whole, and the walk over it.
+//! A capture, read whole or piece by piece, and the walk over it.
 
 use std::ffi::OsStr;
 use std::fs::{File, Metadata};
 use std::hint::black_box;
-use std::io::{self, Read};
+use std::io::{self, ErrorKind, Read};
 use std::os::fd::AsFd;
 use std::os::unix::fs::MetadataExt;
 
-use rietknoest_host::{records_room, Walked, RECORD};
+use rietknoest_host::{records_room, Stream, Walked, KEPT, RECORD};
 
 use crate::Trouble;
 
@@ -29,7 +29,7 @@ pub fn is_standard(name: &OsStr) -> bool {
 }
 
 /// Which file it is, whatever it is called: device and inode.
-#[derive(PartialEq, Eq)]
+#[derive(Clone, Copy, PartialEq, Eq)]
 pub struct Identity(u64, u64);
 
 impl Identity {
@@ -38,45 +38,128 @@ impl Identity {
     }
 }
 
-/// The metadata of an open file that this program was started with.
-pub fn metadata_of(open: impl AsFd) -> io::Result<Metadata> {
-    File::from(open.as_fd().try_clone_to_owned()?).metadata()
+/// A file that this program was started with, as one of its own.
+pub fn opened(standard: impl AsFd) -> io::Result<File> {
+    Ok(File::from(standard.as_fd().try_clone_to_owned()?))
+}
+
+/// At most so many bytes are read at once.
+const PIECE: usize = 65_536;
+
+/// An open capture, of which nothing is read so far.
+pub struct Source {
+    /// Its name as it is shown.
+    pub name: String,
+    pub identity: Identity,
+    file: File,
+}
+
+impl Source {
+    pub fn open(name: &OsStr) -> Result<Source, Trouble> {
+        let (name, file) = if is_standard(name) {
+            ("standard input".to_string(), opened(io::stdin()))
+        } else {
+            (shown(name), File::open(name))
+        };
+        match file.and_then(|file| Ok((Identity::of(&file.metadata()?), file))) {
+            Ok((identity, file)) => Ok(Source {
+                name,
+                identity,
+                file,
+            }),
+            Err(error) => Err(Trouble::of(&name, &error)),
+        }
+    }
+
+    /// All of it.
+    pub fn whole(mut self) -> Result<Capture, Trouble> {
+        let mut bytes = Vec::new();
+        match self.file.read_to_end(&mut bytes) {
+            Ok(_) => Ok(Capture {
+                name: self.name,
+                bytes,
+            }),
+            Err(error) => Err(Trouble::of(&self.name, &error)),
+        }
+    }
+
+    /// What is there of it, at least a byte and at most as many as there is room for; no byte at its end.
+    fn piece(&mut self, room: &mut [u8]) -> Result<usize, Trouble> {
+        loop {
+            match self.file.read(room) {
+                Err(error) if error.kind() == ErrorKind::Interrupted => {}
+                read => return read.map_err(|error| Trouble::of(&self.name, &error)),
+            }
+        }
+    }
+
+    /// Walks it while it arrives, and tells each step as soon as it is decided; the last one at its end.
+    pub fn follow(
+        mut self,
+        mut tell: impl FnMut(Step) -> Result<(), Trouble>,
+    ) -> Result<(), Trouble> {
+        let mut stream = Stream::open();
+        // the bytes that wait, then those of a piece
+        let mut bytes = vec![0; KEPT + PIECE];
+        let mut records = vec![0; records_room(bytes.len())];
+        let mut waiting = 0;
+        loop {
+            let read = self.piece(&mut bytes[waiting..][..PIECE])?;
+            let end = waiting + read;
+            let fed = if read == 0 {
+                stream.close(&mut records)
+            } else {
+                stream.feed(&bytes[waiting..end], &mut records)
+            };
+            let fed = fed.map_err(|refusal| Trouble::refused(&self.name, refusal))?;
+            waiting = fed.waiting as usize;
+            let decided = end - waiting;
+            let given = fed.records as usize;
+            tell(Step {
+                bytes: &bytes[..decided],
+                records: &records[..given * RECORD],
+                walked: Walked {
+                    records: given,
+                    frames: fed.frames,
+                    refused: fed.refused,
+                    ledger: stream.ledger,
+                },
+                is_last: read == 0,
+            })?;
+            if read == 0 {
+                return Ok(());
+            }
+            bytes.copy_within(decided..end, 0);
+        }
+    }
+}
+
+/// What became decided of a capture that arrives.
+pub struct Step<'a> {
+    /// From where the step before ended.
+    pub bytes: &'a [u8],
+    /// Of the readings in these bytes.
+    pub records: &'a [u8],
+    /// The counts from the capture's start on and the ledger behind them, with the number of these records.
+    pub walked: Walked,
+    pub is_last: bool,
+}
+
+/// Whether a record is of a reading that was refused: its type is blank.
+pub fn is_refused(record: &[u8]) -> bool {
+    record[8..12] == *b"    "
 }
 
 pub struct Capture {
     /// Its name as it is shown.
     pub name: String,
     pub bytes: Vec<u8>,
-    pub identity: Identity,
 }
 
 impl Capture {
     /// The file of that name, read to its end.
     pub fn read(name: &OsStr) -> Result<Capture, Trouble> {
-        if is_standard(name) {
-            return Capture::of("standard input".to_string(), io::stdin().lock());
-        }
-        let shown = shown(name);
-        match File::open(name) {
-            Ok(file) => Capture::of(shown, file),
-            Err(error) => Err(Trouble::of(&shown, &error)),
-        }
-    }
-
-    fn of(name: String, mut file: impl Read + AsFd) -> Result<Capture, Trouble> {
-        let mut bytes = Vec::new();
-        let read = metadata_of(&file).and_then(|data| {
-            file.read_to_end(&mut bytes)?;
-            Ok(Identity::of(&data))
-        });
-        match read {
-            Ok(identity) => Ok(Capture {
-                name,
-                bytes,
-                identity,
-            }),
-            Err(error) => Err(Trouble::of(&name, &error)),
-        }
+        Source::open(name)?.whole()
     }
 
     /// Zeros, so many; an error where there is no memory for them. Only what is written to is taken of it.

@@ -84,7 +84,8 @@ fn run(command: Command) -> Result<Status, Trouble> {
         Command::Version => {
             print(concat!("rietknoest ", env!("CARGO_PKG_VERSION"), "\n")).map(|()| Status::Well)
         }
-        Command::List { file } => list::list(&file),
+        Command::List { file, follow } if follow => list::follow(&file),
+        Command::List { file, .. } => list::list(&file),
         Command::Scrub { from, to, whole } => scrub::scrub(&from, &to, whole),
         Command::Check { file } => check::check(&file),
         Command::Explain { file, place } => explain::explain(&file, place),

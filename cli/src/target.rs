@@ -8,29 +8,34 @@ use std::os::unix::fs::{MetadataExt, OpenOptionsExt, PermissionsExt};
 use std::path::{Path, PathBuf};
 use std::process;
 
-use crate::capture::{is_standard, metadata_of, shown, Identity};
+use crate::capture::{is_standard, opened, shown, Identity};
 use crate::{put, Trouble};
 
 const IS_INPUT: &str = "it is the input, which is never overwritten";
 
-pub enum Target<'a> {
+/// Where to write: nothing is made there so far.
+pub enum Target {
     Standard,
-    File {
-        name: String,
-        path: PathBuf,
-        access: Access,
-        input: &'a Identity,
-    },
+    File(Place),
 }
 
-impl<'a> Target<'a> {
+/// A file's place, which is not the input's.
+pub struct Place {
+    name: String,
+    path: PathBuf,
+    access: Access,
+    input: Identity,
+}
+
+impl Target {
     /// The file of that name, which need not be there; refused where it is the input, whatever it is called, or is no plain file. A file
     /// that is replaced was perhaps open to fewer people than a new one would be: the new one's mode has no bit that the
     /// old one's lacks.
-    pub fn of(name: &OsStr, input: &'a Identity) -> Result<Target<'a>, Trouble> {
+    pub fn of(name: &OsStr, input: Identity) -> Result<Target, Trouble> {
         if is_standard(name) {
-            let same = metadata_of(io::stdout())
-                .is_ok_and(|data| data.is_file() && Identity::of(&data) == *input);
+            let same = opened(io::stdout())
+                .and_then(|file| file.metadata())
+                .is_ok_and(|data| data.is_file() && Identity::of(&data) == input);
             return if same {
                 Err(refused("standard output", IS_INPUT))
             } else {
@@ -39,51 +44,74 @@ impl<'a> Target<'a> {
         }
         let shown = shown(name);
         if fs::symlink_metadata(name).is_err_and(|error| error.kind() == ErrorKind::NotFound) {
-            return Ok(Target::File {
+            return Ok(Target::File(Place {
                 name: shown,
                 path: PathBuf::from(name),
                 access: Access::default(),
                 input,
-            });
+            }));
         }
         // what is there is replaced where it stands, also behind a link
         let found = fs::canonicalize(name).and_then(|path| Ok((fs::metadata(&path)?, path)));
         let (data, path) = found.map_err(|error| Trouble::of(&shown, &error))?;
-        if Identity::of(&data) == *input {
+        if Identity::of(&data) == input {
             Err(refused(&shown, IS_INPUT))
         } else if data.is_dir() {
             Err(refused(&shown, "it is a folder"))
         } else if !data.is_file() {
             Err(refused(&shown, "it is no plain file; - is standard output"))
         } else {
-            Ok(Target::File {
+            Ok(Target::File(Place {
                 name: shown,
                 path,
                 access: Access::of(&data),
                 input,
-            })
+            }))
         }
     }
 
-    pub fn put(&self, bytes: &[u8]) -> Result<(), Trouble> {
+    pub fn open(self) -> Result<Output, Trouble> {
         match self {
-            Target::Standard => put(bytes),
-            Target::File {
-                name,
-                path,
-                access,
-                input,
-            } => {
-                let trouble = |error: io::Error| Trouble::of(name, &error);
-                let mut beside = Beside::for_access(path, access).map_err(trouble)?;
-                beside.write(bytes).map_err(trouble)?;
-                // tested before, and as late as can be: somebody may have put the input there meanwhile
-                if fs::metadata(path).is_ok_and(|data| Identity::of(&data) == **input) {
-                    return Err(refused(name, IS_INPUT));
-                }
-                beside.become_file(path).map_err(trouble)
-            }
+            Target::Standard => Ok(Output::Standard),
+            Target::File(place) => match Beside::for_access(&place.path, &place.access) {
+                Ok(beside) => Ok(Output::File(place, beside)),
+                Err(error) => Err(Trouble::of(&place.name, &error)),
+            },
         }
+    }
+}
+
+/// What is being written. Standard output has it at once; a file is there when all is finished.
+pub enum Output {
+    Standard,
+    File(Place, Beside),
+}
+
+impl Output {
+    pub fn write(&mut self, bytes: &[u8]) -> Result<(), Trouble> {
+        match self {
+            Output::Standard => put(bytes),
+            Output::File(place, beside) => beside
+                .file
+                .write_all(bytes)
+                .map_err(|error| Trouble::of(&place.name, &error)),
+        }
+    }
+
+    pub fn finish(self) -> Result<(), Trouble> {
+        let Output::File(place, beside) = self else {
+            return Ok(());
+        };
+        let trouble = |error: io::Error| Trouble::of(&place.name, &error);
+        beside.file.sync_all().map_err(trouble)?;
+        // looked at before, and as late as can be: somebody may have put the input there meanwhile, or a file that fewer people may open
+        if let Ok(data) = fs::metadata(&place.path) {
+            if Identity::of(&data) == place.input {
+                return Err(refused(&place.name, IS_INPUT));
+            }
+            beside.narrow(&Access::of(&data)).map_err(trouble)?;
+        }
+        beside.become_file(&place.path).map_err(trouble)
     }
 }
 
@@ -125,7 +153,7 @@ impl Access {
 }
 
 /// A new file beside another. It is removed when this value goes, unless it has become the other.
-struct Beside {
+pub struct Beside {
     path: PathBuf,
     file: File,
     done: bool,
@@ -168,9 +196,17 @@ impl Beside {
         }
     }
 
-    fn write(&mut self, bytes: &[u8]) -> io::Result<()> {
-        self.file.write_all(bytes)?;
-        self.file.sync_all()
+    /// Takes away the bits that it would not have been made with.
+    fn narrow(&self, access: &Access) -> io::Result<()> {
+        let data = self.file.metadata()?;
+        let allowed = if access.group == Some(data.gid()) {
+            access.mode
+        } else {
+            access.mode_for_another_group()
+        };
+        let mut permissions = data.permissions();
+        permissions.set_mode(permissions.mode() & allowed);
+        self.file.set_permissions(permissions)
     }
 
     /// Takes the place of the path, whatever stood there.
@@ -205,9 +241,11 @@ mod tests {
                 fs::write(&to, old).unwrap();
             }
             let identity = Identity::of(&fs::metadata(&from).unwrap());
-            let target = Target::of(to.as_os_str(), &identity).ok().unwrap();
+            let target = Target::of(to.as_os_str(), identity).ok().unwrap();
             fs::rename(&from, &to).unwrap();
-            let put = target.put(b"scrubbed");
+            let mut output = target.open().ok().unwrap();
+            assert!(output.write(b"scrubbed").is_ok());
+            let put = output.finish();
             assert!(matches!(put, Err(Trouble::File(_, what)) if what == IS_INPUT));
             assert_eq!(fs::read(&to).unwrap(), b"input");
             assert_eq!(fs::read_dir(&folder).unwrap().count(), 1);

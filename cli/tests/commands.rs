@@ -14,7 +14,9 @@ fn help_and_version() {
     let folder = Folder::new();
     for words in [&["--help"][..], &["list", "--help"], &["scrub", "--help"]] {
         let ran = run(&folder, words);
-        assert!(ran.out().starts_with("usage: rietknoest list [FILE]\n"));
+        assert!(ran
+            .out()
+            .starts_with("usage: rietknoest list [--follow] [FILE]\n"));
         assert_eq!((ran.status, ran.error()), (Some(0), ""));
     }
     run(&folder, &["--version"]).quiet(0, "rietknoest 0.1.0\n");
@@ -23,13 +25,15 @@ fn help_and_version() {
 #[test]
 fn wrong_usage_is_2() {
     let folder = Folder::new().with("a", b"").with("b", b"");
-    let wrong: [(&[&str], &str); 18] = [
+    let wrong: [(&[&str], &str); 20] = [
         (&[], "no command is given"),
         (&["burn"], "burn: no such command"),
         (&["-x"], "-x: no such command"),
         (&["list", "a", "b"], "list: it takes one file"),
         (&["list", "-x"], "list: -x: no such option"),
         (&["list", "--whole"], "list: --whole: no such option"),
+        (&["list", "--follow", "a", "b"], "list: it takes one file"),
+        (&["check", "--follow"], "check: --follow: no such option"),
         (&["check"], "check: it takes one file"),
         (&["check", "a", "b"], "check: it takes one file"),
         (&["scrub", "a"], "scrub: -o OUT is missing"),
@@ -321,7 +325,11 @@ fn explain_tells_a_refusal_by_number_and_name() {
 #[test]
 fn a_closed_pipe() {
     let folder = Folder::new().with("long", &heartbeats(10000));
-    let cases: [(&[&str], i32); 2] = [(&["list", "long"], 0), (&["scrub", "long", "-o", "-"], 2)];
+    let cases: [(&[&str], i32); 3] = [
+        (&["list", "long"], 0),
+        (&["list", "--follow", "long"], 0),
+        (&["scrub", "long", "-o", "-"], 2),
+    ];
     for (words, status) in cases {
         let mut child = command(&folder)
             .args(words)
@@ -340,8 +348,9 @@ fn a_closed_pipe() {
 #[test]
 fn a_full_standard_output() {
     let folder = Folder::new().with("in", &heartbeats(1));
-    let cases: [&[&str]; 4] = [
+    let cases: [&[&str]; 5] = [
         &["list", "in"],
+        &["list", "--follow", "in"],
         &["check", "in"],
         &["scrub", "in", "-o", "-"],
         &["--help"],
@@ -366,28 +375,13 @@ fn a_full_standard_output() {
     }
 }
 
-/// The sample with bytes changed, cut out and put in, always in the same way: the subcommands agree, and none panics.
+/// The subcommands agree, and none panics.
 #[test]
 fn damaged_captures() {
     let folder = Folder::new();
-    let mut state = 1u64;
-    let mut below = |n: usize| {
-        state = state
-            .wrapping_mul(6364136223846793005)
-            .wrapping_add(1442695040888963407);
-        (state >> 33) as usize % n
-    };
+    let dice = &mut Dice(1);
     for round in 0..100 {
-        let mut capture = sample();
-        for _ in 0..below(40) {
-            let at = below(capture.len());
-            match below(4) {
-                0 => capture[at] ^= 1 << below(8),
-                1 => capture.insert(at, below(256) as u8),
-                2 => drop(capture.drain(at..(at + below(60)).min(capture.len()))),
-                _ => capture.truncate(capture.len() - below(9)),
-            }
-        }
+        let capture = damaged(dice);
         let listed = run_on(&folder, &["list"], &capture);
         let cleaned = run_on(&folder, &["scrub", "-", "-o", "-"], &capture);
         let stray = capture.len() - cleaned.out.len();
@@ -401,7 +395,7 @@ fn damaged_captures() {
         run_on(&folder, &["check", "-"], &cleaned.out).quiet(0, "standard input: clean\n");
         let again = run_on(&folder, &["list"], &cleaned.out);
         assert!(!again.out().contains(" ---- "), "{round}");
-        let place = below(capture.len() + 1).to_string();
+        let place = dice.below(capture.len() + 1).to_string();
         let explained = run_on(&folder, &["explain", "-", &place], &capture);
         assert!(matches!(explained.status, Some(0 | 1)), "{round}");
         assert_eq!(explained.error(), "", "{round}");

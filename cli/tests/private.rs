@@ -157,6 +157,7 @@ fn no_private_byte_is_written() {
     let mut words: Vec<Vec<String>> = [
         "--help",
         "list sample",
+        "list --follow sample",
         "check sample",
         "scrub sample -o out",
         "scrub sample -o -",

@@ -16,7 +16,7 @@ const TOOLS: [&str; 14] = [
     "sort", "tac", "tee",
 ];
 
-/// Notes its call, says what rt says of a crate, and makes the library.
+/// Notes its call, says what rt says of a crate, and makes the libraries.
 const ARCHIVE: &str = "#!/usr/bin/env bash
 cd \"${0%/*}/..\"
 echo archive >>calls
@@ -25,6 +25,7 @@ echo 'rt: terms proved (1 s)' >&2
 echo 'rt: rules proved (unchanged since it was last proved)' >&2
 [ ! -f broken ] || exit 1
 echo >build/libhost.a
+echo >build/libfollow.a
 ";
 
 /// Notes its call, and makes a command that tells its folder and its words.
@@ -48,7 +49,7 @@ fn project() -> Folder {
     put(folder.path("project/tools/archive"), ARCHIVE, 0o755);
     put(
         folder.path("project/crates.txt"),
-        "# all\nterms:\nrules: terms\nother: terms\nhost: rules\n",
+        "# all\nterms:\nrules: terms\nother: terms\nhost: rules\nlast: host\nfollow: rules\n",
         0o644,
     );
     let files = [
@@ -96,17 +97,17 @@ fn calls(folder: &Folder) -> String {
 #[test]
 fn the_script() {
     it_builds_once_and_again_when_something_changed();
-    a_library_that_is_there_takes_no_minutes();
+    libraries_that_are_there_take_no_minutes();
     what_can_not_be_built_is_told();
 }
 
 fn it_builds_once_and_again_when_something_changed() {
     let folder = project();
     let script = folder.path("project/rietknoest");
-    let first = "rietknoest: first use: 3 crates are proved, a line for each, then the command is built
+    let first = "rietknoest: first use: 4 crates are proved, a line for each, then the command is built
 rietknoest: that takes about five to ten minutes, once; what is proved stays proved if you break it off
 rietknoest: terms proved (1 s)
-rietknoest: host is proved, and its library built
+rietknoest: host and follow are proved, and their libraries built
 rietknoest: built
 ";
     // words, folder and status are the command's
@@ -159,11 +160,12 @@ rietknoest: built
 }
 
 /// tools/archive was run before, by itself.
-fn a_library_that_is_there_takes_no_minutes() {
+fn libraries_that_are_there_take_no_minutes() {
     let folder = project();
     put(folder.path("project/build/libhost.a"), "", 0o644);
+    put(folder.path("project/build/libfollow.a"), "", 0o644);
     let ran = run_script(&folder, &folder.path("project/rietknoest"), &[]);
-    let first = "rietknoest: first use: the library is there, ";
+    let first = "rietknoest: first use: the libraries are there, ";
     assert!(ran.error().starts_with(first) && !ran.error().contains("minutes"));
     assert_eq!((ran.status, ran.out()), (Some(1), "elsewhere: 0 \n"));
     assert_eq!(calls(&folder), "archive\ncargo\n");
@@ -193,7 +195,7 @@ fn what_can_not_be_built_is_told() {
     let ran = run_script(&folder, &script, &["list"]);
     assert!(ran
         .error()
-        .contains("\nrietknoest: the library was not built; "));
+        .contains("\nrietknoest: the libraries were not built; "));
     assert_eq!((ran.status, ran.out()), (Some(2), ""));
     fs::remove_file(folder.path("project/broken")).unwrap();
     let ran = run_script(&folder, &script, &["list"]);

@@ -1,5 +1,6 @@
 /* The proved library for C11 and C++: frames of the exchange's market data gateway read, written, searched for and scrubbed, the gap
- * ledger of a tick channel, captures walked, listed and cleaned. Link build/libhost.a, which tools/archive builds.
+ * ledger of a tick channel, captures walked, listed and cleaned, whole or while they arrive. Link build/libhost.a, and build/libfollow.a for
+ * the functions rk_stream_; tools/archive builds both.
  *
  * Every function answers a number of the table below, 0 where all is well, and tells the rest through what it is lent. It keeps no
  * pointer, allocates nothing, has no state of its own, and may be called from several threads at once.
@@ -47,7 +48,9 @@ enum rk_answer {
     RK_UNASKED = 16, /* reply with no request pending, or with another first number */
     RK_STATUS = 17,  /* reply status not 1 to 5 or 99 */
     RK_CHANNEL = 18, /* call names another channel */
-    RK_ENTRIES = 20  /* entry reader: body below 73 bytes, no entry's place, or the entry passes the body's end */
+    RK_CLOSED = 19,  /* call after a stream's closing one */
+    RK_ENTRIES = 20, /* entry reader: body below 73 bytes, no entry's place, or the entry passes the body's end */
+    RK_PLACES = 29   /* places of a stream would pass 64 bits */
 };
 
 /* FRAMES */
@@ -213,9 +216,52 @@ uint32_t rk_listing(const uint8_t *records, size_t records_len, uint64_t frames,
  * private bytes are painted over: lend memory of your own, and not a mapped file. */
 uint32_t rk_clean(const uint8_t *capture, size_t len, uint8_t *out, size_t out_len, rk_cleaned *told);
 
-/* Whether a capture is what cleaning it gives. Always 0. It takes about 9 KB of stack; no other function takes more than 1 KB.
+/* Whether a capture is what cleaning it gives. Always 0. It takes about 9 KB of stack, and rk_stream_feed and rk_stream_close about 135 KB;
+ * no other function takes more than 1 KB.
  * Writes *told: the first place where the two differ, or none. */
 uint32_t rk_is_clean(const uint8_t *capture, size_t len, rk_found *told);
+
+/* A CAPTURE WHILE IT ARRIVES */
+
+/* Bytes come in cuts of any size, also of none, and a closing call ends them. However they are cut, the records of all calls, the counts and
+ * the ledger are those of rk_walk over the joined bytes of the calls that were not refused. Between two calls at most 8,191 bytes wait: those
+ * from a place on whose reading answers 1 so far. A call has a cost of its own, some microseconds: gather single bytes first.
+ *
+ * Words and kept bytes are the caller's to keep and to copy, not to interpret or to make. The ledger may be lent to rk_listing,
+ * rk_ledger_told and rk_ledger_request. A call given a stream that breaks the state rules answers 13. */
+typedef struct {
+    uint64_t words[6];
+    rk_ledger ledger;
+    uint8_t kept[8191]; /* as they came, private bytes among them */
+} rk_stream;
+RK_SIZE(rk_stream, 1039);
+
+/* A stream as the three parts that the functions take: rk_stream_open(RK_STREAM(&stream)). */
+#define RK_STREAM(stream) (stream)->words, &(stream)->ledger, (stream)->kept
+
+typedef struct {
+    uint64_t records; /* given by this call */
+    uint64_t frames;  /* so far: readings answered 0 */
+    uint64_t refused; /* so far: readings refused */
+    uint64_t place;   /* of the first byte that waits, or of the next to come */
+    uint64_t waiting; /* how many bytes wait */
+} rk_fed;
+RK_SIZE(rk_fed, 5);
+
+/* A stream to which no byte came. Always 0.
+ * Writes words, *ledger and kept. */
+uint32_t rk_stream_open(uint64_t words[6], rk_ledger *ledger, uint8_t kept[8191]);
+
+/* One more cut: a record of 64 bytes for each reading that it decides. 0, 8, 13, 19, 29; RK_RECORDS_ROOM(waiting + cut_len) bytes are always
+ * room enough. After 8 the same cut may be offered again, with more room.
+ * 0 writes the first 64 * told->records bytes of records, words, *ledger, kept and *told. */
+uint32_t rk_stream_feed(uint64_t words[6], rk_ledger *ledger, uint8_t kept[8191], const uint8_t *cut, size_t cut_len, uint8_t *records,
+                        size_t records_len, rk_fed *told);
+
+/* No more bytes come: what waits is walked as the end of a capture. 0, 8, 13, 19; RK_RECORDS_ROOM(waiting) bytes are always room enough.
+ * After 8 the stream is still open.
+ * 0 writes the first 64 * told->records bytes of records, words, *ledger, kept and *told. */
+uint32_t rk_stream_close(uint64_t words[6], rk_ledger *ledger, uint8_t kept[8191], uint8_t *records, size_t records_len, rk_fed *told);
 
 #undef RK_SIZE
 

@@ -12,7 +12,7 @@ mod raw;
 /// The places and lengths that are told are 64-bit numbers.
 const _: () = assert!(usize::BITS == 64);
 
-/// A refusal: a row of document 01's table, but for 0.
+/// A refusal: a row of document 01's table, but for 0, or one of document 02.
 #[derive(Clone, Copy, Debug, PartialEq, Eq, Hash)]
 #[repr(u32)]
 pub enum Refusal {
@@ -50,13 +50,17 @@ pub enum Refusal {
     Status = 17,
     /// The call names another channel.
     Channel = 18,
+    /// A call after a stream's closing one.
+    Closed = 19,
     /// The entry reader's body is below 73 bytes, its place is none of an entry, or that entry passes the body's end.
     Entries = 20,
+    /// The places of a stream would pass 64 bits.
+    Places = 29,
 }
 
 impl Refusal {
     /// Every refusal, in the order of the table.
-    pub const ALL: [Refusal; 18] = [
+    pub const ALL: [Refusal; 20] = [
         Refusal::More,
         Refusal::Type,
         Refusal::Long,
@@ -74,7 +78,9 @@ impl Refusal {
         Refusal::Unasked,
         Refusal::Status,
         Refusal::Channel,
+        Refusal::Closed,
         Refusal::Entries,
+        Refusal::Places,
     ];
 
     /// The table's number.
@@ -102,7 +108,9 @@ impl Refusal {
             Refusal::Unasked => "unasked",
             Refusal::Status => "status",
             Refusal::Channel => "channel",
+            Refusal::Closed => "closed",
             Refusal::Entries => "entries",
+            Refusal::Places => "places",
         }
     }
 
@@ -530,4 +538,72 @@ pub fn is_clean(capture: &[u8]) -> Option<usize> {
     let mut changed = raw::Found::default();
     raw::is_clean(capture, &mut changed);
     changed.place()
+}
+
+// A CAPTURE WHILE IT ARRIVES
+
+/// As many bytes wait between two calls of a stream, at most.
+pub const KEPT: usize = 8_191;
+
+/// A capture that is read while it arrives, in cuts of any size. However it is cut, the records of all calls, the counts and the ledger are
+/// those of `walk` over the joined bytes of the calls that were not refused.
+///
+/// The bytes that wait are kept as they came, private ones among them; so there is no `Debug`.
+#[derive(Clone, PartialEq, Eq)]
+#[repr(C)]
+pub struct Stream {
+    words: [u64; 6],
+    /// The ledger of channel 100. A request may be put to it between two calls.
+    pub ledger: Ledger,
+    kept: [u8; KEPT],
+}
+
+/// What a call of a stream comes to. `records` counts those of this call, `frames` and `refused` the readings so far; `place` is that of the
+/// first byte that waits, or of the next to come, and `waiting` how many bytes wait.
+#[derive(Clone, Copy, Debug, Default, PartialEq, Eq)]
+#[repr(C)]
+pub struct Fed {
+    pub records: u64,
+    pub frames: u64,
+    pub refused: u64,
+    pub place: u64,
+    pub waiting: u64,
+}
+
+impl Stream {
+    /// A stream to which no byte came.
+    pub fn open() -> Stream {
+        let mut stream = Stream::of_parts([0; 6], Ledger::of_words([0; 9]), [0; KEPT]);
+        raw::stream_open(&mut stream);
+        stream
+    }
+
+    /// One more cut, perhaps of no bytes: the records of the readings that it decides, at the front of `records`; 8 where they have no room.
+    /// `records_room` of the bytes that wait and the cut's is always enough.
+    pub fn feed(&mut self, cut: &[u8], records: &mut [u8]) -> Result<Fed, Refusal> {
+        let mut fed = Fed::default();
+        let answer = raw::stream_feed(self, cut, records, &mut fed);
+        told(answer, fed)
+    }
+
+    /// No more bytes come: what waits is walked as the end of a capture. Refused by 8, the stream is still open.
+    pub fn close(&mut self, records: &mut [u8]) -> Result<Fed, Refusal> {
+        let mut fed = Fed::default();
+        let answer = raw::stream_close(self, records, &mut fed);
+        told(answer, fed)
+    }
+
+    /// The words, the ledger and the bytes that wait, zeros behind them, for keeping the stream in a file. These bytes are not scrubbed.
+    pub fn into_parts(self) -> ([u64; 6], Ledger, [u8; KEPT]) {
+        (self.words, self.ledger, self.kept)
+    }
+
+    /// The stream of parts that were kept. Each call answers 13 if they break the state rules.
+    pub fn of_parts(words: [u64; 6], ledger: Ledger, kept: [u8; KEPT]) -> Stream {
+        Stream {
+            words,
+            ledger,
+            kept,
+        }
+    }
 }

@@ -3,7 +3,7 @@
 //! no pointer and stays within what it is lent; and a reference that is written through is Rust's only one. The declarations are checked
 //! by tests/declarations.rs.
 
-use super::{Cleaned, Entry, Frame, Ledger, Passed, Request, Span, Told};
+use super::{Cleaned, Entry, Fed, Frame, Ledger, Passed, Request, Span, Stream, Told, KEPT};
 
 /// A place, or none where `any` is 0.
 #[derive(Default)]
@@ -47,6 +47,9 @@ extern "C" {
     fn rk_listing(records: *const u8, records_len: usize, frames: u64, refused: u64, state: *const Ledger, text: *mut u8, text_len: usize, told: *mut u64) -> u32;
     fn rk_clean(capture: *const u8, len: usize, out: *mut u8, out_len: usize, told: *mut Cleaned) -> u32;
     fn rk_is_clean(capture: *const u8, len: usize, told: *mut Found) -> u32;
+    fn rk_stream_open(words: *mut [u64; 6], ledger: *mut Ledger, kept: *mut [u8; KEPT]) -> u32;
+    fn rk_stream_feed(words: *mut [u64; 6], ledger: *mut Ledger, kept: *mut [u8; KEPT], cut: *const u8, cut_len: usize, records: *mut u8, records_len: usize, told: *mut Fed) -> u32;
+    fn rk_stream_close(words: *mut [u64; 6], ledger: *mut Ledger, kept: *mut [u8; KEPT], records: *mut u8, records_len: usize, told: *mut Fed) -> u32;
 }
 
 pub fn read(bytes: &[u8], place: usize, told: &mut Frame) -> u32 {
@@ -168,4 +171,36 @@ pub fn clean(capture: &[u8], out: &mut [u8], told: &mut Cleaned) -> u32 {
 
 pub fn is_clean(capture: &[u8], told: &mut Found) -> u32 {
     unsafe { rk_is_clean(capture.as_ptr(), capture.len(), told) }
+}
+
+pub fn stream_open(stream: &mut Stream) -> u32 {
+    unsafe { rk_stream_open(&mut stream.words, &mut stream.ledger, &mut stream.kept) }
+}
+
+pub fn stream_feed(stream: &mut Stream, cut: &[u8], records: &mut [u8], told: &mut Fed) -> u32 {
+    unsafe {
+        rk_stream_feed(
+            &mut stream.words,
+            &mut stream.ledger,
+            &mut stream.kept,
+            cut.as_ptr(),
+            cut.len(),
+            records.as_mut_ptr(),
+            records.len(),
+            told,
+        )
+    }
+}
+
+pub fn stream_close(stream: &mut Stream, records: &mut [u8], told: &mut Fed) -> u32 {
+    unsafe {
+        rk_stream_close(
+            &mut stream.words,
+            &mut stream.ledger,
+            &mut stream.kept,
+            records.as_mut_ptr(),
+            records.len(),
+            told,
+        )
+    }
 }

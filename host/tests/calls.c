@@ -106,12 +106,48 @@ static void ledger_kept(const rk_ledger *was, uint32_t answer) {
     for (int i = 0; i < 9; i++) TELL(ledger.words[i]);
 }
 
+/* A stream with a number on both sides; the byte behind its kept ones is nobody's to write either. */
+typedef struct {
+    uint64_t before;
+    rk_stream row;
+    uint64_t after;
+} guarded;
+
+static guarded stream;
+
+/* Whether a call has left alone what it should. Beside 0 the stream is printed: its numbers, and the bytes that wait. */
+static void stream_kept(const guarded *was, uint32_t answer, uint64_t waiting) {
+    if (answer != RK_DONE) {
+        insist(memcmp(&stream, was, sizeof stream) == 0, "the stream changed");
+        return;
+    }
+    size_t behind = offsetof(guarded, row.kept) + sizeof stream.row.kept;
+    insist(stream.before == was->before, "bytes before a stream written");
+    insist(memcmp((uint8_t *)&stream + behind, (const uint8_t *)was + behind, sizeof stream - behind) == 0, "bytes behind a stream written");
+    printf(" :");
+    for (int i = 0; i < 6; i++) TELL(stream.row.words[i]);
+    for (int i = 0; i < 9; i++) TELL(stream.row.ledger.words[i]);
+    printf(" ");
+    for (size_t i = 0; i < sizeof stream.row.kept; i++) {
+        if (i < waiting) printf("%02x", stream.row.kept[i]);
+        else insist(stream.row.kept[i] == 0, "a byte behind those that wait");
+    }
+}
+
+static void tell_fed(const rk_fed *fed) {
+    TELL(fed->records), TELL(fed->frames), TELL(fed->refused), TELL(fed->place), TELL(fed->waiting);
+    print_bytes(&output, 64 * fed->records);
+}
+
 int main(void) {
     static char name[32];
+    static guarded stream_was;
+    memset(&stream, 0xA5, sizeof stream);
     call = name;
     while (scanf("%31s", name) == 1) {
         rk_ledger was = ledger;
         uint32_t answer;
+        memcpy(&stream_was, &stream, sizeof stream);
         if (strcmp(name, "read") == 0) {
             size_t place = (size_t)number();
             uint8_t *b = bytes();
@@ -238,6 +274,31 @@ int main(void) {
             answer = rk_is_clean(b, input.len, &t.row);
             if (ANSWERED(answer, t)) TELL(t.row.any), TELL(t.row.place);
             kept_from(&input, 0);
+        } else if (strcmp(name, "stream") == 0) {
+            for (int i = 0; i < 6; i++) stream.row.words[i] = number();
+            for (int i = 0; i < 9; i++) stream.row.ledger.words[i] = number();
+            memset(stream.row.kept, 0, sizeof stream.row.kept);
+            uint8_t *b = bytes();
+            memcpy(stream.row.kept, b, input.len);
+        } else if (strcmp(name, "stream_open") == 0) {
+            answer = rk_stream_open(RK_STREAM(&stream.row));
+            printf("%" PRIu32, answer);
+            stream_kept(&stream_was, answer, 0);
+        } else if (strcmp(name, "feed") == 0) {
+            uint8_t *records = room(), *b = bytes();
+            ROW(rk_fed, t);
+            answer = rk_stream_feed(RK_STREAM(&stream.row), b, input.len, records, output.len, &t.row);
+            if (ANSWERED(answer, t)) tell_fed(&t.row);
+            kept_from(&output, answer == RK_DONE ? 64 * t.row.records : 0);
+            kept_from(&input, 0);
+            stream_kept(&stream_was, answer, t.row.waiting);
+        } else if (strcmp(name, "close") == 0) {
+            uint8_t *records = room();
+            ROW(rk_fed, t);
+            answer = rk_stream_close(RK_STREAM(&stream.row), records, output.len, &t.row);
+            if (ANSWERED(answer, t)) tell_fed(&t.row);
+            kept_from(&output, answer == RK_DONE ? 64 * t.row.records : 0);
+            stream_kept(&stream_was, answer, t.row.waiting);
         } else {
             insist(0, "no such call");
         }

@@ -14,10 +14,11 @@ use oracle::frame::Message;
 use oracle::ledger::{Ledger as Plain, Pending};
 use oracle::numbers::{Channel, Session, Tick};
 use oracle::record::{summary, Record, BLANK, SIZE};
+use oracle::stream::Stream as Plainly;
 use rietknoest_host as host;
 use rietknoest_host::{
-    ChannelNumber, Entry, Frame, Ledger, Passed, Refusal, Request, SessionNumber, Span, TickNumber,
-    Told, Walked,
+    ChannelNumber, Entry, Fed, Frame, Ledger, Passed, Refusal, Request, SessionNumber, Span,
+    Stream, TickNumber, Told, Walked,
 };
 use std::cell::RefCell;
 use std::collections::BTreeMap;
@@ -532,6 +533,151 @@ fn long_capture_case(d: &mut Dice) {
     capture_of(d, &capture);
 }
 
+// A CAPTURE WHILE IT ARRIVES
+
+fn stream_of(s: &Plainly) -> Stream {
+    let (seeking, closed) = (s.seeking.into(), s.closed.into());
+    let words = [s.place, seeking, closed, s.waiting, s.frames, s.refused];
+    Stream::of_parts(words, Ledger::of_words(words_of(s.ledger)), s.store)
+}
+
+/// One call on both, with a cut or the closing one, and about as much room as its records need. They are answered, where it is taken.
+fn called(
+    d: &mut Dice,
+    ours: &mut Stream,
+    theirs: &mut Plainly,
+    cut: Option<&[u8]>,
+) -> Option<Vec<u8>> {
+    let call = |s: &Plainly, records: &mut [u8]| match cut {
+        Some(cut) => s.feed(cut, records),
+        None => s.close(records),
+    };
+    let bytes = theirs.waiting.min(8_191) as usize + cut.map_or(0, <[u8]>::len);
+    let mut roomy = vec![0; host::records_room(bytes)];
+    let (_, needed) = call(theirs, &mut roomy);
+    assert!(needed != Err(No::Room), "records_room is too small");
+    let room = made::about(d, needed.unwrap_or(0) * SIZE);
+    let mut records = lent(d, room);
+    let mut laid = records.clone();
+    let (next, answer) = call(theirs, &mut laid);
+    let told = plain(answer).map(|n| Fed {
+        records: n as u64,
+        frames: next.frames,
+        refused: next.refused,
+        place: next.place,
+        waiting: next.waiting,
+    });
+    let before = ours.clone();
+    match cut {
+        Some(cut) => alike("feed", ours.feed(cut, &mut records), &told),
+        None => alike("close", ours.close(&mut records), &told),
+    }
+    same(&records, &laid, "a call's records");
+    let given = told.ok().map(|fed| fed.records as usize * SIZE);
+    let after = if given.is_some() {
+        stream_of(&next)
+    } else {
+        before
+    };
+    same(&*ours, &after, "the stream");
+    *theirs = next;
+    given.map(|n| records[..n].to_vec())
+}
+
+fn clean_of(bytes: &[u8]) -> Vec<u8> {
+    let mut out = vec![0; bytes.len()];
+    let cleaned = host::clean(bytes, &mut out).expect("room for all");
+    out.truncate(cleaned.bytes as usize);
+    out
+}
+
+/// A capture in cuts: both streams, and the walk over the joined bytes. A call that lacked room is made again, perhaps with another cut.
+fn stream_case(d: &mut Dice) {
+    let sizes = [(300, 1), (1_500, 20), (3_000, 300), (3_000, 2_000)];
+    let (long, size) = match d.below(100) {
+        0 => (100_000, 20_000),
+        _ => d.of(&sizes),
+    };
+    let n = d.len(long);
+    let most = d.of(&[0, 40, 200, long]);
+    let mut capture = made::capture(d, n, most);
+    capture.truncate(long);
+    let (mut ours, mut theirs) = (Stream::open(), Plainly::opened());
+    same(&ours, &stream_of(&theirs), "an open stream");
+    let mut given = Vec::new();
+    let mut at = 0;
+    let mut cleaned = Vec::new();
+    let mut from = 0;
+    while !theirs.closed {
+        let cut = made::cut(d, size, capture.len() - at);
+        let cut = &capture[at..at + cut];
+        let cut = (at < capture.len()).then_some(cut);
+        if let Some(records) = called(d, &mut ours, &mut theirs, cut) {
+            given.extend(records);
+            at += cut.map_or(0, <[u8]>::len);
+            // as the command scrubs what arrives: the bytes that became decided, by themselves
+            let decided = at - theirs.waiting as usize;
+            cleaned.extend(clean_of(&capture[from..decided]));
+            from = decided;
+        }
+    }
+    same(cleaned, clean_of(&capture), "the clean capture in parts");
+    let more = &capture[..d.len(capture.len() + 1)];
+    for cut in [Some(more), Some(&[][..]), None] {
+        let again = called(d, &mut ours, &mut theirs, cut);
+        same(again, None, "a call after the closing one");
+    }
+
+    let mut records = vec![0; host::records_room(capture.len())];
+    let walked = host::walk(&capture, &mut records).expect("room for all");
+    records.truncate(walked.records * SIZE);
+    same(given, records, "the records of a stream and of the walk");
+    let counts = (walked.frames, walked.refused);
+    same((theirs.frames, theirs.refused), counts, "the counts");
+    same(ours.ledger, walked.ledger, "the ledger");
+}
+
+/// A stream that was made or changed by other hands.
+fn stream_state_case(d: &mut Dice) {
+    let n = d.len(600);
+    let capture = made::capture(d, n, 200);
+    let (first, rest) = capture.split_at(d.len(capture.len() + 1));
+    let mut ours = Stream::open();
+    let fed = ours.feed(first, &mut vec![0; host::records_room(first.len())]);
+    fed.expect("room for all");
+    if d.once_in(8) {
+        let closed = ours.close(&mut vec![0; host::records_room(8_191)]);
+        closed.expect("room for all");
+    }
+    let (mut words, ledger, mut kept) = ours.into_parts();
+    let mut ledger = ledger.to_words();
+    made::spoil_stream(d, &mut words, &mut ledger, &mut kept);
+    let mut ours = Stream::of_parts(words, Ledger::of_words(ledger), kept);
+    let cut = &rest[..d.len(rest.len() + 1)];
+    if words[1] > 1 || words[2] > 1 {
+        // the second program has no such state: its flags are yes or no
+        let before = ours.clone();
+        let records = &mut [0; SIZE];
+        alike("feed", ours.feed(cut, records), &Err(13));
+        alike("close", ours.close(records), &Err(13));
+        same(ours, before, "the stream");
+        return;
+    }
+    let mut theirs = Plainly {
+        place: words[0],
+        seeking: words[1] == 1,
+        closed: words[2] == 1,
+        waiting: words[3],
+        store: kept,
+        frames: words[4],
+        refused: words[5],
+        ledger: plain_ledger(ledger),
+    };
+    called(d, &mut ours, &mut theirs, Some(cut));
+    called(d, &mut ours, &mut theirs, Some(&[]));
+    called(d, &mut ours, &mut theirs, None);
+}
+
 fn case(seed: u64, n: u64) {
     let d = &mut Dice::new(seed, n);
     match d.below(400) {
@@ -541,6 +687,8 @@ fn case(seed: u64, n: u64) {
         120..=199 => frame_case(d),
         200..=259 => write_case(d),
         260..=319 => body_case(d),
+        320..=334 => stream_case(d),
+        335..=339 => stream_state_case(d),
         _ => ledger_case(d),
     }
 }

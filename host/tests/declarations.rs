@@ -1,11 +1,11 @@
-//! The declarations: the header, the Rust wrapper and the archive say the same as the proved crate's source, and a C program that calls
+//! The declarations: the header, the Rust wrapper and the archives say the same as the proved crates' sources, and a C program that calls
 //! every function gets the wrapper's answers.
 
 mod made;
 
 use made::{about, Dice, Ticks, ALL};
 use rietknoest_host as host;
-use rietknoest_host::{ChannelNumber, Ledger, Refusal, SessionNumber, TickNumber};
+use rietknoest_host::{ChannelNumber, Fed, Ledger, Refusal, SessionNumber, Stream, TickNumber};
 use std::collections::{BTreeMap, BTreeSet};
 use std::fmt::Write as _;
 use std::fs;
@@ -38,7 +38,7 @@ fn run(command: &mut Command, input: &[u8]) -> Vec<u8> {
     output.stdout
 }
 
-/// Compiles a program against the header and the archive.
+/// Compiles a program against the header and the archives.
 fn compiled(compiler: &str, standard: &str, source: &str) -> PathBuf {
     let name = Path::new(source).file_stem().expect("a name");
     let program = Path::new(env!("CARGO_TARGET_TMPDIR")).join(name);
@@ -49,6 +49,7 @@ fn compiled(compiler: &str, standard: &str, source: &str) -> PathBuf {
         .arg(root().join("host/include"))
         .arg(root().join(source))
         .arg(root().join("build/libhost.a"))
+        .arg(root().join("build/libfollow.a"))
         .arg("-o")
         .arg(&program);
     run(&mut command, b"");
@@ -96,9 +97,9 @@ fn row(pointer: &str, numbers: usize) -> String {
     format!("*{pointer} {numbers} u64")
 }
 
-/// What the proved crate exports, in its own words; a slice is a pointer and a length.
-fn of_crate() -> Functions {
-    let text = text_of("crates/host/src/lib.rt");
+/// What a proved crate exports, in its own words; a slice is a pointer and a length.
+fn of_crate(name: &str) -> Functions {
+    let text = text_of(&format!("crates/{name}/src/lib.rt"));
     let mut all = Functions::new();
     for (name, parameters, behind) in functions(&text, "#[no_mangle]\npub extern \"C\" fn ") {
         let mut kinds = Vec::new();
@@ -109,10 +110,12 @@ fn of_crate() -> Functions {
                 "&mut [u8]" => kinds.extend(["*mut u8".into(), "usize".into()]),
                 "&mut u64" => kinds.push(row("mut", 1)),
                 _ if kind.starts_with('&') => {
-                    let numbers = kind.split_once("[u64; ").expect("a row").1;
-                    let numbers = numbers.trim_end_matches(']').parse().expect("a number");
+                    let (of, numbers) = kind.split_once("; ").expect("a row");
+                    let of = of.split_once('[').expect("a row").1;
+                    let numbers = numbers.trim_end_matches(']');
                     let mutable = kind.starts_with("&mut");
-                    kinds.push(row(if mutable { "mut" } else { "const" }, numbers));
+                    let pointer = if mutable { "mut" } else { "const" };
+                    kinds.push(format!("*{pointer} {numbers} {of}"));
                 }
                 _ => kinds.push(kind.into()),
             }
@@ -152,6 +155,10 @@ fn of_header() -> Functions {
                 "mut"
             };
             let kind = kind.trim_start_matches("const ").trim();
+            if let Some((_, numbers)) = p.split_once('[') {
+                let numbers = numbers.trim_end_matches(']');
+                return format!("*{pointer} {numbers} {}", number(kind));
+            }
             match (p.contains('*'), kind) {
                 (true, "uint8_t") => format!("*{pointer} u8"),
                 (true, _) => row(pointer, rows[kind]),
@@ -178,6 +185,7 @@ fn of_wrapper() -> Functions {
         "Request" => size_of::<host::Request>() / 8,
         "Told" => size_of::<host::Told>() / 8,
         "Cleaned" => size_of::<host::Cleaned>() / 8,
+        "Fed" => size_of::<Fed>() / 8,
         "u64" => 1,
         // the rows that the wrapper keeps to itself
         _ => {
@@ -193,6 +201,8 @@ fn of_wrapper() -> Functions {
         let kinds = parameters.iter().map(|p| {
             let kind = p.split_once(": ").expect("a type").1;
             match kind.split_once(' ') {
+                Some((pointer, "[u64; 6]")) => row(&pointer[1..], 6),
+                Some((pointer, "[u8; KEPT]")) => format!("{pointer} {} u8", host::KEPT),
                 Some((pointer, name)) if name != "u8" => row(&pointer[1..], numbers(name)),
                 _ => kind.into(),
             }
@@ -204,22 +214,36 @@ fn of_wrapper() -> Functions {
 
 #[test]
 fn everyone_declares_the_same_functions() {
-    let exported = of_crate();
-    assert_eq!(exported.len(), 17);
-    assert!(exported.values().all(|(_, answer)| answer == "u32"));
+    let mut exported = Functions::new();
+    for (name, count) in [("host", 17), ("follow", 3)] {
+        let functions = of_crate(name);
+        assert_eq!(functions.len(), count);
+        assert!(functions.values().all(|(_, answer)| answer == "u32"));
+        let names: BTreeSet<_> = functions.keys().cloned().collect();
+        assert_eq!(symbols(name), names, "the archive of {name}");
+        exported.extend(functions);
+    }
     assert_eq!(of_header(), exported, "the header");
     assert_eq!(of_wrapper(), exported, "the wrapper");
+}
+
+/// The functions that a crate's archive has for others.
+fn symbols(name: &str) -> BTreeSet<String> {
     let mut nm = Command::new("nm");
     nm.args(["--extern-only", "--defined-only", "--format=posix"])
-        .arg(root().join("build/libhost.a"));
+        .arg(root().join(format!("build/lib{name}.a")));
     let symbols = String::from_utf8(run(&mut nm, b"")).expect("text");
-    let symbols: BTreeSet<_> = symbols
+    symbols
         .lines()
         .filter_map(|line| line.split_once(" T "))
-        .map(|(name, _)| name)
-        .collect();
-    let names: BTreeSet<_> = exported.keys().map(String::as_str).collect();
-    assert_eq!(symbols, names, "the archive");
+        .map(|(name, _)| name.to_string())
+        .collect()
+}
+
+/// The parts stand in the wrapper's stream as they do in the header's, which asserts the same size.
+#[test]
+fn a_stream_has_the_size_that_the_header_says() {
+    assert_eq!(size_of::<Stream>(), 8 * 1_039);
 }
 
 #[test]
@@ -306,6 +330,16 @@ impl Script {
     fn words(&mut self, ledger: &Ledger) {
         let words = ledger.to_words().map(|w| w.to_string()).join(" ");
         writeln!(self.asked, "words {words}").expect("memory");
+        self.expected.push(String::new());
+    }
+
+    fn stream(&mut self, stream: &Stream) {
+        let (words, ledger, kept) = stream.clone().into_parts();
+        let numbers = words.into_iter().chain(ledger.to_words());
+        let numbers: Vec<_> = numbers.map(|n| n.to_string()).collect();
+        let end = kept.iter().rposition(|b| *b != 0).map_or(0, |at| at + 1);
+        let kept = hex(&kept[..end]);
+        writeln!(self.asked, "stream {} {kept}", numbers.join(" ")).expect("memory");
         self.expected.push(String::new());
     }
 }
@@ -494,6 +528,85 @@ fn is_clean(s: &mut Script, capture: &[u8]) {
     s.ask("is_clean", &hex(capture), answer, None);
 }
 
+/// A stream as the C program prints it: its numbers, and the bytes that wait; those behind them are 0.
+fn shown(stream: &Stream, waiting: u64) -> String {
+    let (words, ledger, kept) = stream.clone().into_parts();
+    let mut line = " :".to_string();
+    for word in words.into_iter().chain(ledger.to_words()) {
+        write!(line, " {word}").expect("memory");
+    }
+    let (waiting, behind) = kept.split_at(waiting as usize);
+    assert!(behind.iter().all(|b| *b == 0));
+    let waiting = if waiting.is_empty() {
+        String::new()
+    } else {
+        hex(waiting)
+    };
+    format!("{line} {waiting}")
+}
+
+/// A call on a stream: beside 0 the numbers and the records that are told, and the stream behind it.
+fn call_stream(s: &mut Script, d: &mut Dice, stream: &mut Stream, cut: Option<&[u8]>) {
+    let call = |stream: &mut Stream, records: &mut [u8]| match cut {
+        Some(cut) => stream.feed(cut, records),
+        None => stream.close(records),
+    };
+    let mut records = vec![0; host::records_room(host::KEPT + cut.map_or(0, <[u8]>::len))];
+    let needed = call(&mut stream.clone(), &mut records).map_or(0, |fed| fed.records as usize);
+    records.truncate(about(d, needed * host::RECORD));
+    let (name, asked) = match cut {
+        Some(cut) => ("feed", format!("{} {}", records.len(), hex(cut))),
+        None => ("close", records.len().to_string()),
+    };
+    let answer = call(stream, &mut records);
+    s.ask(
+        name,
+        &asked,
+        answer.map(|fed| {
+            let row = vec![fed.records, fed.frames, fed.refused, fed.place, fed.waiting];
+            let given = fed.records as usize * host::RECORD;
+            (row, Some(&records[..given]))
+        }),
+        None,
+    );
+    if let (Ok(fed), Some(line)) = (answer, s.expected.last_mut()) {
+        line.push_str(&shown(stream, fed.waiting));
+    }
+}
+
+fn streams(s: &mut Script, d: &mut Dice) {
+    let mut stream = Stream::open();
+    s.asked += "stream_open\n";
+    s.expected.push(format!("0{}", shown(&stream, 0)));
+    let n = d.len(1_000);
+    let most = d.of(&[40, 200, 9_000]);
+    let mut capture = made::capture(d, n, most);
+    capture.truncate(20_000);
+    let size = d.of(&[100, 500, 10_000]);
+    let mut at = 0;
+    while at < capture.len() {
+        let n = made::cut(d, size, capture.len() - at);
+        call_stream(s, d, &mut stream, Some(&capture[at..at + n]));
+        at += n;
+        if d.once_in(4) {
+            // one call on a stream that was changed by other hands
+            let (mut words, ledger, mut kept) = stream.clone().into_parts();
+            let mut ledger = ledger.to_words();
+            made::spoil_stream(d, &mut words, &mut ledger, &mut kept);
+            let mut other = Stream::of_parts(words, Ledger::of_words(ledger), kept);
+            s.stream(&other);
+            let n = d.len(capture.len() - at + 1);
+            let cut = &capture[at..at + n];
+            let cut = d.of(&[Some(cut), None]);
+            call_stream(s, d, &mut other, cut);
+            s.stream(&stream);
+        }
+    }
+    for cut in [None, Some(&capture[..]), Some(&[]), None] {
+        call_stream(s, d, &mut stream, cut);
+    }
+}
+
 #[test]
 fn c_gets_the_answers_that_rust_gets() {
     let mut s = Script::default();
@@ -503,6 +616,7 @@ fn c_gets_the_answers_that_rust_gets() {
         entries(&mut s, d);
         ledgers(&mut s, d);
         captures(&mut s, d);
+        streams(&mut s, d);
     }
     for (call, numbers) in ALL {
         for n in numbers {
@@ -555,7 +669,9 @@ fn the_header_is_for_cpp_too() {
         return;
     }
     let source = Path::new(env!("CARGO_TARGET_TMPDIR")).join("plus.cpp");
-    let text = "#include \"rietknoest.h\"\nint main() { rk_found f; unsigned char b = 0; return int(rk_search(&b, 1, 0, &f)); }\n";
+    let text = "#include \"rietknoest.h\"
+int main() { rk_stream s; rk_found f; unsigned char b = 0; return int(rk_stream_open(RK_STREAM(&s)) + rk_search(&b, 1, 0, &f)); }
+";
     fs::write(&source, text).expect("a writable folder");
     let program = compiled("c++", "-std=c++11", source.to_str().expect("text"));
     run(&mut Command::new(program), b"");

@@ -180,3 +180,31 @@ pub fn tick_on(channel: u16, number: u64, extension: &[u8]) -> Vec<u8> {
     ];
     frame(b"M201", number, &fields.concat())
 }
+
+/// A row of numbers that is always the same.
+pub struct Dice(pub u64);
+
+impl Dice {
+    pub fn below(&mut self, n: usize) -> usize {
+        self.0 = self
+            .0
+            .wrapping_mul(6364136223846793005)
+            .wrapping_add(1442695040888963407);
+        (self.0 >> 33) as usize % n
+    }
+}
+
+/// The sample with bytes changed, cut out and put in.
+pub fn damaged(dice: &mut Dice) -> Vec<u8> {
+    let mut capture = sample();
+    for _ in 0..dice.below(40) {
+        let at = dice.below(capture.len());
+        match dice.below(4) {
+            0 => capture[at] ^= 1 << dice.below(8),
+            1 => capture.insert(at, dice.below(256) as u8),
+            2 => drop(capture.drain(at..(at + dice.below(60)).min(capture.len()))),
+            _ => capture.truncate(capture.len() - dice.below(9)),
+        }
+    }
+    capture
+}

@@ -3,7 +3,7 @@
 #![allow(dead_code)] // each test uses a part
 
 /// Every number that each call can give: a run that gives fewer has tried too little.
-pub const ALL: [(&str, &[u32]); 16] = [
+pub const ALL: [(&str, &[u32]); 18] = [
     ("read", &[0, 1, 2, 3, 4, 5, 6]),
     ("write", &[0, 2, 3, 4, 6, 8]),
     ("search", &[0, 9]),
@@ -20,6 +20,8 @@ pub const ALL: [(&str, &[u32]); 16] = [
     ("listing", &[0, 8, 13]),
     ("clean", &[0, 8]),
     ("frames after damage", &[0]),
+    ("feed", &[0, 8, 13, 19, 29]),
+    ("close", &[0, 8, 13, 19]),
 ];
 
 /// A generator of numbers (splitmix64).
@@ -437,5 +439,36 @@ pub fn about(d: &mut Dice, n: usize) -> usize {
         1 => d.len(n + 1),
         2 => n + d.len(80),
         _ => n,
+    }
+}
+
+/// How a stream is made broken, or moved so far that few places are left. A state by its parts: the words, the ledger's, and the store.
+pub fn spoil_stream(
+    d: &mut Dice,
+    words: &mut [u64; 6],
+    ledger: &mut [u64; 9],
+    kept: &mut [u8; 8_191],
+) {
+    let waiting = words[3].min(8_190) as usize;
+    match d.below(12) {
+        // few places left
+        0..=3 => words[0] = u64::MAX - words[3] - d.below(40),
+        4 => words[d.of(&[1, 2])] = d.of(&[0, 1, 1, 2, u64::MAX]),
+        5 => words[3] = words[3].wrapping_add(d.of(&[1, u64::MAX])),
+        6 => words[3] = d.of(&[8_190, 8_191, 8_192, u64::MAX]),
+        7 => words[d.of(&[0, 4, 5])] = d.edge(),
+        8 => kept[d.of(&[waiting, 8_190])] = 1,
+        9 => kept[d.len(waiting + 1)] ^= 1 << d.below(8),
+        10 => ledger[0] = d.of(&[0, 99, 100, 65_536 + 100, u64::MAX]),
+        _ => *ledger = any_words(d),
+    }
+}
+
+/// How many of the bytes that are left a cut has, in a row of cuts of about that size; now and then none.
+pub fn cut(d: &mut Dice, size: usize, left: usize) -> usize {
+    match d.below(8) {
+        0 => 0,
+        1 => d.len(left + 1),
+        _ => (size / 2 + d.len(size) + 1).min(left),
     }
 }
