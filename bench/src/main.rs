@@ -46,8 +46,15 @@ fn turns(bytes: usize) -> (u32, usize) {
 }
 
 /// The best nanoseconds a byte of several pieces of work, taken in turn.
-fn best<const N: usize>(bytes: usize, mut work: [&mut dyn FnMut(); N]) -> [f64; N] {
-    let (runs, times) = turns(bytes);
+fn best<const N: usize>(bytes: usize, work: [&mut dyn FnMut(); N]) -> [f64; N] {
+    best_of(turns(bytes), bytes, work)
+}
+
+fn best_of<const N: usize>(
+    (runs, times): (u32, usize),
+    bytes: usize,
+    mut work: [&mut dyn FnMut(); N],
+) -> [f64; N] {
     let mut best = [Duration::MAX; N];
     for _ in 0..runs {
         for (best, work) in best.iter_mut().zip(&mut work) {
@@ -363,6 +370,81 @@ fn growth(sizes: &[(&str, usize)]) {
     }
 }
 
+// BYTES IN CUTS
+
+/// All of a capture in cuts of one size, from a stream that is opened for it to its closing. The records stand one behind the other.
+fn in_cuts(capture: &[u8], size: usize, records: &mut [u8]) -> (host::Stream, host::Fed) {
+    let mut stream = host::Stream::open();
+    let mut at = 0;
+    for cut in capture.chunks(size) {
+        let fed = stream.feed(cut, &mut records[at..]).expect("room");
+        at += fed.records as usize * host::RECORD;
+    }
+    let fed = stream.close(&mut records[at..]).expect("room");
+    (stream, fed)
+}
+
+fn cuts(input: &str, bytes: usize, sizes: &[usize]) {
+    let capture = made::capture(bytes);
+    let room = host::records_room(bytes);
+    let (mut a, mut b) = (vec![0; room], vec![0; room]);
+    let walked = host::walk(&capture, &mut b).expect("room");
+    for size in sizes {
+        let (stream, fed) = in_cuts(&capture, *size, &mut a);
+        assert_eq!((fed.frames, fed.refused), (walked.frames, walked.refused));
+        assert_eq!(stream.ledger, walked.ledger);
+        assert!(a == b);
+        // a call is dear: few turns where there are many
+        let turns = if bytes / size > 1_000 {
+            (5, 1)
+        } else {
+            turns(bytes)
+        };
+        let [x, y] = best_of(
+            turns,
+            bytes,
+            [
+                &mut || done(in_cuts(black_box(&capture), *size, &mut a)),
+                &mut || done(host::walk(black_box(&capture), &mut b)),
+            ],
+        );
+        let ratio = x / y;
+        println!("| {size} | {input} | {x:.3} ns a byte | {y:.3} ns a byte | {ratio:.2}x |");
+    }
+}
+
+/// Bytes of one long frame that come one by one, at its front and at its end: what waits by then should cost nothing.
+fn one_by_one() {
+    const PART: usize = 1_024;
+    let frame = made::frame(plain::M101, 1, &Dice(5).bytes(8_164));
+    let records = &mut [0; host::RECORD];
+    let fresh = host::Stream::open();
+    let mut late = fresh.clone();
+    let before_last = frame.len() - PART;
+    let fed = late.feed(&frame[..before_last], records).expect("room");
+    assert_eq!(fed.waiting as usize, before_last);
+    let feed = |stream: &host::Stream, bytes: &[u8]| {
+        let (mut stream, mut frames) = (stream.clone(), 0);
+        for byte in black_box(bytes).chunks(1) {
+            let fed = stream.feed(byte, &mut [0; host::RECORD]).expect("room");
+            frames = fed.frames;
+        }
+        frames
+    };
+    assert_eq!(feed(&fresh, &frame[..PART]), 0);
+    assert_eq!(feed(&late, &frame[before_last..]), 1);
+    let [first, last] = best_of(
+        (50, 1),
+        PART,
+        [&mut || done(feed(&fresh, &frame[..PART])), &mut || {
+            done(feed(&late, &frame[before_last..]))
+        }],
+    );
+    println!("| ns a byte | the first 1,024 | the last 1,024 |");
+    println!("|---|---|---|");
+    println!("| a frame of 8,192 bytes, byte by byte | {first:.0} | {last:.0} |");
+}
+
 fn main() {
     let sizes = [
         ("64 KiB", KIB_64),
@@ -381,4 +463,13 @@ fn main() {
     }
     println!();
     growth(if small { &sizes[..2] } else { &sizes });
+    println!();
+    println!("| Cuts of | Input | stream | closed walk | ratio |");
+    println!("|---|---|---|---|---|");
+    cuts("64 KiB", KIB_64, &[1, 64, 1_460, 65_536]);
+    if !small {
+        cuts("10 MB", 10 * MB, &[64, 1_460, 65_536]);
+    }
+    println!();
+    one_by_one();
 }
