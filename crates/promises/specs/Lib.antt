@@ -5,3 +5,5 @@ pub mod Demand2
 pub mod Demand3
 pub mod Cuttings
 pub mod Marked
+pub mod Parts
+pub mod Pieces
