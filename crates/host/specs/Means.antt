@@ -1,5 +1,5 @@
--- What a host has after a call on frames and captures, in the words of the crates below: by the offsets of bytes and by what document 01 says of each number,
--- where these say so. No definition of the promises stands here: proofs/Means.antt says of each function that what its promise allows is this.
+-- What a host has after a call on frames and captures, in the words of the crates below: a number of a frame by its offset, an answer by document 01's condition for it.
+-- No definition of the promises stands here: proofs/Means.antt says of each function that what its promise allows is this.
 -- x is the answer, row or told what is told; a buffer that was lent as d is d′ afterwards.
 use Prim.Native.Nat.{ℕ, _+_, _≤_, _<_}
 use mathlib.Core.Path.{_≡_}
