@@ -4,4 +4,3 @@ pub mod Kept
 pub mod OneAnswer
 pub mod Promised
 pub mod Listed
-pub mod Means

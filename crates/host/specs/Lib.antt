@@ -4,4 +4,3 @@ pub mod Words
 pub mod Called
 pub mod Captures
 pub mod Listed
-pub mod Means
