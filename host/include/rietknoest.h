@@ -216,7 +216,7 @@ uint32_t rk_listing(const uint8_t *records, size_t records_len, uint64_t frames,
  * private bytes are painted over: lend memory of your own, and not a mapped file. */
 uint32_t rk_clean(const uint8_t *capture, size_t len, uint8_t *out, size_t out_len, rk_cleaned *told);
 
-/* Whether a capture is what cleaning it gives. Always 0. It takes about 9 KB of stack, and rk_stream_feed and rk_stream_close about 135 KB;
+/* Whether a capture is what cleaning it gives. Always 0. It takes about 9 KB of stack, and rk_stream_feed and rk_stream_close up to 135 KB;
  * no other function takes more than 1 KB.
  * Writes *told: the first place where the two differ, or none. */
 uint32_t rk_is_clean(const uint8_t *capture, size_t len, rk_found *told);
@@ -228,7 +228,8 @@ uint32_t rk_is_clean(const uint8_t *capture, size_t len, rk_found *told);
  * from a place on whose reading answers 1 so far. A call has a cost of its own, some microseconds: gather single bytes first.
  *
  * Words and kept bytes are the caller's to keep and to copy, not to interpret or to make. The ledger may be lent to rk_listing,
- * rk_ledger_told and rk_ledger_request. A call given a stream that breaks the state rules answers 13. */
+ * rk_ledger_told, rk_ledger_request and rk_ledger_reply; the last two change its pending request alone, in which it then differs from
+ * rk_walk's. A call given a stream that breaks the state rules answers 13. */
 typedef struct {
     uint64_t words[6];
     rk_ledger ledger;
@@ -236,7 +237,7 @@ typedef struct {
 } rk_stream;
 RK_SIZE(rk_stream, 1039);
 
-/* A stream as the three parts that the functions take: rk_stream_open(RK_STREAM(&stream)). */
+/* A stream as the three parts that the functions take: rk_stream_open(RK_STREAM(&stream)). Its argument is evaluated three times. */
 #define RK_STREAM(stream) (stream)->words, &(stream)->ledger, (stream)->kept
 
 typedef struct {

@@ -553,7 +553,7 @@ pub const KEPT: usize = 8_191;
 #[repr(C)]
 pub struct Stream {
     words: [u64; 6],
-    /// The ledger of channel 100. A request may be put to it between two calls.
+    /// The ledger of channel 100. A request may be put to it between two calls, and a reply; the walk offers it neither.
     pub ledger: Ledger,
     kept: [u8; KEPT],
 }

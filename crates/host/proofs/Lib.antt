@@ -4,3 +4,4 @@ pub mod Kept
 pub mod OneAnswer
 pub mod Promised
 pub mod Listed
+pub mod Means

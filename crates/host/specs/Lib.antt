@@ -4,3 +4,4 @@ pub mod Words
 pub mod Called
 pub mod Captures
 pub mod Listed
+pub mod Means

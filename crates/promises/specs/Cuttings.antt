@@ -31,6 +31,10 @@ use Rattle.stream.specs.Words.{waitAt, decided, answered}
 use Rattle.stream.proofs.Rules.{rules-facts}
 use Rattle.stream.proofs.Cuttings.{every-cutting, one-state, ran-is, waits-there, waits-first}
 use Rattle.stream.proofs.Promised as Promised
+use Rattle.follow.specs.Lent.{Lent}
+use Rattle.follow.specs.Rows.{Followed, HostFollows}
+use Rattle.follow.proofs.Cuttings as Follow
+use Rattle.follow.proofs.Cuttings.{every-host-cutting}
 use Rattle.stream.proofs.Promised.{ran-rules, ran-few, ran-heard, ran-closed, ran-number}
 
 -- "A place that answers 1 waits for more": `waitAt` is such a place, or the end, and every one before it lies inside a frame that was read
@@ -105,6 +109,10 @@ pub one-outcome : {calls others : Calls} {x y : Stream} (row : Row calls x) (oth
 one-outcome {calls} {others} row other t e =
     (ran-is row ∙ one-state calls others t e ∙ sym (ran-is other), so-far row ∙ rw (t, e) (sym (so-far other)))
 
+-- The same through C and Rust: of what a host has after a row of calls on what rk_stream_open wrote
+pub through-follow : {calls : Calls} {k : Lent} → Followed calls k → HostFollows calls k
+through-follow = every-host-cutting
+
 -- that opening and each call of the code, by the checker's promise of its `ensures`, begin such a row and lengthen it
 data Named : Type 0 where
   named : Named
@@ -114,4 +122,7 @@ ties calls =
     let opened-is-opening = Promised.opened-is-opening in
     let feed-goes-on = Promised.feed-goes-on {calls = calls} in
     let close-goes-on = Promised.close-goes-on {calls = calls} in
+    let host-opening = Follow.open-is-opening in
+    let host-feed = Follow.feed-is-call in
+    let host-close = Follow.close-is-call in
     named

@@ -18,7 +18,7 @@ use Rattle.ledger.proofs.Seam.{book-of}
 use Rattle.ledger.proofs.Promised as Promised
 use Rattle.ledger.proofs.Promised.{ran-is-trace, ran-demand-3}
 use Rattle.words.specs.Words.{bookIn}
-use Rattle.host.specs.Called.{HostRan}
+use Rattle.host.specs.Called.{Called, HostRan}
 use Rattle.host.proofs.Promised as Hosted
 
 module _ (channel : ℕ) (opens : channel ≤ 9999) {calls : Calls} {l : Ledger} {h : History} (ran : Ran channel calls l h) where
@@ -65,6 +65,11 @@ each-answer = Answered.answers
 -- come of such calls. What rk_ledger_told then tells are the numbers of h (`host-told` of `host`).
 pub through-the-host : (channel : ℕ) → channel ≤ 9999 → {calls : Calls} {w : List ℕ} {h : History} → HostRan channel calls w h → Demand3 h channel (bookIn w)
 through-the-host = Hosted.host-ran-demand-3
+
+-- and each of them is answered what the ledger after the calls before it answers
+pub host-answers : (channel : ℕ) → channel ≤ 9999 → {calls : Calls} {w : List ℕ} {h : History} → HostRan channel calls w h
+    → (call : Call) (w′ : List ℕ) (a : Paper) → Called w call w′ a → a ≡ answerTo (after channel calls) call
+host-answers = Hosted.host-answers
 
 -- that opening and each call of the code, by the checker's promise of its `ensures`, are the start and the steps that `Ran` and `HostRan` are made of
 data Named : Type 0 where

@@ -1,10 +1,11 @@
 -- Demand 1 through the host, where an answer is a bare number: it is 0, or one of document 01's table. `Tells` says that it is a paper's, and
 -- this is said of each paper that a function of `host` names in its promise.
-use Prim.Native.Nat.{ℕ, _+_}
-use mathlib.Core.Path.{refl, ap}
+use Prim.Native.Nat.{ℕ, _+_, _/_}
+use mathlib.Core.Path.{_≡_, refl, ap}
 use mathlib.Core.Bool.{Bool, true, false, not}
-use mathlib.Core.Logic.{⊎-elim}
+use mathlib.Core.Logic.{_⊎_, inl, inr, ⊎-elim}
 use mathlib.Core.List.{List, [], _∷_}
+use denote.Ref.{now}
 use lib.Dec.{eqb, ltb, leb}
 use lib.ListN.{length}
 use Rattle.terms.specs.Paper.{Paper, answer, refusal, pick}
@@ -26,11 +27,58 @@ use Rattle.book.specs.State.{Book, largest, has, soundOf}
 use Rattle.book.specs.Calls.{Call, Tick, Announce, Request, Reply, Missing, Held, tickNumber, replyStatus, isPending, startsAt, elsewhere, ownNumber, checkedOf, numberTo, answerTo, openNumber}
 use Rattle.walk.specs.Walk as walk
 use Rattle.clean.specs.Clean as clean
+use Rattle.stream.specs.declared.Stream.{Stream}
+use Rattle.stream.specs.State as stream
+use Rattle.stream.specs.State.{lastPlace}
+use Rattle.stream.specs.Calls as stream-calls
+use Rattle.stream.specs.Calls.{givenOf, numberFor, answerFor}
 use Rattle.words.specs.Told.{Tells}
+use Rattle.follow.specs.Lent.{lent, streamIn}
 use Rattle.host.specs.Frames.{readTold, searchTold, privateTold, entriesTold, entryTold}
 use Rattle.words.specs.Words.{bookIn}
 use Rattle.host.specs.Words.{callTold, ledgerTold}
 use Rattle.host.specs.Captures.{listed, listingTold, cleanTold}
+use Rattle.host.proofs.rk_read.Reads as rk-read
+use Rattle.host.proofs.rk_read.Kinds as rk-read-kinds
+use Rattle.host.proofs.rk_write.Reads as rk-write
+use Rattle.host.proofs.rk_write.Kinds as rk-write-kinds
+use Rattle.host.proofs.rk_search.Reads as rk-search
+use Rattle.host.proofs.rk_search.Kinds as rk-search-kinds
+use Rattle.host.proofs.rk_scrub.Reads as rk-scrub
+use Rattle.host.proofs.rk_scrub.Kinds as rk-scrub-kinds
+use Rattle.host.proofs.rk_private.Reads as rk-private
+use Rattle.host.proofs.rk_private.Kinds as rk-private-kinds
+use Rattle.host.proofs.rk_entries.Reads as rk-entries
+use Rattle.host.proofs.rk_entries.Kinds as rk-entries-kinds
+use Rattle.host.proofs.rk_entry.Reads as rk-entry
+use Rattle.host.proofs.rk_entry.Kinds as rk-entry-kinds
+use Rattle.host.proofs.rk_ledger_open.Reads as rk-ledger-open
+use Rattle.host.proofs.rk_ledger_open.Kinds as rk-ledger-open-kinds
+use Rattle.host.proofs.rk_ledger_tick.Reads as rk-ledger-tick
+use Rattle.host.proofs.rk_ledger_tick.Kinds as rk-ledger-tick-kinds
+use Rattle.host.proofs.rk_ledger_announce.Reads as rk-ledger-announce
+use Rattle.host.proofs.rk_ledger_announce.Kinds as rk-ledger-announce-kinds
+use Rattle.host.proofs.rk_ledger_request.Reads as rk-ledger-request
+use Rattle.host.proofs.rk_ledger_request.Kinds as rk-ledger-request-kinds
+use Rattle.host.proofs.rk_ledger_reply.Reads as rk-ledger-reply
+use Rattle.host.proofs.rk_ledger_reply.Kinds as rk-ledger-reply-kinds
+use Rattle.host.proofs.rk_ledger_told.Reads as rk-ledger-told
+use Rattle.host.proofs.rk_ledger_told.Kinds as rk-ledger-told-kinds
+use Rattle.host.proofs.rk_walk.Reads as rk-walk
+use Rattle.host.proofs.rk_walk.Kinds as rk-walk-kinds
+use Rattle.host.proofs.rk_listing.Reads as rk-listing
+use Rattle.host.proofs.rk_listing.Kinds as rk-listing-kinds
+use Rattle.host.proofs.rk_clean.Reads as rk-clean
+use Rattle.host.proofs.rk_clean.Kinds as rk-clean-kinds
+use Rattle.host.proofs.rk_is_clean.Reads as rk-is-clean
+use Rattle.host.proofs.rk_is_clean.Kinds as rk-is-clean-kinds
+use Rattle.follow.proofs.rk_stream_open.Reads as rk-stream-open
+use Rattle.follow.proofs.rk_stream_open.Kinds as rk-stream-open-kinds
+use Rattle.follow.proofs.rk_stream_feed.Reads as rk-stream-feed
+use Rattle.follow.proofs.rk_stream_feed.Kinds as rk-stream-feed-kinds
+use Rattle.follow.proofs.rk_stream_close.Reads as rk-stream-close
+use Rattle.follow.proofs.rk_stream_close.Kinds as rk-stream-close-kinds
+use Rattle.promises.specs.Calls.{Promises}
 use Rattle.promises.specs.Demand1.{inTable, Numbered, done, refused, reads-numbered}
 
 -- a choice between two
@@ -155,3 +203,89 @@ host-numbered =
 -- so an answer that a promise of the host allows is such a number
 pub tells-numbered : {p : Paper} {was : List ℕ} {n : ℕ} {row : List ℕ} → Tells p was n row → Numbered (p .number) → Numbered n
 tells-numbered t h = rw (t .answered) h
+
+-- EACH FUNCTION OF THE HOST: whatever its promise allows it to answer
+
+pub rk-read-numbered : Promises _ rk-read-kinds.ps rk-read-kinds.r rk-read.Post (λ κs a x s. Numbered x)
+rk-read-numbered κs a x s p = tells-numbered p (host-numbered .reading _)
+
+pub rk-write-numbered : Promises _ rk-write-kinds.ps rk-write-kinds.r rk-write.Post (λ κs a x s. Numbered x)
+rk-write-numbered κs a x s p = tells-numbered (p .0) (host-numbered .writing _ _)
+
+pub rk-search-numbered : Promises _ rk-search-kinds.ps rk-search-kinds.r rk-search.Post (λ κs a x s. Numbered x)
+rk-search-numbered κs a x s p = tells-numbered p (host-numbered .searching _ _)
+
+pub rk-scrub-numbered : Promises _ rk-scrub-kinds.ps rk-scrub-kinds.r rk-scrub.Post (λ κs a x s. Numbered x)
+rk-scrub-numbered κs a x s p = tells-numbered (p .0) (host-numbered .scrubbing _)
+
+pub rk-private-numbered : Promises _ rk-private-kinds.ps rk-private-kinds.r rk-private.Post (λ κs a x s. Numbered x)
+rk-private-numbered κs a x s p = tells-numbered p (host-numbered .spans _ _ _)
+
+pub rk-entries-numbered : Promises _ rk-entries-kinds.ps rk-entries-kinds.r rk-entries.Post (λ κs a x s. Numbered x)
+rk-entries-numbered κs a x s p = tells-numbered p (host-numbered .opening-entries _)
+
+pub rk-entry-numbered : Promises _ rk-entry-kinds.ps rk-entry-kinds.r rk-entry.Post (λ κs a x s. Numbered x)
+rk-entry-numbered κs a x s p = tells-numbered p (host-numbered .stepping _ _)
+
+pub rk-ledger-open-numbered : Promises _ rk-ledger-open-kinds.ps rk-ledger-open-kinds.r rk-ledger-open.Post (λ κs a x s. Numbered x)
+rk-ledger-open-numbered κs a x s p = rw (p .0) (host-numbered .opening (a .0))
+
+pub rk-ledger-tick-numbered : Promises _ rk-ledger-tick-kinds.ps rk-ledger-tick-kinds.r rk-ledger-tick.Post (λ κs a x s. Numbered x)
+rk-ledger-tick-numbered κs a x s p = tells-numbered (p .0) (host-numbered .calling _ _)
+
+pub rk-ledger-announce-numbered : Promises _ rk-ledger-announce-kinds.ps rk-ledger-announce-kinds.r rk-ledger-announce.Post (λ κs a x s. Numbered x)
+rk-ledger-announce-numbered κs a x s p = rw (p .0) (host-numbered .calling (now (a .0)) (Announce (a .1 .0) (a .1 .1 .0)))
+
+pub rk-ledger-request-numbered : Promises _ rk-ledger-request-kinds.ps rk-ledger-request-kinds.r rk-ledger-request.Post (λ κs a x s. Numbered x)
+rk-ledger-request-numbered κs a x s p = tells-numbered (p .0) (host-numbered .calling _ _)
+
+pub rk-ledger-reply-numbered : Promises _ rk-ledger-reply-kinds.ps rk-ledger-reply-kinds.r rk-ledger-reply.Post (λ κs a x s. Numbered x)
+rk-ledger-reply-numbered κs a x s p = rw (p .0) (host-numbered .calling (now (a .0)) (Reply (a .1 .0) (a .1 .1 .0) (a .1 .1 .1 .0)))
+
+pub rk-ledger-told-numbered : Promises _ rk-ledger-told-kinds.ps rk-ledger-told-kinds.r rk-ledger-told.Post (λ κs a x s. Numbered x)
+rk-ledger-told-numbered κs a x s p = tells-numbered p (host-numbered .telling _)
+
+pub rk-walk-numbered : Promises _ rk-walk-kinds.ps rk-walk-kinds.r rk-walk.Post (λ κs a x s. Numbered x)
+rk-walk-numbered κs a x s p = tells-numbered (p .0) (host-numbered .walking _ _)
+
+pub rk-listing-numbered : Promises _ rk-listing-kinds.ps rk-listing-kinds.r rk-listing.Post (λ κs a x s. Numbered x)
+rk-listing-numbered κs a x s p = tells-numbered (p .0) (host-numbered .listing _ _ _ _ _)
+
+pub rk-clean-numbered : Promises _ rk-clean-kinds.ps rk-clean-kinds.r rk-clean.Post (λ κs a x s. Numbered x)
+rk-clean-numbered κs a x s p = tells-numbered (p .0) (host-numbered .cleaning _ _)
+
+pub rk-is-clean-numbered : Promises _ rk-is-clean-kinds.ps rk-is-clean-kinds.r rk-is-clean.Post (λ κs a x s. Numbered x)
+rk-is-clean-numbered κs a x s p = tells-numbered p (host-numbered .checking _)
+
+-- and of `follow`, with the two numbers of CR 1
+
+abbrev pub StreamNumbered : ℕ → Type 0
+StreamNumbered n = Numbered n ⊎ ((n ≡ 19) ⊎ (n ≡ 29))
+
+either-one : (b : Bool) (m n : ℕ) → StreamNumbered m → StreamNumbered n → StreamNumbered (pick b m n)
+either-one true m n p q = p
+either-one false m n p q = q
+
+streaming : (x : Stream) (closing : Bool) (cut : List ℕ) (len : ℕ) → StreamNumbered (numberFor x closing cut len)
+unfolding numberFor inTable
+streaming x closing cut len =
+    let full = not (leb (length (givenOf x closing cut)) (len / 64)) in
+    let far = not (leb (x .place + (x .len + length cut)) lastPlace) in
+    either-one (not (stream.soundOf x)) 13 (pick (x .closed) 19 (pick far 29 (pick full 8 0))) (inl (refused refl))
+    (either-one (x .closed) 19 (pick far 29 (pick full 8 0)) (inr (inl refl))
+    (either-one far 29 (pick full 8 0) (inr (inr refl)) (either-one full 8 0 (inl (refused refl)) (inl (done refl)))))
+
+calling-stream : (x : Stream) (call : stream-calls.Call) (len : ℕ) → StreamNumbered (stream-calls.answerTo x call len .number)
+unfolding answerFor
+calling-stream x call len = streaming x (stream-calls.closes call) (stream-calls.cutOf call) len
+
+pub rk-stream-open-numbered : Promises _ rk-stream-open-kinds.ps rk-stream-open-kinds.r rk-stream-open.Post (λ κs a x s. Numbered x)
+rk-stream-open-numbered κs a x s p = done (p .0)
+
+pub rk-stream-feed-numbered : Promises _ rk-stream-feed-kinds.ps rk-stream-feed-kinds.r rk-stream-feed.Post (λ κs a x s. StreamNumbered x)
+rk-stream-feed-numbered κs a x s p =
+    rw (p .0 .answered) (calling-stream (streamIn (lent (now (a .0)) (now (a .1 .0)) (now (a .1 .1 .0)))) (stream-calls.Feed (now (a .1 .1 .1 .0))) (length (now (a .1 .1 .1 .1 .0))))
+
+pub rk-stream-close-numbered : Promises _ rk-stream-close-kinds.ps rk-stream-close-kinds.r rk-stream-close.Post (λ κs a x s. StreamNumbered x)
+rk-stream-close-numbered κs a x s p =
+    rw (p .0 .answered) (calling-stream (streamIn (lent (now (a .0)) (now (a .1 .0)) (now (a .1 .1 .0)))) stream-calls.Close (length (now (a .1 .1 .1 .0))))

@@ -2,6 +2,9 @@ pub mod Calls
 pub mod Demand1
 pub mod HostNumbers
 pub mod Demand2
+pub mod HostFrames
 pub mod Demand3
 pub mod Cuttings
 pub mod Marked
+pub mod Parts
+pub mod Pieces

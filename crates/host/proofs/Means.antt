@@ -1,0 +1,408 @@
+-- What a call on frames and captures comes to, from the promises that the checker makes of the `ensures`. Assumes nothing.
+use Prim.Native.Nat.{ℕ, _+_, _*_, _/_, _≤_, _<_}
+use mathlib.Core.Path.{_≡_, refl, sym, ap, ap₂, _∙_}
+use mathlib.Core.Bool.{true, false}
+use mathlib.Core.Logic.{⊎-elim, _↔_}
+use mathlib.Core.List.{List, [], _∷_}
+use native.Mathlib.Nat.{zero-add}
+use native.Mathlib.Omega.{arith}
+use contract.Lifetimes.{Lfts}
+use borrow.Author.Tests.{le-leb, lt-leb, ne-eqb, eqb-true, leb-true}
+use borrow.Fn.Kinds.{Dens, endedOf, resT}
+use denote.Ref.{now}
+use denote.Triple.Clauses.{AtExit}
+use lib.Dec.{leb}
+use lib.ListN.{length, getD, take, drop}
+use Rattle.terms.specs.Paper.{Paper, answer, refusal, one-number}
+use Rattle.terms.specs.Cases.{two, same}
+use Rattle.octets.specs.Octets.{be}
+use Rattle.octets.specs.Numerals.{numeral-drop, numeral-take}
+use Rattle.octets.specs.Papers.{roomFor, laidIfRoom, room-there, room-lacks, laid-there, laid-kept}
+use Rattle.rules.specs.declared.Kind.{Kind}
+use Rattle.rules.specs.declared.Kind.the-variants.{S001, S002, S003, P001, P002, M101, M102, M201, Unknown}
+use Rattle.rules.specs.Rules.{short, long}
+use Rattle.rules.specs.Meaning.{size-one}
+use Rattle.rules.specs.Table.{kindOf, suits}
+use Rattle.wire.specs.Frame.{bodyLength, body, checked, readOf}
+use Rattle.wire.specs.GivenRead.{read-given}
+use Rattle.wire.specs.GivenWrite.{write-given}
+use Rattle.wire.specs.Lowest.{ReadsAt, LowestPlace, Lowest, l-at, l-none, lowest, search-given-9, search-given-place, search-given-none}
+use Rattle.wire.specs.Measures.{fits}
+use Rattle.wire.specs.Outcomes.{Reading, r-short, r-measure, r-cut, r-sum, r-judged, r-frame, reading, good, good-reads}
+use Rattle.wire.specs.Places.{body-of}
+use Rattle.wire.specs.Search.{searchOf}
+use Rattle.wire.specs.Write.{Message, message, writeOf}
+use Rattle.wire.specs.WriteLaws.{Writing, w-measured, w-judged, w-room, w-done, writing}
+use Rattle.view.specs.View.{viewOf}
+use Rattle.entries.specs.Exactly.{open-given, step-given-0, step-given-20, step-moves}
+use Rattle.entries.specs.Given.{Stands}
+use Rattle.entries.specs.Outcomes.{step-done, entry-short, entry-long}
+use Rattle.entries.specs.Places.{stands-says}
+use Rattle.entries.specs.Reader.{stepOf}
+use Rattle.scrub.specs.Laws.{scrub-number, answer-refused}
+use Rattle.scrub.specs.Private.{privateOf, spanAt}
+use Rattle.scrub.specs.Scrub.{scrubAnswer}
+use Rattle.book.specs.Calls.{Missing, ownNumber, numberTo, answerTo}
+use Rattle.book.specs.State.{Book, StateRules}
+use Rattle.book.proofs.Given.{given-13}
+use Rattle.book.proofs.Numbers.{checked-test}
+use Rattle.ledger.specs.State.{bookOf}
+use Rattle.walk.specs.Literal.{Walk, typeIn, literalWalk}
+use Rattle.walk.specs.Promises.{literal-walk}
+use Rattle.walk.specs.Walk as walks
+use Rattle.clean.specs.Checks.{First, Differs, d-none, d-first, differs, check-clean}
+use Rattle.clean.specs.Clean as cleans
+use Rattle.clean.specs.Clean.{cleanOf, differOf, checkOf}
+use Rattle.lines.specs.Listed.{lastAt}
+use Rattle.lines.specs.Listing.{listingOf}
+use Rattle.words.specs.Told.{perhaps, toldBy, Tells}
+use Rattle.words.specs.Words.{bookIn}
+use Rattle.host.specs.Called.{seen}
+use Rattle.host.specs.Captures.{walkWords, listed, listingTold, listingLeaves, cleanTold}
+use Rattle.host.specs.Frames.{viewNumbers, readTold, searchTold, privateTold, entriesTold, entryNumbers, entryTold}
+use Rattle.host.specs.Listed.{HostListed}
+use Rattle.host.specs.Means.{bodyNumbers, HostRead, HostWrote, HostFound, HostScrubbed, HostOpened, HostStepped, HostCleaned, HostChecked}
+use Rattle.host.specs.Words.{keptBy, callTold}
+use Rattle.host.proofs.rk_read.Reads as read
+use Rattle.host.proofs.rk_read.Kinds as read-kinds
+use Rattle.host.proofs.rk_write.Reads as write
+use Rattle.host.proofs.rk_write.Kinds as write-kinds
+use Rattle.host.proofs.rk_search.Reads as find
+use Rattle.host.proofs.rk_search.Kinds as find-kinds
+use Rattle.host.proofs.rk_scrub.Reads as scrub
+use Rattle.host.proofs.rk_scrub.Kinds as scrub-kinds
+use Rattle.host.proofs.rk_private.Reads as private
+use Rattle.host.proofs.rk_private.Kinds as private-kinds
+use Rattle.host.proofs.rk_entries.Reads as entries
+use Rattle.host.proofs.rk_entries.Kinds as entries-kinds
+use Rattle.host.proofs.rk_entry.Reads as entry
+use Rattle.host.proofs.rk_entry.Kinds as entry-kinds
+use Rattle.host.proofs.rk_walk.Reads as walk
+use Rattle.host.proofs.rk_walk.Kinds as walk-kinds
+use Rattle.host.proofs.rk_listing.Reads as listing
+use Rattle.host.proofs.rk_listing.Kinds as listing-kinds
+use Rattle.host.proofs.rk_clean.Reads as clean
+use Rattle.host.proofs.rk_clean.Kinds as clean-kinds
+use Rattle.host.proofs.rk_is_clean.Reads as is-clean
+use Rattle.host.proofs.rk_is_clean.Kinds as is-clean-kinds
+
+-- ======== What a told row shows
+
+-- a paper that has no value beside a refusal
+abbrev Bare : Paper → Type 0
+Bare p = (p .number ≡ 0 → ⊥) → p ≡ refusal (p .number)
+
+bare-as : {p : Paper} {n : ℕ} → p ≡ refusal n → p ≡ refusal (p .number)
+bare-as e = e ∙ ap (λ (q : Paper). refusal (q .number)) (sym e)
+
+-- beside a refusal such a paper is what the caller sees, whatever the row holds
+sees-refused : {p : Paper} {x : ℕ} (row : List ℕ) → Bare p → x ≡ p .number → (x ≡ 0 → ⊥) → seen x row ≡ p
+sees-refused {p} {x} row bare e n = rw (ne-eqb x 0 n) (ap refusal e ∙ sym (bare (λ (z : p .number ≡ 0). n (e ∙ z))))
+
+module _ {p : Paper} {was row : List ℕ} {x : ℕ} (t : Tells p was x row) where
+  told-0 : x ≡ 0 → row ≡ p .values
+  unfolding toldBy
+  told-0 z = t .told ∙ rw (← t .answered, z)
+
+  -- beside 0 too
+  sees : Bare p → seen x row ≡ p
+  sees bare =
+      ⊎-elim (λ (z : x ≡ 0). let e : answer x row ≡ p = ap₂ answer (t .answered) (told-0 z) in rw z (rw z at e))
+      (λ (n : x ≡ 0 → ⊥). sees-refused row bare (t .answered) n)
+      (same x 0)
+
+  -- its number is given exactly when the paper's is
+  given-as : {G : ℕ → Type 0} → ((n : ℕ) → (p .number ≡ n) ↔ G n) → (n : ℕ) → (x ≡ n) ↔ G n
+  given-as g n = (λ (e : x ≡ n). g n .0 (sym (t .answered) ∙ e), λ h. t .answered ∙ g n .1 h)
+
+read-bare-of : (s : List ℕ) (p : Paper) → Reading s p → Bare p
+read-bare-of s p (r-short e h) n = bare-as e
+read-bare-of s p (r-measure e h m) n = bare-as e
+read-bare-of s p (r-cut e h m l) n = bare-as e
+read-bare-of s p (r-sum e w m) n = bare-as e
+read-bare-of s p (r-judged e w f m) n = bare-as e
+read-bare-of s p (r-frame e g) n = absurd (n (one-number e))
+
+read-bare : (s : List ℕ) → Bare (readOf s)
+read-bare s = read-bare-of s (readOf s) (reading s)
+
+write-bare-of : (m : Message) (room : ℕ) (p : Paper) → Writing m room p → Bare p
+write-bare-of m room p (w-measured e h) n = bare-as e
+write-bare-of m room p (w-judged e h j) n = bare-as e
+write-bare-of m room p (w-room e s l) n = bare-as e
+write-bare-of m room p (w-done e f) n = absurd (n (one-number e))
+
+write-bare : (m : Message) (room : ℕ) → Bare (writeOf m room)
+write-bare m room = write-bare-of m room (writeOf m room) (writing m room)
+
+scrub-bare : (s : List ℕ) → Bare (scrubAnswer s)
+scrub-bare s n =
+    let m : readOf s .number ≡ 0 → ⊥ = λ (z : readOf s .number ≡ 0). n (scrub-number s ∙ z) in
+    bare-as (sym (answer-refused s m) ∙ read-bare s m)
+
+-- ======== Scrubbing and writing
+
+pub rk-scrub-scrubs : (κs : Lfts 2) (a : Dens κs scrub-kinds.ps) (x : resT scrub-kinds.r κs .Denot) (s : AtExit (endedOf 2 scrub-kinds.ps scrub-kinds.r) κs) → scrub.Post κs a x s
+    → HostScrubbed (now (a .0)) x (now (s .1 .0)) (now (s .0))
+rk-scrub-scrubs κs a x s p = record { scrubbing = sees (p .0) (scrub-bare (now (a .0))); buffer = p .1 }
+
+pub rk-write-writes : (κs : Lfts 3) (a : Dens κs write-kinds.ps) (x : resT write-kinds.r κs .Denot) (s : AtExit (endedOf 3 write-kinds.ps write-kinds.r) κs) → write.Post κs a x s
+    → HostWrote (message (a .0) (a .1 .0) (a .1 .1 .0) (now (a .1 .1 .1 .0))) (now (a .1 .1 .1 .1 .0)) x (now (s .1 .1 .1 .1 .1 .0)) (now (s .1 .1 .1 .1 .0))
+rk-write-writes κs a x s p =
+    let m = message (a .0) (a .1 .0) (a .1 .1 .0) (now (a .1 .1 .1 .0)) in
+    let room = length (now (a .1 .1 .1 .1 .0)) in
+    record {
+      given = given-as (p .0) (λ (n : ℕ). write-given n m room);
+      writing = sees (p .0) (write-bare m room);
+      buffer = p .1;
+    }
+
+-- ======== Reading
+
+-- a number within the body, by its place in the frame
+module _ (f : List ℕ) where
+  in-body : (w at : ℕ) → at + w ≤ bodyLength f → be w at (body f) ≡ be w (24 + at) f
+  in-body w at h = numeral-take 256 w at (bodyLength f) (drop 24 f) h ∙ numeral-drop 256 w 24 at f
+
+  view-is : (k : Kind) → suits k (bodyLength f) ≡ true → viewNumbers (viewOf k (body f)) ≡ bodyNumbers k f
+  unfolding viewOf suits
+  view-is S001 h = refl
+  view-is S002 h = refl
+  view-is S003 h = refl
+  view-is P001 h = let e = eqb-true (bodyLength f) 12 h in rw (in-body 2 1 (omega arith), in-body 8 3 (omega arith))
+  view-is P002 h = let e = eqb-true (bodyLength f) 52 h in rw (in-body 2 0 (omega arith), in-body 8 3 (omega arith), in-body 8 11 (omega arith), in-body 1 19 (omega arith))
+  view-is M101 h = refl
+  view-is M102 h = refl
+  view-is M201 h = let e = leb-true 45 (bodyLength f) h in rw (in-body 2 1 (omega arith), in-body 8 3 (omega arith))
+  view-is Unknown h = refl
+
+  module _ {was row : List ℕ} {x : ℕ} (t : Tells (readTold f) was x row) where
+    number-is : x ≡ readOf f .number
+    unfolding readTold
+    number-is = t .answered
+
+    read-row : x ≡ 0 → row ≡ be 4 0 f ∷ be 8 4 f ∷ be 8 12 f ∷ be 4 20 f ∷ bodyNumbers (typeIn f) f
+    unfolding readTold
+    read-row z =
+        let r : readOf f .number ≡ 0 = sym number-is ∙ z in
+        told-0 t z ∙ rw (good-reads f (good f r), body-of f r, view-is (typeIn f) (fits _ _ (good f r .whole .measured) .suit))
+
+    read-seen : seen x (take 4 row) ≡ readOf f
+    read-seen =
+        ⊎-elim (λ (z : x ≡ 0). rw (z, read-row z) (sym (good-reads f (good f (sym number-is ∙ z)))))
+        (λ (n : x ≡ 0 → ⊥). sees-refused (take 4 row) (read-bare f) number-is n)
+        (same x 0)
+
+    host-read : HostRead f x row
+    unfolding readTold
+    host-read = record { given = given-as t (λ (n : ℕ). read-given n f); reading = read-seen; told = read-row }
+
+pub rk-read-reads : (κs : Lfts 2) (a : Dens κs read-kinds.ps) (x : resT read-kinds.r κs .Denot) (s : AtExit (endedOf 2 read-kinds.ps read-kinds.r) κs) → read.Post κs a x s
+    → HostRead (drop (a .1 .0) (now (a .0))) x (now (s .1 .1 .0))
+rk-read-reads κs a x s p = host-read (drop (a .1 .0) (now (a .0))) p
+
+-- ======== The search
+
+module _ (s : List ℕ) (from : ℕ) {was row : List ℕ} {x : ℕ} (t : Tells (searchTold s from) was x row) where
+  tells-place : (p : ℕ) → searchOf s from ≡ answer 0 (p ∷ []) → (x ≡ 0) × (row ≡ 1 ∷ p ∷ [])
+  unfolding searchTold toldBy
+  tells-place p e = (t .answered ∙ rw e, t .told ∙ rw e)
+
+  tells-none : searchOf s from ≡ answer 0 [] → (x ≡ 0) × (row ≡ 0 ∷ 0 ∷ [])
+  unfolding searchTold toldBy
+  tells-none e = (t .answered ∙ rw e, t .told ∙ rw e)
+
+  -- and the row shows which of them it is
+  place-shown : (a : Paper) → Lowest s from a → searchOf s from ≡ a → (p : ℕ) → row ≡ 1 ∷ p ∷ [] → a ≡ answer 0 (p ∷ [])
+  place-shown a (l-at q e after inside here before) f p r = e ∙ ap (λ (l : List ℕ). answer 0 (getD l 1 0 ∷ [])) (sym (tells-place q (f ∙ e) .1) ∙ r)
+  place-shown a (l-none e never) f p r = absurd (omega (arith, ap (λ (l : List ℕ). getD l 0 0) (sym (tells-none (f ∙ e) .1) ∙ r)))
+
+  none-shown : (a : Paper) → Lowest s from a → searchOf s from ≡ a → row ≡ 0 ∷ 0 ∷ [] → a ≡ answer 0 []
+  none-shown a (l-at q e after inside here before) f r = absurd (omega (arith, ap (λ (l : List ℕ). getD l 0 0) (sym (tells-place q (f ∙ e) .1) ∙ r)))
+  none-shown a (l-none e never) f r = e
+
+  host-found : HostFound s from x row
+  unfolding searchTold
+  host-found =
+      record {
+        place = λ (h : from ≤ length s) (p : ℕ). (
+          λ (r : (x ≡ 0) × (row ≡ 1 ∷ p ∷ [])). search-given-place s from p h .0 (place-shown (searchOf s from) (lowest s from h) refl p (r .1)),
+          λ (l : LowestPlace s from p). tells-place p (search-given-place s from p h .1 l),
+        );
+        none = λ (h : from ≤ length s). (
+          λ (r : (x ≡ 0) × (row ≡ 0 ∷ 0 ∷ [])). search-given-none s from h .0 (none-shown (searchOf s from) (lowest s from h) refl (r .1)),
+          λ (n : (j : ℕ) → from ≤ j → ReadsAt s j → ⊥). tells-none (search-given-none s from h .1 n),
+        );
+        beyond = rw (t .answered) (search-given-9 s from);
+      }
+
+pub rk-search-finds : (κs : Lfts 2) (a : Dens κs find-kinds.ps) (x : resT find-kinds.r κs .Denot) (s : AtExit (endedOf 2 find-kinds.ps find-kinds.r) κs) → find.Post κs a x s
+    → HostFound (now (a .0)) (a .1 .0) x (now (s .1 .1 .0))
+rk-search-finds κs a x s p = host-found (now (a .0)) (a .1 .0) p
+
+-- ======== Private spans, and entries
+
+-- place, length and filling byte of span number i
+pub rk-private-span : (κs : Lfts 2) (a : Dens κs private-kinds.ps) (x : resT private-kinds.r κs .Denot) (s : AtExit (endedOf 2 private-kinds.ps private-kinds.r) κs) → private.Post κs a x s
+    → let span = spanAt (a .1 .1 .0) (privateOf (kindOf (a .0)) (now (a .1 .0))) in (x ≡ 0) × (now (s .1 .1 .1 .0) ≡ span .place ∷ span .len ∷ span .fill ∷ [])
+unfolding privateTold toldBy
+rk-private-span κs a x s p = (p .answered, p .told)
+
+pub rk-entries-opens : (κs : Lfts 2) (a : Dens κs entries-kinds.ps) (x : resT entries-kinds.r κs .Denot) (s : AtExit (endedOf 2 entries-kinds.ps entries-kinds.r) κs) → entries.Post κs a x s
+    → HostOpened (now (a .0)) x (now (s .1 .0))
+unfolding entriesTold
+rk-entries-opens κs a x s p =
+    record {
+      given = given-as p (λ (n : ℕ). open-given n (now (a .0)));
+      first = λ (z : x ≡ 0). ap (λ (l : List ℕ). getD l 0 0) (told-0 p z);
+    }
+
+module _ (b : List ℕ) (place : ℕ) {was row : List ℕ} {x : ℕ} (t : Tells (entryTold b place) was x row) where
+  step-number : x ≡ stepOf b place .number
+  unfolding entryTold
+  step-number = t .answered
+
+  module _ (z : x ≡ 0) where
+    stands-there : Stands b place
+    stands-there = step-given-0 b place .0 (sym step-number ∙ z)
+
+    short-row : be 5 10 b ≡ 0x4D44303031 → row ≡ 1 ∷ be 2 place b ∷ be 8 (place + 2) b ∷ 0 ∷ 0 ∷ (place + 10) ∷ []
+    unfolding entryTold entryNumbers
+    short-row e =
+        let w = size-one (be 5 10 b) (stands-there .w) 10 (stands-there .kth .size) (short e refl) in
+        told-0 t z ∙ rw (step-done b place (stands-says b place .1 stands-there), entry-short b place e, step-moves b place stands-there, w)
+
+    long-row : (be 5 10 b ≡ 0x4D44303031 → ⊥) → row ≡ 0 ∷ be 2 place b ∷ be 8 (place + 2) b ∷ be 8 (place + 10) b ∷ be 1 (place + 18) b ∷ (place + 19) ∷ []
+    unfolding entryTold entryNumbers
+    long-row e =
+        let w = size-one (be 5 10 b) (stands-there .w) 19 (stands-there .kth .size) (long e refl) in
+        told-0 t z ∙ rw (step-done b place (stands-says b place .1 stands-there), entry-long b place e, step-moves b place stands-there, w)
+
+  host-stepped : HostStepped b place x row
+  host-stepped =
+      record {
+        given-0 = rw step-number (step-given-0 b place);
+        given-20 = rw step-number (step-given-20 b place);
+        short = short-row;
+        long = long-row;
+      }
+
+pub rk-entry-steps : (κs : Lfts 2) (a : Dens κs entry-kinds.ps) (x : resT entry-kinds.r κs .Denot) (s : AtExit (endedOf 2 entry-kinds.ps entry-kinds.r) κs) → entry.Post κs a x s
+    → HostStepped (now (a .0)) (a .1 .0) x (now (s .1 .1 .0))
+rk-entry-steps κs a x s p = host-stepped (now (a .0)) (a .1 .0) p
+
+-- ======== Cleaning
+
+module _ (κs : Lfts 3) (a : Dens κs clean-kinds.ps) (x : resT clean-kinds.r κs .Denot) (s : AtExit (endedOf 3 clean-kinds.ps clean-kinds.r) κs) (p : clean.Post κs a x s) where
+  pub rk-clean-cleans : length (cleanOf (now (a .0))) ≤ length (now (a .1 .0)) → HostCleaned (now (a .0)) (now (a .1 .0)) x (now (s .1 .1 .0)) (now (s .1 .0))
+  unfolding toldBy cleans.cleanAnswer cleans.cleanLeaves cleans.fitsIn
+  rk-clean-cleans h =
+      let f = le-leb (length (cleanOf (now (a .0)))) (length (now (a .1 .0))) h in
+      record { number = p .0 .answered ∙ rw f; told = p .0 .told ∙ rw f; buffer = p .1 ∙ rw f }
+
+  -- without room: 8, and row and buffer as they were
+  pub rk-clean-lacks : length (now (a .1 .0)) < length (cleanOf (now (a .0))) → (x ≡ 8) × ((now (s .1 .1 .0) ≡ now (a .1 .1 .0)) × (now (s .1 .0) ≡ now (a .1 .0)))
+  unfolding toldBy cleans.cleanAnswer cleans.cleanLeaves cleans.fitsIn
+  rk-clean-lacks h =
+      let f = lt-leb (length (cleanOf (now (a .0)))) (length (now (a .1 .0))) h in
+      (p .0 .answered ∙ rw f, (p .0 .told ∙ rw f, p .1 ∙ rw f))
+
+module _ (c : List ℕ) {was row : List ℕ} {x : ℕ} (t : Tells (cleanTold c) was x row) where
+  check-row : row ≡ perhaps (differOf 0 c (cleanOf c))
+  unfolding toldBy cleanTold checkOf
+  check-row = t .told
+
+  clean-shown : (l : List ℕ) → Differs 0 c (cleanOf c) l → row ≡ perhaps l → row ≡ 0 ∷ 0 ∷ [] → cleanOf c ≡ c
+  clean-shown l (d-none e same) f r = sym same
+  clean-shown l (d-first i e first) f r = absurd (omega (arith, ap (λ (k : List ℕ). getD k 0 0) (sym (f ∙ ap perhaps e) ∙ r)))
+
+  changed-shown : (l : List ℕ) → Differs 0 c (cleanOf c) l → row ≡ perhaps l → (cleanOf c ≡ c → ⊥) → (p : ℕ) × ((row ≡ 1 ∷ p ∷ []) × First c (cleanOf c) p)
+  changed-shown l (d-none e same) f n = absurd (n (sym same))
+  changed-shown l (d-first i e first) f n = (i, (f ∙ ap perhaps (e ∙ ap (λ (k : ℕ). k ∷ []) (zero-add i)), first))
+
+  host-checked : HostChecked c x row
+  unfolding toldBy cleanTold checkOf
+  host-checked =
+      record {
+        number = t .answered;
+        clean = (
+          clean-shown _ (differs 0 c (cleanOf c)) check-row,
+          λ (e : cleanOf c ≡ c). check-row ∙ ap (λ (q : Paper). perhaps (q .values)) (check-clean c .1 e),
+        );
+        changed = changed-shown _ (differs 0 c (cleanOf c)) check-row;
+      }
+
+pub rk-is-clean-checks : (κs : Lfts 2) (a : Dens κs is-clean-kinds.ps) (x : resT is-clean-kinds.r κs .Denot) (s : AtExit (endedOf 2 is-clean-kinds.ps is-clean-kinds.r) κs) → is-clean.Post κs a x s
+    → HostChecked (now (a .0)) x (now (s .1 .0))
+rk-is-clean-checks κs a x s p = host-checked (now (a .0)) p
+
+-- ======== The walk without room, and the listing of any records
+
+-- 8, and nothing is written anywhere
+pub rk-walk-lacks : (κs : Lfts 4) (a : Dens κs walk-kinds.ps) (x : resT walk-kinds.r κs .Denot) (s : AtExit (endedOf 4 walk-kinds.ps walk-kinds.r) κs) → walk.Post κs a x s
+    → length (now (a .1 .0)) < 64 * length (literalWalk (now (a .0)) .records)
+    → (x ≡ 8) × ((now (s .1 .0) ≡ now (a .1 .0)) × ((now (s .1 .1 .0) ≡ now (a .1 .1 .0)) × (now (s .1 .1 .1 .0) ≡ now (a .1 .1 .1 .0))))
+unfolding toldBy walks.walkAnswer walks.walkLeaves walks.fitsIn walkWords keptBy
+rk-walk-lacks κs a x s p h =
+    let e : length (literalWalk (now (a .0)) .records) ≡ length (walks.walkOf (now (a .0)) .records) = ap (λ (w : Walk). length (w .records)) (literal-walk (now (a .0))) in
+    let f : leb (length (walks.walkOf (now (a .0)) .records)) (length (now (a .1 .0)) / 64) ≡ false = lt-leb (length (walks.walkOf (now (a .0)) .records)) (length (now (a .1 .0)) / 64) (omega (arith, e, h)) in
+    (p .0 .answered ∙ rw f, (p .1 .1 ∙ rw f, (p .1 .0 ∙ rw f, p .0 .told ∙ rw f)))
+
+module _ (κs : Lfts 4) (a : Dens κs listing-kinds.ps) (y : resT listing-kinds.r κs .Denot) (s : AtExit (endedOf 4 listing-kinds.ps listing-kinds.r) κs) (p : listing.Post κs a y s) where
+  -- the book that the words stand for, and the listing: the line of each record, and the last line with the counts lent and what the book says
+  abbrev book : Book
+  book = bookIn (now (a .1 .1 .1 .0))
+
+  abbrev text : List ℕ
+  text = listingOf (now (a .0)) (lastAt (a .1 .0) (a .1 .1 .0) book)
+
+  abbrev before : List ℕ
+  before = now (a .1 .1 .1 .1 .0)
+
+  text-is : listed (now (a .0)) (a .1 .0) (a .1 .1 .0) (now (a .1 .1 .1 .0)) ≡ text
+  unfolding bookOf
+  text-is = refl
+
+  module _ (r : StateRules book) where
+    counts : callTold (now (a .1 .1 .1 .0)) Missing .number ≡ 0
+    unfolding answerTo ownNumber
+    counts = checked-test book Missing r refl
+
+    told-as : listingTold (now (a .0)) (a .1 .0) (a .1 .1 .0) (now (a .1 .1 .1 .0)) (length before) ≡ roomFor 0 (length text) (length before)
+    unfolding listingTold checked
+    told-as = rw (counts, text-is)
+
+    left-as : listingLeaves (now (a .0)) (a .1 .0) (a .1 .1 .0) (now (a .1 .1 .1 .0)) before ≡ laidIfRoom 0 text before
+    unfolding listingLeaves
+    left-as = rw (counts, text-is)
+
+    pub rk-listing-tells : length text ≤ length before → HostListed text before y (now (s .1 .1 .1 .1 .0)) (now (s .1 .1 .1 .1 .1 .0))
+    unfolding toldBy
+    rk-listing-tells room =
+        let t : leb (0 + length text) (length before) ≡ true = rw (zero-add (length text)) (le-leb (length text) (length before) room) in
+        let e = told-as ∙ room-there 0 (length text) (length before) t in
+        let row : now (s .1 .1 .1 .1 .1 .0) ∷ [] ≡ length text ∷ [] = p .0 .told ∙ rw e in
+        record {
+          number = p .0 .answered ∙ one-number e;
+          bytes = ap (λ (v : List ℕ). getD v 0 0) row;
+          buffer = p .1 ∙ left-as ∙ laid-there 0 (length text) text before refl t;
+        }
+
+    pub rk-listing-full : length before < length text → (y ≡ 8) × (now (s .1 .1 .1 .1 .0) ≡ before)
+    rk-listing-full few =
+        let f : leb (0 + length text) (length before) ≡ false = rw (zero-add (length text)) (lt-leb (length text) (length before) few) in
+        (p .0 .answered ∙ one-number (told-as ∙ room-lacks 0 (length text) (length before) f), p .1 ∙ left-as ∙ laid-kept 0 (length text) text before refl f)
+
+    not-13 : y ≡ 13 → ⊥
+    not-13 e =
+        ⊎-elim (λ (t : leb (0 + length text) (length before) ≡ true). omega (arith, e, p .0 .answered ∙ one-number (told-as ∙ room-there 0 (length text) (length before) t)))
+        (λ (f : leb (0 + length text) (length before) ≡ false). omega (arith, e, p .0 .answered ∙ one-number (told-as ∙ room-lacks 0 (length text) (length before) f)))
+        (two (leb (0 + length text) (length before)))
+
+  -- 13 exactly where the words break the state rules
+  pub rk-listing-given-13 : (y ≡ 13) ↔ (StateRules book → ⊥)
+  unfolding listingTold checked answerTo
+  rk-listing-given-13 = (
+    λ (e : y ≡ 13) (r : StateRules book). not-13 r e,
+    λ (n : StateRules book → ⊥). let e : numberTo book Missing ≡ 13 = given-13 book Missing .1 n in p .0 .answered ∙ rw e,
+  )
