@@ -1,7 +1,7 @@
 -- The count is the least of the three; first and last stand on the floor. Assumes nothing.
 use mathlib.Core.Path.{_≡_, ap, _∙_, ap₂}
 use mathlib.Core.List.{[], _∷_}
-use Prim.Native.Nat.{ℕ, _+_}
+use Prim.Native.Nat.{ℕ, _+_, _-_, min}
 use borrow.Author.Needs.{needs}
 use Rattle.terms.specs.declared.TickNumber.{TickNumber}
 use Rattle.terms.specs.Counters.{tickOf}
@@ -51,7 +51,13 @@ first-is c = c .new .ensures ∙ ap (λ (x : ℕ). tickOf (x + 1)) (c .before .b
 -- the count is the one of the definition
 last-is : (c : tie.After-new2) → c .new2 .result ≡ tickOf (c .before .before .before .before .before .before .before .before .args .self .floor .0 + asked (bookOf (c .before .before .before .before .before .before .before .before .args .self)))
 unfolding asked bookOf
-last-is c = c .new2 .ensures ∙ ap tickOf (cc)
+last-is c =
+    let floor-is = c .before .before .before .before .before .before .before .value .ensures in
+    let top-is = c .before .before .before .before .before .before .value2 .ensures in
+    let clear-is = c .before .before .before .before .first-held .ensures in
+    let known-is = ap₂ (λ (x y : ℕ). x - y) top-is floor-is in
+    let count-is = c .before .before .smaller2 .ensures ∙ ap (λ (x : ℕ). min x 200) (c .before .before .before .smaller .ensures ∙ ap₂ min known-is clear-is) in
+    c .new2 .ensures ∙ ap₂ (λ (x y : ℕ). tickOf (x + y)) floor-is count-is
 
 returns : tie.Need-returns
 returns c =

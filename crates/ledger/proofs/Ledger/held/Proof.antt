@@ -1,8 +1,11 @@
 -- The map's count of a sound state, else 13 and 0. Assumes nothing.
 use mathlib.Core.Bool.{not, true, false}
-use mathlib.Core.Path.{_≡_, sym, _∙_}
+use mathlib.Core.Path.{_≡_, sym, ap, _∙_}
+use mathlib.Core.List.{[], _∷_}
+use Prim.Native.Nat.{ℕ}
 use borrow.Author.Tests.{not-true, not-false}
 use borrow.Author.Needs.{needs}
+use Rattle.terms.specs.Paper.{answer}
 use Rattle.map.specs.Bits.{Words}
 use Rattle.book.specs.State.{soundOf}
 use Rattle.ledger.specs.State.{bookOf}
@@ -38,7 +41,7 @@ unfolding answerTo nextOf numberTo checkedOf ownNumber valuesOf done heldCount b
 returns-2 c =
     let s = c .before .before .before .before in
     let e : soundOf (bookOf (s .args .self)) ≡ true = sound-is (c .before .before .before) (c .before .before .if1 .left) in
-    (simp e (cc), sym (ledger-of (s .args .self) (words s)) ∙ simp e)
+    (simp e (ap (λ (k : ℕ). answer 0 (k ∷ [])) (c .held .ensures)), sym (ledger-of (s .args .self) (words s)) ∙ simp e)
 
 pub held-spec : {M : Type 1} → statement M
 held-spec = tie.close (tie.spec sound-requires uncounted-requires returns held-requires returns-2)

@@ -1,10 +1,12 @@
 -- Of a sound state no more are held than lie between floor and top, so neither difference goes below 0. Assumes nothing.
 use mathlib.Core.Bool.{not, true, false}
-use mathlib.Core.Path.{_≡_, sym, _∙_}
-use Prim.Native.Nat.{_-_, _≤_}
+use mathlib.Core.Path.{_≡_, sym, ap₂, _∙_}
+use mathlib.Core.List.{[], _∷_}
+use Prim.Native.Nat.{ℕ, _-_, _≤_}
 use native.Mathlib.Omega.{arith}
 use borrow.Author.Tests.{not-true, not-false}
 use borrow.Author.Needs.{needs}
+use Rattle.terms.specs.Paper.{answer}
 use Rattle.map.specs.Bits.{Words}
 use Rattle.book.specs.State.{soundOf}
 use Rattle.ledger.specs.State.{bookOf}
@@ -63,7 +65,10 @@ unfolding answerTo nextOf numberTo checkedOf ownNumber valuesOf done missingCoun
 returns-2 c =
     let s = c .before .before .before .before .before .before in
     let e : soundOf (bookOf (s .args .self)) ≡ true = sound-is (c .before .before .before .before .before) (c .before .before .before .before .if1 .left) in
-    (simp e (cc), sym (ledger-of (s .args .self) (words s)) ∙ simp e)
+    let top-is = c .before .before .value2 .ensures in
+    let floor-is = c .before .before .before .value .ensures in
+    let known-is = ap₂ (λ (x y : ℕ). x - y) top-is floor-is in
+    (simp e (ap₂ (λ (x y : ℕ). answer 0 ((x - y) ∷ [])) known-is (c .held .ensures)), sym (ledger-of (s .args .self) (words s)) ∙ simp e)
 
 pub missing-spec : {M : Type 1} → statement M
 missing-spec =

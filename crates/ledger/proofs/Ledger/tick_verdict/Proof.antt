@@ -1,7 +1,7 @@
 -- Each return is one check: 10, 10, 11, 11, 12, none. Above the floor, received is held. Assumes nothing.
-use mathlib.Core.Path.{_≡_}
+use mathlib.Core.Path.{_≡_, sym, ap, _∙_}
 use mathlib.Core.Bool.{true, false}
-use Prim.Native.Nat.{_+_, _-_, _≤_, _<_}
+use Prim.Native.Nat.{ℕ, _+_, _-_, _≤_, _<_}
 use native.Mathlib.Omega.{arith}
 use borrow.Author.Tests.{lt-ltb, le-ltb, le-leb, lt-leb}
 use borrow.Author.Needs.{needs}
@@ -39,12 +39,18 @@ sub-holds-2 c = search needs
 holds-requires : tie.Need-holds-requires
 holds-requires c κs = search needs
 
+-- what the map was asked is whether n is held
+held-is : (c : tie.After-holds) → isSet (bitsIn (c .before .before .before .before .before .before .args .self .map)) (c .before .before .before .before .before .before .args .n - c .before .before .before .before .before .before .args .self .floor .0 - 1) ≡ c .holds .result
+held-is c =
+    let s = c .before .before .before .before .before .before in
+    ap (λ (x : ℕ). isSet (bitsIn (s .args .self .map)) (s .args .n - x - 1)) (sym (c .before .before .before .before .before .value .ensures)) ∙ sym (c .holds .ensures)
+
 returns-4 : tie.Need-returns-4
 unfolding ownNumber has bookOf
 returns-4 c =
     let s = c .before .before .before .before .before .before .before in
     let h : s .args .self .floor .0 < s .args .n = omega arith in
-    let e : isSet (bitsIn (s .args .self .map)) (s .args .n - s .args .self .floor .0 - 1) ≡ true = cc in
+    let e : isSet (bitsIn (s .args .self .map)) (s .args .n - s .args .self .floor .0 - 1) ≡ true = held-is (c .before) ∙ c .if4 .taken in
     simp (le-leb _ _ (c .before .before .before .before .if1 .left), le-leb _ _ (c .before .before .before .if2 .left), lt-leb _ _ h, e)
 
 sub-if5 : tie.Need-sub-if5
@@ -55,7 +61,7 @@ unfolding ownNumber has bookOf
 returns-5 c =
     let s = c .before .before .before .before .before .before .before .before in
     let h : s .args .self .floor .0 < s .args .n = omega arith in
-    let e : isSet (bitsIn (s .args .self .map)) (s .args .n - s .args .self .floor .0 - 1) ≡ false = cc in
+    let e : isSet (bitsIn (s .args .self .map)) (s .args .n - s .args .self .floor .0 - 1) ≡ false = held-is (c .before .before) ∙ c .before .if4 .left in
     let g : s .args .self .floor .0 + 256 < s .args .n = omega arith in
     simp (le-leb _ _ (c .before .before .before .before .before .if1 .left), le-leb _ _ (c .before .before .before .before .if2 .left), lt-leb _ _ h, e, lt-ltb _ _ g)
 
@@ -64,7 +70,7 @@ unfolding ownNumber has bookOf
 returns-6 c =
     let s = c .before .before .before .before .before .before .before .before in
     let h : s .args .self .floor .0 < s .args .n = omega arith in
-    let e : isSet (bitsIn (s .args .self .map)) (s .args .n - s .args .self .floor .0 - 1) ≡ false = cc in
+    let e : isSet (bitsIn (s .args .self .map)) (s .args .n - s .args .self .floor .0 - 1) ≡ false = held-is (c .before .before) ∙ c .before .if4 .left in
     let g : s .args .n ≤ s .args .self .floor .0 + 256 = omega arith in
     simp (le-leb _ _ (c .before .before .before .before .before .if1 .left), le-leb _ _ (c .before .before .before .before .if2 .left), lt-leb _ _ h, e, le-ltb _ _ g)
 
