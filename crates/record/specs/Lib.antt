@@ -1,9 +1,6 @@
 pub mod Record
-pub mod Text
 pub mod Stored
-pub mod Columns
 pub mod RecordLaws
 pub mod Fields
 pub mod Back
-pub mod Listing
-pub mod Lengths
+pub mod Examples

@@ -5,6 +5,7 @@ use mathlib.Core.List.{List, [], _∷_, _++_}
 use native.Mathlib.Omega.{arith}
 use lib.ListN.{length, take, set, length-append}
 use borrow.Author.Tests.{le-leb}
+use lib.Seq.{take-all}
 use Rattle.terms.specs.Paper.{Paper}
 use Rattle.octets.specs.Octets.{bytesOf, laid}
 use Rattle.octets.specs.Numerals.{length-digits}
@@ -54,3 +55,14 @@ module _ {bs d e : List ℕ} {n : ℕ} (s : Stored 0 bs d e n) where
 
   pub laid-on : (at : ℕ) (out left : List ℕ) → left ≡ laidIfRoom at (take n e) out → left ≡ laidIfRoom at bs out
   laid-on at out left h = rw stored-front at h
+
+  -- where they fill what they were laid over, all of it is laid on
+  module _ (full : length d ≡ n) where
+    stored-whole : e ≡ bs
+    stored-whole = sym (take-all n e (omega (arith, full, stored-length s))) ∙ stored-front
+
+    pub room-whole : (at len : ℕ) (p : Paper) → p ≡ roomFor at (length e) len → p ≡ roomFor at n len
+    room-whole at len p h = let l : length e ≡ n = omega (arith, full, stored-length s) in rw l at h
+
+    pub laid-whole : (at : ℕ) (out left : List ℕ) → left ≡ laidIfRoom at e out → left ≡ laidIfRoom at bs out
+    laid-whole at out left h = rw stored-whole at h

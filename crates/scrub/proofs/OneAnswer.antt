@@ -5,17 +5,12 @@ use denote.Ref.{now}
 use Rattle.terms.specs.OneAnswer.{OneAnswer}
 use Rattle.terms.specs.OneBuffer.{OneBuffer, RefusedKeeps}
 use Rattle.octets.specs.Papers.{Refuses, written-one}
-use Rattle.scrub.specs.KnownLaws.{known-kept}
-use Rattle.scrub.specs.Laws.{refused-kept}
-use Rattle.scrub.proofs.private_span.Reads as private-span
-use Rattle.scrub.proofs.private_span.Kinds as private-span-kinds
+use Rattle.private.specs.KnownLaws.{known-kept}
+use Rattle.private.specs.Laws.{refused-kept}
 use Rattle.scrub.proofs.scrub_known.Reads as scrub-known
 use Rattle.scrub.proofs.scrub_known.Kinds as scrub-known-kinds
 use Rattle.scrub.proofs.scrub.Reads as scrub
 use Rattle.scrub.proofs.scrub.Kinds as scrub-kinds
-
-pub private-span-one-answer : OneAnswer _ private-span-kinds.ps private-span-kinds.r private-span.Post
-private-span-one-answer κs a x y s t p q = p ∙ sym q
 
 pub scrub-known-one-answer : OneAnswer _ scrub-known-kinds.ps scrub-known-kinds.r scrub-known.Post
 scrub-known-one-answer κs a x y s t p q = written-one x y (p .0 ∙ sym (q .0))

@@ -1,90 +1,23 @@
 // The scrubber: the private fields of a frame painted over where it stands, and its checksum set anew.
 ghost use mathlib.Core.Path.{_≡_};
 ghost use mathlib.Core.Bool.{true};
-ghost use mathlib.Core.List.{[], _∷_};
 ghost use Prim.Native.Nat.{_+_, _-_, _≤_};
 ghost use lib.ListN.{length, take, drop, replicate};
 ghost use Rattle.octets.specs.Octets.{laid};
 ghost use Rattle.octets.specs.Papers.{writtenPaper};
-ghost use Rattle.scrub.specs.Private.{spaces, privateOf, spanAt};
+ghost use Rattle.private.specs.Private.{privateOf};
 ghost use Rattle.rules.specs.Table.{suits};
-ghost use Rattle.scrub.specs.Scrub.{painted, summed, scrubAnswer, scrubbed};
-ghost use Rattle.scrub.specs.Within.{bodyIn, spanIn, spanPainted};
-ghost use Rattle.scrub.specs.Known.{knownAnswer, knownLeaves};
+ghost use Rattle.private.specs.Scrub.{painted, summed, scrubAnswer, scrubbed};
+ghost use Rattle.private.specs.Within.{bodyIn, spanIn, spanPainted};
+ghost use Rattle.private.specs.Known.{knownAnswer, knownLeaves};
 use frame::Read;
 use octets::Written;
 use rules::Kind;
 use rules::Verdict;
 use terms::Refusal;
 
-// A private part of a body: where it starts, how many bytes it has, and the byte that replaces each of them.
-pub struct Span {
-    pub place: usize,
-    pub len: usize,
-    pub fill: u8,
-}
-
 // More spans than any type has: from the last on they are empty, and painting an empty one changes nothing.
 const SPANS: usize = 4;
-
-fn spaces_at(place: usize, len: usize) -> Span
-    ensures { λ r. ⌜ r ≡ spaces place len ⌝ }
-{
-    Span {
-        place,
-        len,
-        fill: 0x20,
-    }
-}
-
-// The only span of a type, or none behind it.
-fn only(i: usize, place: usize, len: usize) -> Span
-    ensures { λ r. ⌜ r ≡ spanAt i (spaces place len ∷ []) ⌝ }
-{
-    if i == 0 {
-        return spaces_at(place, len);
-    }
-    spaces_at(0, 0)
-}
-
-fn comp_id(i: usize) -> Span
-    ensures { λ r. ⌜ r ≡ spanAt i (spaces 0 32 ∷ spaces 32 32 ∷ []) ⌝ }
-{
-    if i == 0 {
-        return spaces_at(0, 32);
-    }
-    if i == 1 {
-        return spaces_at(32, 32);
-    }
-    spaces_at(0, 0)
-}
-
-// Everything behind the 45 fixed bytes of an M201 body of n bytes.
-fn tail(i: usize, n: usize) -> Span
-    ensures { λ r. ⌜ r ≡ spanAt i (spaces 45 (n - 45) ∷ []) ⌝ }
-{
-    if n < 45 {
-        return only(i, 45, 0);
-    }
-    only(i, 45, n - 45)
-}
-
-// Private span number i of a body, counted from 0; from the last on, an empty one.
-pub fn private_span(kind: Kind, body: &[u8], i: usize) -> Span
-    ensures { λ r. ⌜ r ≡ spanAt i (privateOf kind (now (body .entry))) ⌝ }
-{
-    match kind {
-        Kind::S001 => comp_id(i),
-        Kind::S002 => only(i, 4, 256),
-        Kind::S003 => spaces_at(0, 0),
-        Kind::P001 => spaces_at(0, 0),
-        Kind::P002 => only(i, 20, 32),
-        Kind::M101 => spaces_at(0, 0),
-        Kind::M102 => spaces_at(0, 0),
-        Kind::M201 => tail(i, body.len()),
-        Kind::Unknown => spaces_at(0, 0),
-    }
-}
 
 // Paints the bytes from a up to e: that part of the lent frame is passed on and filled.
 fn paint(buf: &mut [u8], a: usize, e: usize, fill: u8)
@@ -100,7 +33,7 @@ fn paint_span(buf: &mut [u8], kind: Kind, n: usize, i: usize)
     ensures { λ _. ⌜ now (buf .exit) ≡ spanPainted (spanIn kind n i (now (buf .entry))) (now (buf .entry)) ⌝ }
 {
     let end = 24 + n;
-    let s = private_span(kind, &buf[24..end], i);
+    let s = private::private_span(kind, &buf[24..end], i);
     let a = 24 + s.place;
     let e = a + s.len;
     paint(buf, a, e, s.fill);

@@ -48,7 +48,7 @@ new-requires-5 c κs = search needs
 
 returns : tie.Need-returns
 unfolding recordAt
-returns c = cc
+returns c = rw (c .new5 .ensures, c .before .u64-at5 .ensures, c .before .before .new4 .ensures, c .before .before .before .u64-at4 .ensures, c .before .before .before .before .u32-at3 .ensures, c .before .before .before .before .before .new3 .ensures, c .before .before .before .before .before .before .u16-at .ensures, c .before .before .before .before .before .before .before .new2 .ensures, c .before .before .before .before .before .before .before .before .u64-at3 .ensures, c .before .before .before .before .before .before .before .before .before .new .ensures, c .before .before .before .before .before .before .before .before .before .before .u64-at2 .ensures, c .before .before .before .before .before .before .before .before .before .before .before .u32-at2 .ensures, c .before .before .before .before .before .before .before .before .before .before .before .before .u32-at .ensures, c .before .before .before .before .before .before .before .before .before .before .before .before .before .u64-at .ensures)
 
 pub front-spec : {M : Type 1} → statement M
 front-spec =

@@ -1,6 +1,7 @@
--- `put`: the two halves stand in the 64 bytes made aside, and are laid on from there. Assumes nothing.
+-- `put`: the two halves fill the 64 bytes made aside, and are laid on from there. Assumes nothing.
+use mathlib.Core.Path.{refl}
 use Rattle.record.specs.Record.{recordOf}
-use Rattle.record.specs.Stored.{stored-both, laid-on}
+use Rattle.record.specs.Stored.{stored-both, room-whole, laid-whole}
 use borrow.Author.Needs.{needs}
 use Rattle.record.proofs.put.Statement.{statement}
 use Rattle.record.proofs.put.Tie as tie
@@ -17,11 +18,11 @@ slice-aggregate-store-second c = search needs
 store-second-requires : tie.Need-store-second-requires
 store-second-requires c κs = search needs
 
-slice-aggregate-lay-front : tie.Need-slice-aggregate-lay-front
-slice-aggregate-lay-front c = search needs
+slice-aggregate-lay : tie.Need-slice-aggregate-lay
+slice-aggregate-lay c = search needs
 
-lay-front-requires : tie.Need-lay-front-requires
-lay-front-requires c κs = search needs
+lay-requires : tie.Need-lay-requires
+lay-requires c κs = search needs
 
 same-length : tie.Need-same-length
 same-length c = search needs
@@ -32,7 +33,7 @@ returns c =
     let p = c .before .before in
     let q = p .before .before .before .before in
     let s = stored-both (q .before .before .before .store-first .ensures) (q .store-second .ensures) in
-    (p .lay-front .ensures .0, laid-on s _ _ _ (p .lay-front .ensures .1))
+    (room-whole s refl _ _ _ (p .lay .ensures .0), laid-whole s refl _ _ _ (p .lay .ensures .1))
 
 pub put-spec : {M : Type 1} → statement M
 put-spec =
@@ -42,7 +43,7 @@ put-spec =
     store-first-requires
     slice-aggregate-store-second
     store-second-requires
-    slice-aggregate-lay-front
-    lay-front-requires
+    slice-aggregate-lay
+    lay-requires
     same-length
     returns)

@@ -2,10 +2,10 @@
 -- measure is what is left of the spans. Assumes nothing.
 use native.Mathlib.Omega.{arith}
 use borrow.Author.Needs.{needs}
-use Rattle.scrub.specs.Spans.{start, now-long, span-fits, one-more, all-spans}
-use Rattle.scrub.specs.Within.{bodyIn}
-use Rattle.scrub.specs.Scrub.{painted}
-use Rattle.scrub.specs.Private.{privateOf}
+use Rattle.private.specs.Spans.{start, now-long, span-fits, one-more, all-spans}
+use Rattle.private.specs.Within.{bodyIn}
+use Rattle.private.specs.Scrub.{painted}
+use Rattle.private.specs.Private.{privateOf}
 use Rattle.octets.specs.Octets.{laid}
 use lib.ListN.{take}
 use Prim.Native.Nat.{ℕ, _-_, _≤_}

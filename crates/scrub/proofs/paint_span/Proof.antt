@@ -1,8 +1,8 @@
 -- `paint_span`: the span read from the body lies within it, so its part lies within the buffer. Assumes nothing.
 use native.Mathlib.Omega.{arith}
-use Rattle.scrub.specs.Within.{spanIn, spanPainted}
-use Rattle.scrub.specs.Private.{privateOf, spanAt}
-use Rattle.scrub.specs.declared.Span.{Span}
+use Rattle.private.specs.Within.{spanIn, spanPainted}
+use Rattle.private.specs.Private.{privateOf, spanAt}
+use Rattle.private.specs.declared.Span.{Span}
 use Rattle.octets.specs.Octets.{laid}
 use lib.ListN.{length, take, drop, replicate}
 use mathlib.Core.List.{List}

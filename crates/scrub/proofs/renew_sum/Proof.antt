@@ -1,6 +1,6 @@
 -- `renew_sum`: there is room for the four bytes. Assumes nothing.
 use native.Mathlib.Omega.{arith}
-use Rattle.scrub.specs.Scrub.{summed}
+use Rattle.private.specs.Scrub.{summed}
 use Rattle.octets.specs.Papers.{laid-there}
 use Rattle.octets.specs.Numerals.{length-digits}
 use borrow.Author.Tests.{le-leb}

@@ -1,6 +1,6 @@
 -- `scrub`: reading's refusal is passed on; of a frame that reads, its paper tells the type and the length that it is scrubbed
 -- by. Assumes nothing.
-use Rattle.scrub.specs.Laws.{known-scrubs, answer-refused, refused-same}
+use Rattle.private.specs.Laws.{known-scrubs, answer-refused, refused-same}
 use Rattle.wire.specs.Outcomes.{read-done, read-values, read-length}
 use Rattle.frame.specs.Papers.{readPaper}
 use Rattle.wire.specs.Frame.{msgType, bodyLength, readOf}

@@ -7,8 +7,8 @@ use Rattle.terms.specs.Refusals.{refusal-pos}
 use Rattle.rules.specs.Table.{measureOf}
 use Rattle.rules.specs.Verdicts.{verdictNumber}
 use Rattle.wire.specs.Measures.{fits}
-use Rattle.scrub.specs.Scrub.{summed}
-use Rattle.scrub.specs.KnownLaws.{known-refused, known-short, known-done}
+use Rattle.private.specs.Scrub.{summed}
+use Rattle.private.specs.KnownLaws.{known-refused, known-short, known-done}
 use Rattle.scrub.proofs.scrub_known.Statement.{statement}
 use Rattle.scrub.proofs.scrub_known.Tie as tie
 

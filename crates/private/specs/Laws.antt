@@ -1,0 +1,324 @@
+-- Demand 2, second half: a scrubbed frame reads, holds the fill in each private field and a checksum set anew, and has every
+-- other byte of the original. And two frames that agree in all but private fields and checksum scrub to the same bytes.
+use Prim.Native.Nat.{ℕ, _+_, _-_, _<_, _≤_}
+use mathlib.Core.Path.{_≡_, refl, sym, ap, _∙_}
+use mathlib.Core.Logic.{_⊎_, inl, inr, ⊎-elim}
+use mathlib.Core.List.{List, [], _∷_, _++_, append-assoc}
+use native.Mathlib.Omega.{arith}
+use lib.ListN.{length, getD, take, drop, length-append}
+use lib.Seq.{take-add, length-take-le, getD-take, getD-drop}
+use borrow.Author.Tests.{eq-eqb, ne-eqb}
+use Rattle.terms.specs.Paper.{Paper, answer, one-number}
+use Rattle.terms.specs.Cases.{less, same}
+use Rattle.terms.specs.Refusals.{refusal-pos}
+use Rattle.octets.specs.declared.Written.{Written}
+use Rattle.octets.specs.Papers.{writtenPaper, Refuses}
+use Rattle.octets.specs.Octets.{be, bytesOf, sum8, laid, Bytes}
+use Rattle.octets.specs.Numerals.{bytesOf-be, length-digits, numeral-below, numeral-take}
+use Rattle.octets.specs.Places.{laid-before, laid-in, laid-after}
+use Rattle.octets.specs.Overlays.{length-laid, laid-append, laid-front, laid-again, laid-same, take-laid, take-front}
+use Rattle.rules.specs.Table.{kindOf}
+use Rattle.rules.specs.Outcomes.{measure-same}
+use Rattle.wire.specs.Frame.{msgType, sendingTime, msgSeqNum, bodyLength, body, plain, checkSum, readOf}
+use Rattle.wire.specs.Outcomes.{good, good-reads}
+use Rattle.wire.specs.Measures.{fits}
+use Rattle.wire.specs.Places.{body-length}
+use Rattle.wire.specs.Write.{Message, message, messageOf, plainOf, frameOf}
+use Rattle.wire.specs.WriteLaws.{Sound, plain-length, frame-length}
+use Rattle.wire.specs.RoundTrip.{Widths, read-written, message-written}
+use Rattle.private.specs.declared.Span.{Span}
+use Rattle.rules.specs.declared.Kind.{Kind}
+use Rattle.private.specs.Private.{privateOf}
+use Rattle.private.specs.Scrub.{painted, spansOf, cleanBody, summed, scrubbed, scrubAnswer}
+use Rattle.private.specs.Paint.{Inside, Within, Agree, length-painted, painted-outside, painted-inside, painted-agrees, painted-same}
+use Rattle.private.specs.Known.{knownAnswer, knownLeaves}
+use Rattle.private.specs.KnownLaws.{known-done}
+use Rattle.view.specs.View.{viewOf}
+use Rattle.private.specs.PrivateLaws.{view-same, private-few, private-within, private-filled, private-same, judged-same}
+
+-- the message without what is private
+abbrev pub clean : List ℕ → Message
+clean s = message (msgType s) (sendingTime s) (msgSeqNum s) (cleanBody s)
+
+-- the checksum set anew, as bytes
+abbrev sumAnew : List ℕ → List ℕ
+sumAnew s = bytesOf 4 (sum8 (take (24 + bodyLength s) (laid 24 (cleanBody s) s)))
+
+-- a refusal changes nothing
+pub refused-same : (s : List ℕ) → (readOf s .number ≡ 0 → ⊥) → scrubbed s ≡ s
+unfolding scrubbed
+refused-same s ne = rw (ne-eqb (readOf s .number) 0 ne)
+
+-- a frame that reads is painted, and summed anew
+pub scrubs : (s : List ℕ) → readOf s .number ≡ 0 → scrubbed s ≡ summed (24 + bodyLength s) (laid 24 (cleanBody s) s)
+unfolding scrubbed
+scrubs s z = rw (eq-eqb (readOf s .number) 0 z)
+
+module _ (s : List ℕ) (z : readOf s .number ≡ 0) where
+  there : 28 + bodyLength s ≤ length s
+  there = good s z .whole .there
+
+  long : length (body s) ≡ bodyLength s
+  long = body-length s there
+
+  pub spans-within : Within (length (body s)) (spansOf s)
+  spans-within = private-within (kindOf (msgType s)) (body s) (rw long (fits _ _ (good s z .whole .measured) .suit))
+
+  clean-long : length (cleanBody s) ≡ bodyLength s
+  clean-long = length-painted (spansOf s) (body s) spans-within ∙ long
+
+  agrees : Agree (spansOf s) (body s) (cleanBody s)
+  agrees = rw (private-few (kindOf (msgType s)) (body s)) at (painted-agrees 4 (spansOf s) (body s) spans-within)
+
+  pub clean-sound : Sound (clean s)
+  clean-sound =
+      record {
+        measured = measure-same _ _ _ _ refl clean-long ∙ good s z .whole .measured;
+        fine = sym (judged-same (kindOf (msgType s)) (sendingTime s) (body s) (cleanBody s) agrees) ∙ good s z .fine;
+      }
+
+  scrub-is : scrubbed s ≡ summed (24 + bodyLength s) (laid 24 (cleanBody s) s)
+  scrub-is = scrubs s z
+
+  room : 24 + length (cleanBody s) ≤ length s
+  room = rw clean-long (omega (arith, there))
+
+  room-4 : 24 + bodyLength s + length (sumAnew s) ≤ length (laid 24 (cleanBody s) s)
+  room-4 = rw (length-digits 256 4 (sum8 (take (24 + bodyLength s) (laid 24 (cleanBody s) s))), length-laid 24 (cleanBody s) s room) (omega (arith, there))
+
+  -- the length is kept
+  pub scrub-length : length (scrubbed s) ≡ length s
+  unfolding summed
+  scrub-length =
+      ap length scrub-is
+      ∙ length-laid (24 + bodyLength s) (sumAnew s) (laid 24 (cleanBody s) s) room-4
+      ∙ length-laid 24 (cleanBody s) s room
+
+  -- the byte i of the buffer is private, or of the checksum
+  abbrev pub Changed : ℕ → Type 0
+  Changed i = ((24 ≤ i) × Inside (spansOf s) (i - 24)) ⊎ ((24 + bodyLength s ≤ i) × (i < 28 + bodyLength s))
+
+  -- every other byte is kept
+  at-body : (i : ℕ) → (Changed i → ⊥) → getD (laid 24 (cleanBody s) s) i 0 ≡ getD s i 0
+  at-body i out =
+      ⊎-elim (λ (l : i < 24). laid-before 24 (cleanBody s) s room i l)
+      (λ (l : 24 ≤ i).
+      ⊎-elim
+      (λ (k : i < 24 + bodyLength s).
+      let e : 24 + (i - 24) ≡ i = omega arith in
+      let j : i - 24 < bodyLength s = omega arith in
+      ap (λ (q : ℕ). getD (laid 24 (cleanBody s) s) q 0) (sym e)
+      ∙ laid-in 24 (cleanBody s) s room (i - 24) (rw clean-long j)
+      ∙ painted-outside (spansOf s) (body s) spans-within (i - 24) (λ h. out (inl (l, h)))
+      ∙ getD-take (bodyLength s) (drop 24 s) (i - 24) 0 j
+      ∙ getD-drop 24 s (i - 24) 0
+      ∙ ap (λ (q : ℕ). getD s q 0) e)
+      (λ (k : 24 + bodyLength s ≤ i). laid-after 24 (cleanBody s) s room i (rw clean-long k))
+      (less i (24 + bodyLength s)))
+      (less i 24)
+
+  pub scrub-keeps : (i : ℕ) → (Changed i → ⊥) → getD (scrubbed s) i 0 ≡ getD s i 0
+  unfolding summed
+  scrub-keeps i out =
+      ap (λ (l : List ℕ). getD l i 0) scrub-is
+      ∙ ⊎-elim (λ (l : i < 24 + bodyLength s). laid-before (24 + bodyLength s) (sumAnew s) _ room-4 i l)
+      (λ (l : 24 + bodyLength s ≤ i).
+      ⊎-elim (λ (k : i < 28 + bodyLength s). absurd (out (inr (l, k))))
+      (λ (k : 28 + bodyLength s ≤ i). laid-after (24 + bodyLength s) (sumAnew s) _ room-4 i (rw (length-digits 256 4 (sum8 (take (24 + bodyLength s) (laid 24 (cleanBody s) s)))) (omega arith)))
+      (less i (28 + bodyLength s)))
+      (less i (24 + bodyLength s))
+      ∙ at-body i out
+
+  -- each private byte is its fill
+  pub scrub-fills : (i : ℕ) → i < bodyLength s → Inside (spansOf s) i → getD (scrubbed s) (24 + i) 0 ≡ 0x20
+  unfolding summed
+  scrub-fills i l h =
+      ap (λ (x : List ℕ). getD x (24 + i) 0) scrub-is
+      ∙ laid-before (24 + bodyLength s) (sumAnew s) _ room-4 (24 + i) (omega arith)
+      ∙ laid-in 24 (cleanBody s) s room i (rw clean-long l)
+      ∙ painted-inside 0x20 (spansOf s) (body s) spans-within (private-filled (kindOf (msgType s)) (body s)) i h
+
+  -- AS A FRAME: the scrubbed buffer is the frame of the message without what is private, laid over the front
+  module _ (b : Bytes s) where
+    header : ((bytesOf 4 (msgType s) ++ bytesOf 8 (sendingTime s)) ++ bytesOf 8 (msgSeqNum s)) ++ bytesOf 4 (bodyLength s) ≡ take 24 s
+    header =
+        rw (bytesOf-be 4 0 s b (omega (arith, there)), bytesOf-be 8 4 s b (omega (arith, there)), bytesOf-be 8 12 s b (omega (arith, there)), bytesOf-be 4 20 s b (omega (arith, there)))
+        (rw (← take-add 4 8 s, ← take-add 12 8 s, ← take-add 20 4 s))
+
+    plain-clean : plainOf (clean s) ≡ take 24 s ++ cleanBody s
+    unfolding plainOf
+    plain-clean = rw clean-long (ap (λ (h : List ℕ). h ++ cleanBody s) header)
+
+    laid-clean : laid 24 (cleanBody s) s ≡ laid 0 (plainOf (clean s)) s
+    unfolding laid
+    laid-clean = rw (plain-clean) (simp append-assoc (ap (λ (n : ℕ). take 24 s ++ (cleanBody s ++ drop n s)) long-plain))
+      where
+        long-plain : 24 + length (cleanBody s) ≡ 0 + length (take 24 s ++ cleanBody s)
+        long-plain = rw (length-append, length-take-le 24 s (omega (arith, there))) (omega arith)
+
+    plain-there : take (24 + bodyLength s) (laid 24 (cleanBody s) s) ≡ plainOf (clean s)
+    plain-there =
+        rw laid-clean (take-front (24 + bodyLength s) (plainOf (clean s)) s (plain-length (clean s) ∙ ap (λ (n : ℕ). 24 + n) clean-long))
+
+    pub scrub-frame : scrubbed s ≡ laid 0 (frameOf (clean s)) s
+    unfolding summed frameOf
+    scrub-frame =
+        let e : length (plainOf (clean s)) ≡ 24 + bodyLength s = plain-length (clean s) ∙ ap (λ (n : ℕ). 24 + n) clean-long in
+        let f : 0 + length (plainOf (clean s)) ≡ 24 + bodyLength s = omega arith in
+        scrub-is
+        ∙ rw (plain-there, laid-clean, laid-append 0 (plainOf (clean s)) (bytesOf 4 (sum8 (plainOf (clean s)))) s (omega (arith, there)), f)
+
+    clean-widths : Widths (clean s)
+    clean-widths = record { type = numeral-below 256 4 0 s b; time = numeral-below 256 8 4 s b; seq = numeral-below 256 8 12 s b }
+
+    rest : List ℕ
+    rest = drop (length (frameOf (clean s))) s
+
+    scrub-rest : scrubbed s ≡ frameOf (clean s) ++ rest
+    unfolding rest
+    scrub-rest = scrub-frame ∙ laid-front (frameOf (clean s)) s
+
+    -- it reads, with the same answer: type, time, number and length; so its checksum is right
+    pub scrub-reads : readOf (scrubbed s) ≡ readOf s
+    scrub-reads =
+        rw scrub-rest (read-written (clean s) rest clean-widths clean-sound)
+        ∙ ap (λ (n : ℕ). answer 0 (msgType s ∷ sendingTime s ∷ msgSeqNum s ∷ n ∷ [])) clean-long
+        ∙ sym (good-reads s (good s z))
+
+    pub scrub-message : messageOf (scrubbed s) ≡ clean s
+    scrub-message = rw scrub-rest (message-written (clean s) rest clean-widths clean-sound)
+
+    pub scrub-done : readOf (scrubbed s) .number ≡ 0
+    scrub-done = one-number scrub-reads ∙ z
+
+    pub scrub-sum : checkSum (scrubbed s) ≡ sum8 (plain (scrubbed s))
+    scrub-sum = good (scrubbed s) scrub-done .sum
+
+    scrub-bytes : take (28 + bodyLength s) (scrubbed s) ≡ frameOf (clean s)
+    scrub-bytes = rw scrub-frame (take-front (28 + bodyLength s) (frameOf (clean s)) s (frame-length (clean s) ∙ ap (λ (n : ℕ). 28 + n) clean-long))
+
+    same-length : bodyLength (scrubbed s) ≡ bodyLength s
+    same-length =
+        ap (λ (p : Paper). getD (p .values) 3 0) (sym (good-reads (scrubbed s) (good (scrubbed s) scrub-done)) ∙ scrub-reads ∙ good-reads s (good s z))
+
+    same-body : body (scrubbed s) ≡ cleanBody s
+    same-body = ap (λ (m : Message). m .content) scrub-message
+
+    same-type : msgType (scrubbed s) ≡ msgType s
+    same-type = ap (λ (m : Message). m .type) scrub-message
+
+    same-spans : spansOf (scrubbed s) ≡ spansOf s
+    same-spans =
+        ap (λ (t : ℕ). privateOf (kindOf t) (body (scrubbed s))) same-type
+        ∙ ap (privateOf (kindOf (msgType s))) same-body
+        ∙ sym (private-same (kindOf (msgType s)) (body s) (cleanBody s) agrees)
+
+    same-clean : cleanBody (scrubbed s) ≡ body (scrubbed s)
+    same-clean =
+        ap (λ (ps : List Span). painted ps (body (scrubbed s))) same-spans
+        ∙ ap (painted (spansOf s)) same-body
+        ∙ sym (painted-same 0x20 (spansOf s) (body s) (cleanBody s) spans-within (private-filled (kindOf (msgType s)) (body s)) agrees)
+        ∙ sym same-body
+
+    -- scrubbing again changes nothing
+    laid-unchanged : laid 24 (cleanBody (scrubbed s)) (scrubbed s) ≡ scrubbed s
+    laid-unchanged =
+        ap (λ (c : List ℕ). laid 24 c (scrubbed s)) same-clean
+        ∙ laid-same 24 (bodyLength (scrubbed s)) (scrubbed s) (rw (scrub-length, same-length) (omega (arith, there)))
+
+    front-same : take (24 + bodyLength s) (scrubbed s) ≡ take (24 + bodyLength s) (laid 24 (cleanBody s) s)
+    unfolding summed
+    front-same = ap (take (24 + bodyLength s)) scrub-is ∙ take-laid (24 + bodyLength s) (sumAnew s) (laid 24 (cleanBody s) s) room-4
+
+    sum-unchanged : summed (24 + bodyLength s) (scrubbed s) ≡ scrubbed s
+    unfolding summed
+    sum-unchanged =
+        ap (λ (l : List ℕ). laid (24 + bodyLength s) (bytesOf 4 (sum8 l)) (scrubbed s)) front-same
+        ∙ ap (laid (24 + bodyLength s) (sumAnew s)) scrub-is
+        ∙ laid-again (24 + bodyLength s) (sumAnew s) (laid 24 (cleanBody s) s) room-4 (sumAnew s) refl
+        ∙ sym scrub-is
+
+    pub scrub-again : scrubbed (scrubbed s) ≡ scrubbed s
+    scrub-again =
+        scrubs (scrubbed s) scrub-done
+        ∙ ap (λ (n : ℕ). summed (24 + n) (laid 24 (cleanBody (scrubbed s)) (scrubbed s))) same-length
+        ∙ ap (summed (24 + bodyLength s)) laid-unchanged
+        ∙ sum-unchanged
+
+-- frames that agree in all but private fields and checksum
+pub record Alike (s t : List ℕ) : Type 0 where
+  pub header : take 24 s ≡ take 24 t
+  pub bodies : Agree (spansOf s) (body s) (body t)
+
+same-message : (a b c d e f : ℕ) (x y : List ℕ) → a ≡ b → c ≡ d → e ≡ f → x ≡ y → message a c e x ≡ message b d f y
+same-message a b c d e f x y p q r z = rw (p, q, r, z)
+
+module _ (s t : List ℕ) (a : Alike s t) where
+  alike-number : (w at : ℕ) → at + w ≤ 24 → be w at s ≡ be w at t
+  alike-number w at h = sym (numeral-take 256 w at 24 s h) ∙ ap (be w at) (a .header) ∙ numeral-take 256 w at 24 t h
+
+  alike-spans : spansOf s ≡ spansOf t
+  alike-spans =
+      private-same (kindOf (msgType s)) (body s) (body t) (a .bodies)
+      ∙ ap (λ (x : ℕ). privateOf (kindOf x) (body t)) (alike-number 4 0 (omega arith))
+
+  module _ (z : readOf s .number ≡ 0) where
+    alike-body : cleanBody s ≡ cleanBody t
+    alike-body =
+        painted-same 0x20 (spansOf s) (body s) (body t) (spans-within s z) (private-filled (kindOf (msgType s)) (body s)) (a .bodies)
+        ∙ ap (λ (ps : List Span). painted ps (body t)) alike-spans
+
+    pub alike-clean : clean s ≡ clean t
+    alike-clean = same-message _ _ _ _ _ _ _ _ (alike-number 4 0 (omega arith)) (alike-number 8 4 (omega arith)) (alike-number 8 12 (omega arith)) alike-body
+
+-- two buffers whose frames read and are alike scrub to the same frame bytes
+pub scrub-alike : (s t : List ℕ) → Bytes s → Bytes t → readOf s .number ≡ 0 → readOf t .number ≡ 0 → Alike s t → take (28 + bodyLength s) (scrubbed s) ≡ take (28 + bodyLength t) (scrubbed t)
+scrub-alike s t b c y z a = scrub-bytes s y b ∙ ap frameOf (alike-clean s t a y) ∙ sym (scrub-bytes t z c)
+
+-- WHAT THE CODE LEAVES AND ANSWERS, in its own numbers
+module _ (d : List ℕ) (z : readOf d .number ≡ 0) where
+  pub answer-as : (n : ℕ) → n ≡ bodyLength d → answer 0 ((28 + n) ∷ []) ≡ scrubAnswer d
+  unfolding scrubAnswer
+  answer-as n q = rw (eq-eqb (readOf d .number) 0 z, q)
+
+  -- told its own type and length, `scrub_known` answers and leaves what scrubbing does
+  pub known-scrubs : (k : Kind) (n : ℕ) → k ≡ kindOf (msgType d) → n ≡ bodyLength d → (knownAnswer k n d ≡ scrubAnswer d) × (knownLeaves k n d ≡ scrubbed d)
+  known-scrubs k n p q =
+      let r = known-done k n d (measure-same _ _ _ _ p q ∙ good d z .whole .measured) (rw q (good d z .whole .there)) in
+      (sym (r .0) ∙ answer-as n q, sym (r .1) ∙ rw (p, q) (sym (scrubs d z)))
+
+pub answer-refused : (d : List ℕ) → (readOf d .number ≡ 0 → ⊥) → readOf d ≡ scrubAnswer d
+unfolding scrubAnswer
+answer-refused d ne = rw (ne-eqb (readOf d .number) 0 ne)
+
+-- a refusal leaves the buffer as it was
+pub refused-kept : (d e : List ℕ) (x : Written) → Refuses x → writtenPaper x ≡ scrubAnswer d → e ≡ scrubbed d → e ≡ d
+refused-kept d e x r p q =
+    ⊎-elim (λ (z : readOf d .number ≡ 0). absurd (refusal-pos (r .0) (one-number (ap writtenPaper (sym (r .1)) ∙ p ∙ sym (answer-as d z (bodyLength d) refl))))
+    )
+    (λ (ne : readOf d .number ≡ 0 → ⊥). q ∙ refused-same d ne)
+    (same (readOf d .number) 0)
+
+-- FOR EVERY BUFFER, its frame accepted or not
+
+pub length-always : (s : List ℕ) → length (scrubbed s) ≡ length s
+length-always s =
+    ⊎-elim (λ (z : readOf s .number ≡ 0). scrub-length s z) (λ (ne : readOf s .number ≡ 0 → ⊥). ap length (refused-same s ne)) (same (readOf s .number) 0)
+
+pub again-always : (s : List ℕ) → Bytes s → scrubbed (scrubbed s) ≡ scrubbed s
+again-always s b =
+    ⊎-elim (λ (z : readOf s .number ≡ 0). scrub-again s z b) (λ (ne : readOf s .number ≡ 0 → ⊥). ap scrubbed (refused-same s ne)) (same (readOf s .number) 0)
+
+-- scrubbing answers reading's number: 0, or the refusal passed on
+pub scrub-number : (s : List ℕ) → scrubAnswer s .number ≡ readOf s .number
+scrub-number s =
+    ⊎-elim (λ (z : readOf s .number ≡ 0). one-number (sym (answer-as s z (bodyLength s) refl)) ∙ sym z)
+    (λ (ne : readOf s .number ≡ 0 → ⊥). one-number (sym (answer-refused s ne)))
+    (same (readOf s .number) 0)
+
+-- the view of a scrubbed frame is the view of the original
+pub scrub-view : (s : List ℕ) → readOf s .number ≡ 0 → Bytes s → viewOf (kindOf (msgType (scrubbed s))) (body (scrubbed s)) ≡ viewOf (kindOf (msgType s)) (body s)
+scrub-view s z b =
+    let e = scrub-message s z b in
+    ap (λ (m : Message). viewOf (kindOf (m .type)) (m .content)) e
+    ∙ sym (view-same (kindOf (msgType s)) (body s) (cleanBody s) (agrees s z))

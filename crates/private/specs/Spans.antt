@@ -1,0 +1,84 @@
+-- Span number i of short rows, and all spans painted within a buffer.
+use Prim.Native.Nat.{ℕ, _+_, _≤_}
+use mathlib.Core.Path.{_≡_, sym, ap, _∙_}
+use mathlib.Core.Bool.{true}
+use mathlib.Core.List.{List, _∷_}
+use native.Mathlib.Omega.{arith}
+use lib.ListN.{length, take, drop, replicate, length-replicate, length-drop, List·getD-eq-default}
+use lib.Seq.{length-take-le}
+use Rattle.octets.specs.Octets.{laid}
+use Rattle.octets.specs.Overlays.{laid-same, mid-laid, length-laid}
+use Rattle.rules.specs.declared.Kind.{Kind}
+use Rattle.rules.specs.Table.{suits}
+use Rattle.private.specs.declared.Span.{Span}
+use Rattle.private.specs.Private.{spaces, privateOf, spanAt}
+use Rattle.private.specs.Scrub.{painted}
+use Rattle.private.specs.Within.{bodyIn, spanIn, spanPainted}
+use Rattle.private.specs.Paint.{Within, length-painted, painted-more, painted-agrees, within-take, within-at}
+use Rattle.private.specs.PrivateLaws.{private-few, private-within, private-same}
+use Rattle.octets.specs.Places.{laid-inner}
+
+-- behind the last span stands an empty one
+pub span-past : (i : ℕ) (ps : List Span) → length ps ≤ i → spaces 0 0 ≡ spanAt i ps
+span-past i ps h = sym (List·getD-eq-default ps (spaces 0 0) h)
+
+pub span-first : (i : ℕ) (p : Span) (ps : List Span) → i ≡ 0 → p ≡ spanAt i (p ∷ ps)
+span-first i p ps e = rw e
+
+pub span-second : (i : ℕ) (p q : Span) (ps : List Span) → i ≡ 1 → q ≡ spanAt i (p ∷ q ∷ ps)
+span-second i p q ps e = rw e
+
+-- THE LOOP OVER THE SPANS, of a body of n bytes within d: after i of them, d is what it was with the body so far painted
+module _ (k : Kind) (n : ℕ) (d : List ℕ) (h : 24 + n ≤ length d) (m : suits k n ≡ true) where
+  abbrev soFar : ℕ → List ℕ
+  soFar i = painted (take i (privateOf k (bodyIn n d))) (bodyIn n d)
+
+  long : length (bodyIn n d) ≡ n
+  long = length-take-le n (drop 24 d) (simp length-drop (omega arith))
+
+  within : Within (length (bodyIn n d)) (privateOf k (bodyIn n d))
+  within = private-within k (bodyIn n d) (rw long m)
+
+  so-long : (i : ℕ) → length (soFar i) ≡ n
+  so-long i = length-painted (take i (privateOf k (bodyIn n d))) (bodyIn n d) (within-take (length (bodyIn n d)) i (privateOf k (bodyIn n d)) within) ∙ long
+
+  room : (i : ℕ) → 24 + length (soFar i) ≤ length d
+  room i = rw (so-long i) h
+
+  pub start : laid 24 (soFar 0) d ≡ d
+  unfolding painted
+  start = laid-same 24 n d h
+
+  body-so : (i : ℕ) → bodyIn n (laid 24 (soFar i) d) ≡ soFar i
+  body-so i = ap (λ (x : ℕ). take x (drop 24 (laid 24 (soFar i) d))) (sym (so-long i)) ∙ mid-laid 24 (soFar i) d (room i)
+
+  -- the span that is read from the body so far is the one of the body as it was
+  span-so : (i : ℕ) → spanIn k n i (laid 24 (soFar i) d) ≡ spanAt i (privateOf k (bodyIn n d))
+  span-so i =
+      ap (λ (b : List ℕ). spanAt i (privateOf k b)) (body-so i)
+      ∙ ap (spanAt i) (sym (private-same k (bodyIn n d) (soFar i) (painted-agrees i (privateOf k (bodyIn n d)) (bodyIn n d) within)))
+
+  module _ (i : ℕ) (e : List ℕ) (q : e ≡ laid 24 (soFar i) d) where
+    pub now-long : length e ≡ length d
+    now-long = ap length q ∙ length-laid 24 (soFar i) d (room i)
+
+    span-now : spanIn k n i e ≡ spanAt i (privateOf k (bodyIn n d))
+    span-now = ap (spanIn k n i) q ∙ span-so i
+
+    fits : spanAt i (privateOf k (bodyIn n d)) .place + spanAt i (privateOf k (bodyIn n d)) .len ≤ n
+    fits = rw long at (within-at (length (bodyIn n d)) i (privateOf k (bodyIn n d)) within)
+
+    pub span-fits : spanIn k n i e .place + spanIn k n i e .len ≤ n
+    span-fits = rw span-now fits
+
+    pub one-more : spanPainted (spanIn k n i e) e ≡ laid 24 (soFar (i + 1)) d
+    one-more =
+        let p = spanAt i (privateOf k (bodyIn n d)) in
+        ap (λ (x : Span). spanPainted x e) span-now
+        ∙ ap (spanPainted p) q
+        ∙ laid-inner 24 (p .place) (replicate (p .len) (p .fill)) (soFar i) d (rw (length-replicate (p .len) (p .fill), so-long i) fits) (room i)
+        ∙ ap (λ (b : List ℕ). laid 24 b d) (sym (painted-more i (privateOf k (bodyIn n d)) (bodyIn n d)))
+
+  -- four spans are more than there are
+  pub all-spans : laid 24 (soFar 4) d ≡ laid 24 (painted (privateOf k (bodyIn n d)) (bodyIn n d)) d
+  all-spans = ap (λ (ps : List Span). laid 24 (painted ps (bodyIn n d)) d) (private-few k (bodyIn n d))

@@ -1,0 +1,4 @@
+pub mod Text
+pub mod Columns
+pub mod Listing
+pub mod Lengths
