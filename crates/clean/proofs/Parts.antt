@@ -11,10 +11,10 @@ use Rattle.octets.specs.Octets.{laid}
 use Rattle.octets.specs.Papers.{laidIfRoom, laid-there, laid-kept}
 use Rattle.octets.specs.Overlays.{mid-laid, laid-again}
 use Rattle.rules.specs.declared.Kind.{Kind}
-use Rattle.scrub.specs.Scrub.{scrubbed}
-use Rattle.scrub.specs.Known.{knownLeaves}
-use Rattle.scrub.specs.KnownLaws.{known-length}
-use Rattle.scrub.specs.Laws.{length-always}
+use Rattle.private.specs.Scrub.{scrubbed}
+use Rattle.private.specs.Known.{knownLeaves}
+use Rattle.private.specs.KnownLaws.{known-length}
+use Rattle.private.specs.Laws.{length-always}
 
 back : (a k : ℕ) (xs ys : List ℕ) → length ys ≡ k → putMid a k xs ys ≡ laid a ys xs
 unfolding laid

@@ -13,18 +13,19 @@ use Rattle.terms.specs.Cases.{two, same}
 use Rattle.octets.specs.Octets.{laid}
 use Rattle.octets.specs.Papers.{laidIfRoom, laid-there, laid-kept}
 use Rattle.octets.specs.Overlays.{laid-nil, laid-append, length-laid, take-front}
-use Rattle.scrub.specs.Scrub.{scrubbed}
+use Rattle.private.specs.Scrub.{scrubbed}
 use Rattle.steps.specs.Literal.{fromOf, from-end}
 use Rattle.steps.specs.Frames.{joined, eachOf}
-use Rattle.walk.specs.declared.Seen.{Seen}
-use Rattle.walk.specs.Seen.{seenOf, saysOf}
-use Rattle.walk.specs.Walk.{sights, accepts, framesOf}
-use Rattle.walk.specs.Counts.{accepts-one}
+use Rattle.seen.specs.declared.Seen.{Seen}
+use Rattle.seen.specs.Seen.{seenOf, saysOf}
+use Rattle.trail.specs.Walk.{sights, accepts, framesOf}
+use Rattle.trail.specs.Counts.{accepts-one}
 use Rattle.clean.specs.declared.Passed.{Passed}
-use Rattle.clean.specs.Clean.{framesIn, cleanIn, cleanOf, foundBy, foundIn, foundOf, differOf, checkOf}
-use Rattle.clean.specs.Passes.{passedOf, Steps}
-use Rattle.clean.specs.Differ.{differ-end, differ-more}
-use Rattle.clean.specs.Turns.{refused-size, size-small, steps-frame, frame-length, adds}
+use Rattle.wash.specs.Clean.{framesIn, cleanIn, cleanOf, foundBy, foundIn, foundOf, differOf, checkOf}
+use Rattle.clean.specs.Passes.{passedOf}
+use Rattle.wash.specs.Steps.{Steps}
+use Rattle.wash.specs.Differ.{differ-end, differ-more}
+use Rattle.wash.specs.Turns.{refused-size, size-small, steps-frame, frame-length, adds}
 
 -- whatever has room, the buffer keeps its length
 laid-length : (at : ℕ) (bs d : List ℕ) → length (laidIfRoom at bs d) ≡ length d

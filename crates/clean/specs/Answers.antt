@@ -1,15 +1,13 @@
--- Whether the cleaned capture fits, what cleaning then answers and leaves; and each answer told from its paper.
-use Prim.Native.Nat.{ℕ, _≤_, _<_}
+-- What one pass counted, and what cleaning then answers and leaves; and each answer told from its paper.
+use Prim.Native.Nat.{ℕ, _≤_}
 use mathlib.Core.Path.{_≡_, refl, sym, ap, _∙_}
 use mathlib.Core.Bool.{true, false}
-use mathlib.Core.Logic.{⊎-elim, _↔_}
+use mathlib.Core.Logic.{⊎-elim}
 use mathlib.Core.List.{List, [], _∷_}
-use native.Mathlib.Omega.{arith}
 use lib.Dec.{leb}
 use lib.ListN.{length}
-use borrow.Author.Tests.{le-leb, lt-leb, leb-true}
 use Rattle.terms.specs.Paper.{Paper, answer, one-number}
-use Rattle.terms.specs.Cases.{two, less}
+use Rattle.terms.specs.Cases.{two}
 use Rattle.terms.specs.Refusals.{refusal-pos}
 use Rattle.terms.specs.declared.Refusal.{Refusal}
 use Rattle.octets.specs.Octets.{laid}
@@ -17,24 +15,15 @@ use Rattle.book.specs.Words.{valueAt}
 use Rattle.ledger.specs.declared.Answer.{Answer}
 use Rattle.ledger.specs.declared.Answer.the-variants.{Refused}
 use Rattle.ledger.specs.Papers.{paperOf, count-paper-one}
-use Rattle.walk.specs.Walk.{sights, framesOf}
+use Rattle.trail.specs.Walk.{sights, framesOf}
 use Rattle.clean.specs.declared.Cleaned.{Cleaned}
 use Rattle.clean.specs.declared.Check.{Check}
 use Rattle.clean.specs.declared.Check.the-variants.{Clean, Changed}
 use Rattle.clean.specs.declared.Passed.{Passed}
-use Rattle.clean.specs.Clean.{cleanOf, foundOf, fitsIn, cleanPaper, cleanAnswer, cleanLeaves, checkPaper}
+use Rattle.wash.specs.Clean.{cleanOf, foundOf, fitsIn, cleanAnswer, cleanLeaves}
+use Rattle.clean.specs.Papers.{cleanPaper, checkPaper}
 use Rattle.clean.specs.Passes.{passedOf}
-use Rattle.clean.specs.Accepted.{clean-short}
-
--- ROOM
-
-pub fits-roomy : (s : List ℕ) (room : ℕ) → length s ≤ room → true ≡ fitsIn s room
-unfolding fitsIn
-fits-roomy s room h = sym (le-leb (length (cleanOf s)) room (omega (arith, clean-short s)))
-
-pub fits-room : (s : List ℕ) (room : ℕ) → fitsIn s room ≡ true → length (cleanOf s) ≤ room
-unfolding fitsIn
-fits-room s room t = leb-true (length (cleanOf s)) room t
+use Rattle.wash.specs.Answers.{fits-room, left-kept, answer-done}
 
 module _ (s : List ℕ) (x : Passed) (e : x ≡ passedOf s) where
   bytes-is : x .bytes ≡ length (cleanOf s)
@@ -58,11 +47,6 @@ module _ (s : List ℕ) (x : Passed) (e : x ≡ passedOf s) where
       → (answer 0 (x .bytes ∷ x .frames ∷ x .«after_damage» ∷ []) ≡ cleanAnswer s (length d)) × (d′ ≡ cleanLeaves s d)
   unfolding cleanAnswer cleanLeaves
   clean-done d d′ f w = rw f (rw (bytes-is, frames-is, found-is), w (fits-room s (length d) f))
-
--- without room
-pub clean-full : (s d : List ℕ) → fitsIn s (length d) ≡ false → (answer 8 (0 ∷ 0 ∷ 0 ∷ []) ≡ cleanAnswer s (length d)) × (d ≡ cleanLeaves s d)
-unfolding cleanAnswer cleanLeaves
-clean-full s d f = rw f (refl, refl)
 
 -- ONE PAPER, ONE ANSWER
 
@@ -92,39 +76,8 @@ abbrev pub Refuses : Cleaned → Type 0
 Refuses x = (w : Refusal) × (x .answer ≡ Refused w)
 
 module _ (s d : List ℕ) where
-  pub left-kept : fitsIn s (length d) ≡ false → cleanLeaves s d ≡ d
-  unfolding cleanLeaves
-  left-kept f = rw f
-
-  answer-done : fitsIn s (length d) ≡ true → cleanAnswer s (length d) .number ≡ 0
-  unfolding cleanAnswer
-  answer-done f = rw f
-
   pub refused-leaves : (e : List ℕ) (x : Cleaned) → Refuses x → cleanPaper x ≡ cleanAnswer s (length d) → e ≡ cleanLeaves s d → e ≡ d
   refused-leaves e x w p q =
-      ⊎-elim (λ (f : fitsIn s (length d) ≡ true). absurd (refusal-pos (w .0) (ap (λ (a : Answer). paperOf a .number) (sym (w .1)) ∙ one-number p ∙ answer-done f)))
-      (λ (f : fitsIn s (length d) ≡ false). q ∙ left-kept f)
+      ⊎-elim (λ (f : fitsIn s (length d) ≡ true). absurd (refusal-pos (w .0) (ap (λ (a : Answer). paperOf a .number) (sym (w .1)) ∙ one-number p ∙ answer-done s d f)))
+      (λ (f : fitsIn s (length d) ≡ false). q ∙ left-kept s d f)
       (two (fitsIn s (length d)))
-
--- EACH NUMBER IS GIVEN EXACTLY WHEN
-module _ (s : List ℕ) (room : ℕ) where
-  answer-8 : room < length (cleanOf s) → cleanAnswer s room ≡ answer 8 (0 ∷ 0 ∷ 0 ∷ [])
-  unfolding cleanAnswer fitsIn
-  answer-8 h = rw (lt-leb (length (cleanOf s)) room h)
-
-  answer-0 : length (cleanOf s) ≤ room → cleanAnswer s room ≡ answer 0 (length (cleanOf s) ∷ framesOf (sights s) ∷ foundOf s ∷ [])
-  unfolding cleanAnswer fitsIn
-  answer-0 h = rw (le-leb (length (cleanOf s)) room h)
-
-  -- "output buffer shorter than what is to be written"
-  pub clean-given-8 : (cleanAnswer s room .number ≡ 8) ↔ (room < length (cleanOf s))
-  clean-given-8 = (
-    λ (e : cleanAnswer s room .number ≡ 8). ⊎-elim (λ (h : room < length (cleanOf s)). h) (λ (h : length (cleanOf s) ≤ room). absurd (omega (arith, e, one-number (answer-0 h)))) (less room (length (cleanOf s))),
-    λ (h : room < length (cleanOf s)). one-number (answer-8 h),
-  )
-
-  pub clean-given-0 : (cleanAnswer s room .number ≡ 0) ↔ (length (cleanOf s) ≤ room)
-  clean-given-0 = (
-    λ (e : cleanAnswer s room .number ≡ 0). ⊎-elim (λ (h : room < length (cleanOf s)). absurd (omega (arith, e, one-number (answer-8 h)))) (λ (h : length (cleanOf s) ≤ room). h) (less room (length (cleanOf s))),
-    λ (h : length (cleanOf s) ≤ room). one-number (answer-0 h),
-  )

@@ -1,12 +1,3 @@
-pub mod Clean
+pub mod Papers
 pub mod Passes
-pub mod Differ
-pub mod Turns
-pub mod Accepted
 pub mod Answers
-pub mod Own
-pub mod Laws
-pub mod Checks
-pub mod Figures
-pub mod Damage
-pub mod Inside

@@ -7,17 +7,19 @@ ghost use lib.ListN.{length, take, drop};
 ghost use Rattle.terms.specs.Paper.{pick};
 ghost use Rattle.octets.specs.Octets.{laid};
 ghost use Rattle.octets.specs.Papers.{laidIfRoom};
-ghost use Rattle.scrub.specs.Scrub.{scrubbed};
-ghost use Rattle.scrub.specs.Known.{knownLeaves};
-ghost use Rattle.walk.specs.Seen.{seenOf};
-ghost use Rattle.walk.specs.Walk.{accepts};
-ghost use Rattle.clean.specs.Clean.{cleanOf, differOf, foundBy, fitsIn, cleanPaper, cleanAnswer, cleanLeaves, checkPaper, checkOf};
-ghost use Rattle.clean.specs.Passes.{passedOf, Steps};
+ghost use Rattle.private.specs.Scrub.{scrubbed};
+ghost use Rattle.private.specs.Known.{knownLeaves};
+ghost use Rattle.seen.specs.Seen.{seenOf};
+ghost use Rattle.trail.specs.Walk.{accepts};
+ghost use Rattle.wash.specs.Clean.{cleanOf, differOf, foundBy, fitsIn, cleanAnswer, cleanLeaves, checkOf};
+ghost use Rattle.wash.specs.Steps.{Steps};
+ghost use Rattle.clean.specs.Papers.{cleanPaper, checkPaper};
+ghost use Rattle.clean.specs.Passes.{passedOf};
 use frame::Found;
 use ledger::Answer;
 use rules::Kind;
+use seen::Seen;
 use terms::Refusal;
-use walk::Seen;
 
 // What cleaning answers: 0, or 8 where the buffer can't take the cleaned bytes; how many bytes were written, how many frames
 // they are, and how many of these the search found behind damage. Such a frame may lie inside a damaged one, in bytes that
@@ -107,7 +109,7 @@ fn pass(capture: &[u8], out: &mut [u8]) -> Passed
     let mut after_damage: usize = 0;
     let mut before: u32 = 0;
     while p < capture.len() {
-        let seen = walk::see(capture, p);
+        let seen = seen::see(capture, p);
         keep(out, bytes, capture, p, seen);
         p = onward(capture, p, seen);
         bytes += seen.size;
@@ -183,7 +185,7 @@ pub fn is_clean(capture: &[u8]) -> Check
     let mut at: usize = 0;
     let mut n: usize = 0;
     while at < capture.len() {
-        let seen = walk::see(capture, at);
+        let seen = seen::see(capture, at);
         keep(&mut one, 0, capture, at, seen);
         let same = agreed(capture, n, &one, seen.size);
         if same < seen.size {

@@ -12,7 +12,7 @@ use Rattle.terms.specs.Paper.{answer, refusal}
 use Rattle.octets.specs.declared.Written.{Written}
 use Rattle.octets.specs.declared.Written.the-variants.{Bytes}
 use Rattle.octets.specs.Papers.{writtenPaper, roomFor, laidIfRoom, room-there, room-lacks, laid-there, laid-kept}
-use Rattle.record.specs.Columns.{as-many}
+use Rattle.report.specs.Columns.{as-many}
 use Rattle.record.specs.Stored.{Stored, stored}
 
 -- where there is room

@@ -24,7 +24,7 @@ use Rattle.book.specs.Trace.{Calls, none, _▸_, after}
 use Rattle.book.proofs.Agree.{agrees}
 use Rattle.record.specs.Record.{blankOf}
 use Rattle.record.specs.Fields.{Fits}
-use Rattle.walk.specs.Literal.{typeIn, lengthIn, tickIn, channelIn, answerIn, ledgerIn, ledgerAfter, frameRecord, stopped, goOn, walkFrom, literalWalk}
+use Rattle.trail.specs.Literal.{typeIn, lengthIn, tickIn, channelIn, answerIn, ledgerIn, ledgerAfter, frameRecord, stopped, goOn, walkFrom, literalWalk}
 use Rattle.lines.specs.Laws.{AllFit, all-none, all-more}
 
 -- ANSWERS: a reading's is at most 6, the ledger's at most 18

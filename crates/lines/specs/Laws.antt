@@ -13,14 +13,15 @@ use Rattle.octets.specs.Overlays.{laid-same}
 use Rattle.octets.specs.Papers.{laidIfRoom, laid-there}
 use Rattle.steps.specs.Frames.{joined, eachOf, each-long}
 use Rattle.record.specs.declared.Record.{Record}
-use Rattle.record.specs.declared.Summary.{Summary}
+use Rattle.report.specs.declared.Summary.{Summary}
 use Rattle.record.specs.Record.{recordOf, recordAt, blankOf}
 use Rattle.record.specs.RecordLaws.{length-record}
 use Rattle.record.specs.Fields.{Fits}
 use Rattle.record.specs.Back.{back}
-use Rattle.record.specs.Lengths.{line-most, summary-most}
-use Rattle.record.specs.Listing.{recordA, recordFF, recordB, summary, listing}
-use Rattle.record.specs.Text.{summaryOf}
+use Rattle.report.specs.Lengths.{line-most, summary-most}
+use Rattle.record.specs.Examples.{recordA, recordFF, recordB}
+use Rattle.report.specs.Listing.{summary, listing}
+use Rattle.report.specs.Text.{summaryOf}
 use Rattle.lines.specs.Listing.{recordsFrom, recordsIn, linesOf, listingOf}
 
 -- each record's numbers fit their widths

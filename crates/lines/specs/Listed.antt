@@ -11,12 +11,12 @@ use Rattle.book.specs.Words.{valueAt}
 use Rattle.book.proofs.Agree.{agrees}
 use Rattle.ledger.specs.State.{bookOf, ledgerOf}
 use Rattle.ledger.proofs.Seam.{book-of}
-use Rattle.record.specs.declared.Summary.{Summary}
-use Rattle.record.specs.Text.{summaryOf}
-use Rattle.walk.specs.Walk.{callsOf}
-use Rattle.walk.specs.CallLaws.{walk-ledger}
-use Rattle.walk.specs.Literal.{Walk, literalWalk}
-use Rattle.walk.specs.Promises.{literal-walk}
+use Rattle.report.specs.declared.Summary.{Summary}
+use Rattle.report.specs.Text.{summaryOf}
+use Rattle.trail.specs.Walk.{callsOf}
+use Rattle.trail.specs.CallLaws.{walk-ledger}
+use Rattle.trail.specs.Literal.{Walk, literalWalk}
+use Rattle.trail.specs.LiteralLaws.{literal-walk}
 use Rattle.lines.specs.Listing.{linesOf}
 
 -- "`missing` is the ledger's"

@@ -3,9 +3,9 @@ use Prim.Native.Nat.{ℕ, zero, suc, _+_, _*_, _/_}
 use mathlib.Core.List.{List, [], _∷_, _++_}
 use lib.ListN.{length}
 use Rattle.record.specs.declared.Record.{Record}
-use Rattle.record.specs.declared.Summary.{Summary}
+use Rattle.report.specs.declared.Summary.{Summary}
 use Rattle.record.specs.Record.{recordAt}
-use Rattle.record.specs.Text.{lineOf, summaryOf}
+use Rattle.report.specs.Text.{lineOf, summaryOf}
 
 -- n records from number k on: "Records have 64 bytes", so number k has those from 64 k on
 unfoldable pub recordsFrom : ℕ → ℕ → List ℕ → List Record

@@ -10,9 +10,9 @@ use lib.ListN.{length, length-append}
 use borrow.Author.Tests.{lt-leb}
 use Rattle.octets.specs.Octets.{laid}
 use Rattle.octets.specs.Overlays.{laid-append, room-test}
-use Rattle.record.specs.declared.Summary.{Summary}
+use Rattle.report.specs.declared.Summary.{Summary}
 use Rattle.record.specs.Record.{recordAt}
-use Rattle.record.specs.Text.{lineOf, summaryOf}
+use Rattle.report.specs.Text.{lineOf, summaryOf}
 use Rattle.record.specs.Stored.{Stored, stored-length}
 use Rattle.lines.specs.Listing.{recordsFrom, recordsIn, linesOf, listingOf}
 

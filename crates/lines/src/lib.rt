@@ -4,12 +4,12 @@ ghost use Prim.Native.Nat.{_+_, _*_, _≤_};
 ghost use lib.Dec.{leb};
 ghost use lib.ListN.{length};
 ghost use Rattle.octets.specs.Papers.{writtenPaper, roomFor, laidIfRoom};
-ghost use Rattle.record.specs.Text.{lineOf, summaryOf};
+ghost use Rattle.report.specs.Text.{lineOf, summaryOf};
 ghost use Rattle.record.specs.Stored.{Stored};
 ghost use Rattle.lines.specs.Listing.{listingOf};
 use octets::Written;
 use record::Record;
-use record::Summary;
+use report::Summary;
 use terms::Refusal;
 
 // Lays a record's line over out from at on, and gives the place behind it.
@@ -17,7 +17,7 @@ fn store_line(out: &mut [u8], at: usize, r: Record) -> usize
     requires { ⌜ at + length (lineOf r) ≤ length (now out) ⌝ }
     ensures { λ e. ⌜ Stored at (lineOf r) (now (out .entry)) (now (out .exit)) e ⌝ }
 {
-    match record::put_line(out, at, r) {
+    match report::put_line(out, at, r) {
         Written::Refused(_) => at,
         Written::Bytes(n) => at + n,
     }
@@ -28,7 +28,7 @@ fn store_last(out: &mut [u8], at: usize, s: Summary) -> usize
     requires { ⌜ at + length (summaryOf s) ≤ length (now out) ⌝ }
     ensures { λ e. ⌜ Stored at (summaryOf s) (now (out .entry)) (now (out .exit)) e ⌝ }
 {
-    match record::put_summary(out, at, s) {
+    match report::put_summary(out, at, s) {
         Written::Refused(_) => at,
         Written::Bytes(n) => at + n,
     }

@@ -13,9 +13,10 @@ use Rattle.digits.specs.Digits.{decimalOf, widthIn}
 use Rattle.book.specs.State.{nothing, rangeRules, mapRules, soundOf}
 use Rattle.book.specs.Calls.{ownNumber, checkedOf, numberTo, raised, done, missingCount, valuesOf, answerTo, nextOf, fresh}
 use Rattle.record.specs.Record.{blankOf}
-use Rattle.record.specs.Listing.{recordA, recordFF, recordB, listing}
-use Rattle.record.specs.Text.{column, named, summaryOf}
-use Rattle.walk.specs.Literal.{walkFrom, literalWalk}
+use Rattle.record.specs.Examples.{recordA, recordFF, recordB}
+use Rattle.report.specs.Listing.{listing}
+use Rattle.report.specs.Text.{column, named, summaryOf}
+use Rattle.trail.specs.Literal.{walkFrom, literalWalk}
 use Rattle.lines.specs.Listing.{linesOf}
 use Rattle.lines.specs.Listed.{listedOf}
 use Rattle.listing.specs.Output.{outputOf}

@@ -6,11 +6,12 @@ use native.Mathlib.Omega.{arith}
 use lib.ListN.{length, take, length-append}
 use Rattle.octets.specs.Octets.{Bytes}
 use Rattle.octets.specs.Overlays.{take-front, length-laid}
-use Rattle.record.specs.Lengths.{summary-most}
+use Rattle.report.specs.Lengths.{summary-most}
 use Rattle.walk.specs.declared.Walked.{Walked}
-use Rattle.walk.specs.WalkLaws.{records-few}
-use Rattle.walk.specs.Literal.{Walk, literalWalk}
-use Rattle.walk.specs.Promises.{literal-walk, Listed}
+use Rattle.trail.specs.WalkLaws.{records-few}
+use Rattle.trail.specs.Literal.{Walk, literalWalk}
+use Rattle.trail.specs.LiteralLaws.{literal-walk}
+use Rattle.walk.specs.Promises.{Listed}
 use Rattle.lines.specs.Listing.{listingOf}
 use Rattle.lines.specs.Laws.{tableOf, length-table, listing-table, LastFits, lines-most}
 use Rattle.lines.specs.Fit.{walk-fits}

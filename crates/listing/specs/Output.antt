@@ -5,7 +5,7 @@ use lib.Dec.{leb}
 use lib.ListN.{length}
 use Rattle.terms.specs.Paper.{pick}
 use Rattle.ledger.specs.State.{bookOf}
-use Rattle.record.specs.declared.Summary.{Summary}
+use Rattle.report.specs.declared.Summary.{Summary}
 use Rattle.walk.specs.declared.Walked.{Walked}
 use Rattle.lines.specs.Listed.{lastAt, listedOf}
 

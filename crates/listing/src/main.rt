@@ -9,7 +9,7 @@ ghost use Rattle.listing.specs.Output.{lastBy, outputOf};
 use libc::STDIN_FILENO;
 use libc::STDOUT_FILENO;
 use octets::Written;
-use record::Summary;
+use report::Summary;
 use walk::Walked;
 
 // The largest capture that is taken. One byte more is read, which tells a capture that is too long.

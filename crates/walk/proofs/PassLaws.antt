@@ -16,16 +16,16 @@ use Rattle.record.specs.declared.Record.{Record}
 use Rattle.steps.specs.Account as Account
 use Rattle.steps.specs.Account.{Account, first, accountOf}
 use Rattle.steps.specs.Literal.{fromOf, sightAt, from-end}
-use Rattle.walk.specs.declared.Seen.{Seen}
-use Rattle.walk.specs.declared.Offered.{Offered}
+use Rattle.seen.specs.declared.Seen.{Seen}
+use Rattle.offers.specs.declared.Offered.{Offered}
 use Rattle.walk.specs.declared.Passed.{Passed}
-use Rattle.walk.specs.Seen.{seenOf, saysOf}
-use Rattle.walk.specs.Offers.{callsBy, offerOf}
-use Rattle.walk.specs.CallLaws.{book-added}
-use Rattle.walk.specs.Onward.{Goes}
-use Rattle.walk.specs.Walk.{madeOf, recordBy, bookBy, walkOf, sights, added, accepts, framesOf}
-use Rattle.walk.specs.Tables.{notedAt, writtenFrom, noted-length}
-use Rattle.walk.specs.Counts.{accepts-one}
+use Rattle.seen.specs.Seen.{seenOf, saysOf}
+use Rattle.trail.specs.Offers.{callsBy, offerOf}
+use Rattle.trail.specs.CallLaws.{book-added}
+use Rattle.trail.specs.Onward.{Goes}
+use Rattle.trail.specs.Walk.{madeOf, recordBy, bookBy, walkOf, sights, added, accepts, framesOf}
+use Rattle.trail.specs.Tables.{notedAt, writtenFrom, noted-length}
+use Rattle.trail.specs.Counts.{accepts-one}
 use Rattle.walk.specs.Passes.{passedOf}
 
 -- the walk from a place on, with the book b

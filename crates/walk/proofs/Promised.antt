@@ -10,10 +10,11 @@ use lib.ListN.{length}
 use Rattle.ledger.specs.State.{bookOf, ledgerOf}
 use Rattle.book.specs.Trace.{trace}
 use Rattle.book.specs.Demand3.{Demand3}
-use Rattle.walk.specs.Walk.{callsOf}
-use Rattle.walk.specs.Literal.{Walk, literalWalk}
-use Rattle.walk.specs.Promises.{literal-walk, Listed, Untouched, with-room, without-room}
-use Rattle.walk.proofs.Demand3.{ledger-demand-3}
+use Rattle.trail.specs.Walk.{callsOf}
+use Rattle.trail.specs.Literal.{Walk, literalWalk}
+use Rattle.trail.specs.LiteralLaws.{literal-walk}
+use Rattle.walk.specs.Promises.{Listed, Untouched, with-room, without-room}
+use Rattle.trail.proofs.Demand3.{ledger-demand-3}
 use Rattle.walk.proofs.walk.Reads as walk
 use Rattle.walk.proofs.walk.Kinds as walk-kinds
 

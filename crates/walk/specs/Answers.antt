@@ -15,7 +15,9 @@ use Rattle.ledger.specs.declared.Ledger.{Ledger}
 use Rattle.ledger.specs.Papers.{paperOf, count-paper-one}
 use Rattle.book.specs.Words.{valueAt}
 use Rattle.walk.specs.declared.Walked.{Walked}
-use Rattle.walk.specs.Walk.{fitsIn, walkPaper, walkAnswer, walkLeaves}
+use Rattle.trail.specs.Walk.{fitsIn, walkAnswer, walkLeaves}
+use Rattle.trail.specs.Answers.{left-kept, answer-done}
+use Rattle.walk.specs.Papers.{walkPaper}
 
 same : (a b : Answer) (i j k m n o : ℕ) (x y : Ledger) → a ≡ b → i ≡ j → k ≡ m → n ≡ o → x ≡ y
     → _≡_ {A = Walked} (record { answer = a; records = i; frames = k; refused = n; ledger = x }) (record { answer = b; records = j; frames = m; refused = o; ledger = y })
@@ -32,17 +34,9 @@ abbrev pub Refuses : Walked → Type 0
 Refuses x = (w : Refusal) × (x .answer ≡ Refused w)
 
 module _ (s : List ℕ) (d : List ℕ) where
-  pub left-kept : fitsIn s (length d) ≡ false → walkLeaves s d ≡ d
-  unfolding walkLeaves
-  left-kept f = rw f
-
-  pub answer-done : fitsIn s (length d) ≡ true → walkAnswer s (length d) .number ≡ 0
-  unfolding walkAnswer
-  answer-done f = rw f
-
   -- a refusal leaves the buffer as it was
   pub refused-leaves : (e : List ℕ) (x : Walked) → Refuses x → walkPaper x ≡ walkAnswer s (length d) → e ≡ walkLeaves s d → e ≡ d
   refused-leaves e x w p q =
-      ⊎-elim (λ (f : fitsIn s (length d) ≡ true). absurd (refusal-pos (w .0) (ap (λ (a : Answer). paperOf a .number) (sym (w .1)) ∙ one-number p ∙ answer-done f)))
-      (λ (f : fitsIn s (length d) ≡ false). q ∙ left-kept f)
+      ⊎-elim (λ (f : fitsIn s (length d) ≡ true). absurd (refusal-pos (w .0) (ap (λ (a : Answer). paperOf a .number) (sym (w .1)) ∙ one-number p ∙ answer-done s d f)))
+      (λ (f : fitsIn s (length d) ≡ false). q ∙ left-kept s d f)
       (two (fitsIn s (length d)))

@@ -3,44 +3,20 @@ ghost use mathlib.Core.Path.{_≡_};
 ghost use Prim.Native.Nat.{_+_, _*_, _/_, _<_};
 ghost use lib.Dec.{leb};
 ghost use lib.ListN.{length, drop};
-ghost use Rattle.ledger.specs.State.{bookOf, ledgerOf};
-ghost use Rattle.book.specs.Calls.{Tick, Announce, numberTo, nextOf, fresh};
-ghost use Rattle.walk.specs.Seen.{blank, seenOf};
-ghost use Rattle.walk.specs.Offers.{offerOf};
-ghost use Rattle.walk.specs.Onward.{Goes};
-ghost use Rattle.walk.specs.Walk.{madeOf, accepts, walkOf, fitsIn, walkPaper, walkAnswer, walkBook, walkLeaves};
-ghost use Rattle.walk.specs.Tables.{notedAt, writtenFrom};
+ghost use Rattle.ledger.specs.State.{ledgerOf};
+ghost use Rattle.book.specs.Calls.{fresh};
+ghost use Rattle.seen.specs.Seen.{seenOf};
+ghost use Rattle.trail.specs.Onward.{Goes};
+ghost use Rattle.trail.specs.Walk.{accepts, walkOf, fitsIn, walkAnswer, walkBook, walkLeaves};
+ghost use Rattle.trail.specs.Tables.{writtenFrom};
+ghost use Rattle.walk.specs.Papers.{walkPaper};
 ghost use Rattle.walk.specs.Passes.{passedOf};
 use frame::Found;
-use frame::Read;
 use ledger::Answer;
 use ledger::Ledger;
-use ledger::TickAnswer;
-use record::Record;
-use rules::Kind;
+use seen::Seen;
 use terms::ChannelNumber;
 use terms::Refusal;
-use terms::SessionNumber;
-use terms::TickNumber;
-
-// All that a reading tells the layers above, and nothing private. A refused reading shows its number alone: four spaces,
-// and zeros. size is the frame's length, 0 where none was read.
-pub struct Seen {
-    pub answer: u32,
-    pub msg_type: u32,
-    pub seq: SessionNumber,
-    pub channel: ChannelNumber,
-    pub tick: TickNumber,
-    pub status: u8,
-    pub body_len: u32,
-    pub size: usize,
-}
-
-// What offering a reading to the ledger comes to: the record's answer, and the ledger after it.
-pub struct Offered {
-    pub answer: u32,
-    pub ledger: Ledger,
-}
 
 // What the walk answers: 0, or 8 where the buffer can't take all records; how many records there are, how many readings were
 // frames and how many were refused; and the ledger after the last. Beside 8 the counts are 0 and the ledger is the one just opened.
@@ -59,123 +35,6 @@ struct Passed {
     ledger: Ledger,
 }
 
-// A refused reading: its number, four spaces, and zeros. No byte of it is handed on.
-fn blank(answer: u32) -> Seen
-    ensures { λ r. ⌜ r ≡ blank answer ⌝ }
-{
-    Seen {
-        answer,
-        msg_type: 0x20202020,
-        seq: SessionNumber::new(0),
-        channel: ChannelNumber::new(0),
-        tick: TickNumber::new(0),
-        status: 0,
-        body_len: 0,
-        size: 0,
-    }
-}
-
-// The reading at a place. A place beyond the end reads as no bytes: 1.
-pub fn see(bytes: &[u8], at: usize) -> Seen
-    ensures { λ r. ⌜ r ≡ seenOf (drop at (now (bytes .entry))) ⌝ }
-{
-    match frame::read_at(bytes, at) {
-        Read::Refused(why) => blank(why.number()),
-        Read::Frame {
-            msg_type,
-            sending_time: _,
-            seq,
-            body_len,
-        } => {
-            let first = at + 24;
-            let behind = first + body_len;
-            let view = view::view_of(rules::kind_of(msg_type), &bytes[first..behind]);
-            let channel = view.channel;
-            let tick = view.tick;
-            let length = body_len as u32;
-            let size = 28 + body_len;
-            Seen {
-                answer: 0,
-                msg_type,
-                seq,
-                channel,
-                tick,
-                status: view.status,
-                body_len: length,
-                size,
-            }
-        }
-    }
-}
-
-// The ledger as it is, beside an answer that is not its own.
-fn kept(ledger: Ledger, answer: u32) -> Offered
-    ensures { λ r. ⌜ (r .answer ≡ answer) × (r .ledger ≡ ledgerOf (bookOf ledger)) ⌝ }
-{
-    Offered { answer, ledger }
-}
-
-// The ledger after a tick, and what it answered.
-fn ticked(ledger: Ledger, channel: ChannelNumber, tick: TickNumber) -> Offered
-    ensures { λ r. ⌜ (r .answer ≡ numberTo (bookOf ledger) (Tick (channel .0) (tick .0))) × (r .ledger ≡ ledgerOf (nextOf (bookOf ledger) (Tick (channel .0) (tick .0)))) ⌝ }
-{
-    let ticked = ledger.tick(channel, tick);
-    let next = ticked.next;
-    let answer = ticked.answer;
-    match answer {
-        TickAnswer::Passed { first: _, count: _ } => Offered {
-            answer: 0,
-            ledger: next,
-        },
-        TickAnswer::Refused(why) => Offered {
-            answer: why.number(),
-            ledger: next,
-        },
-    }
-}
-
-// The ledger after an announcement, and what it answered.
-fn announced(ledger: Ledger, channel: ChannelNumber, last: TickNumber) -> Offered
-    ensures { λ r. ⌜ (r .answer ≡ numberTo (bookOf ledger) (Announce (channel .0) (last .0))) × (r .ledger ≡ ledgerOf (nextOf (bookOf ledger) (Announce (channel .0) (last .0)))) ⌝ }
-{
-    let noted = ledger.announce(channel, last);
-    let next = noted.next;
-    let answer = noted.answer;
-    match answer {
-        Answer::Done => Offered {
-            answer: 0,
-            ledger: next,
-        },
-        Answer::Refused(why) => Offered {
-            answer: why.number(),
-            ledger: next,
-        },
-    }
-}
-
-// The ledger after a reading was offered to it: an M201 as a tick, a P001 as an announcement. Any other reading changes
-// nothing and keeps its own answer: a refused one, and a P002, which the walk never offers.
-pub fn offer(ledger: Ledger, seen: Seen) -> Offered
-    ensures { λ r. ⌜ (r .answer ≡ offerOf (bookOf ledger) seen .number) × (r .ledger ≡ ledgerOf (offerOf (bookOf ledger) seen .book)) ⌝ }
-{
-    let channel = seen.channel;
-    let tick = seen.tick;
-    if seen.answer != 0 {
-        return kept(ledger, seen.answer);
-    }
-    match rules::kind_of(seen.msg_type) {
-        Kind::S001 => kept(ledger, 0),
-        Kind::S002 => kept(ledger, 0),
-        Kind::S003 => kept(ledger, 0),
-        Kind::P001 => announced(ledger, channel, tick),
-        Kind::P002 => kept(ledger, 0),
-        Kind::M101 => kept(ledger, 0),
-        Kind::M102 => kept(ledger, 0),
-        Kind::M201 => ticked(ledger, channel, tick),
-        Kind::Unknown => kept(ledger, 0),
-    }
-}
-
 // The place of the next reading, behind the one at p: past the frame, or where the search from the next byte on finds one; the
 // end where it finds none. A refused frame's BodyLength is never stepped by.
 fn onward(capture: &[u8], p: usize, seen: Seen) -> usize
@@ -189,38 +48,6 @@ fn onward(capture: &[u8], p: usize, seen: Seen) -> usize
         Found::At(q) => q,
         Found::Nothing => capture.len(),
         Found::Beyond => capture.len(),
-    }
-}
-
-// The record of a reading: what was seen, the answer, and the ledger's floor and top after the offer.
-pub fn made(place: u64, seen: Seen, after: Offered) -> Record
-    ensures { λ r. ⌜ r ≡ madeOf place seen (after .answer) (after .ledger .floor) (after .ledger .top) ⌝ }
-{
-    let ledger = after.ledger;
-    let floor = ledger.floor;
-    let top = ledger.top;
-    let seq = seen.seq;
-    let tick = seen.tick;
-    let channel = seen.channel;
-    Record {
-        place,
-        msg_type: seen.msg_type,
-        answer: after.answer,
-        seq,
-        tick,
-        channel,
-        body_len: seen.body_len,
-        floor,
-        top,
-    }
-}
-
-// Lays record k into the table of records, where it has room.
-pub fn note(out: &mut [u8], k: usize, r: Record)
-    ensures { λ _. ⌜ now (out .exit) ≡ notedAt k r (now (out .entry)) ⌝ }
-{
-    if k < out.len() / 64 {
-        record::put(out, 64 * k, r);
     }
 }
 
@@ -241,9 +68,9 @@ fn pass(capture: &[u8], start: Ledger, out: &mut [u8]) -> Passed
     let mut frames: usize = 0;
     let mut ledger = start;
     while p < capture.len() {
-        let seen = see(capture, p);
-        let after = offer(ledger, seen);
-        note(out, records, made(p as u64, seen, after));
+        let seen = seen::see(capture, p);
+        let after = offers::offer(ledger, seen);
+        table::note(out, records, table::made(p as u64, seen, after));
         p = onward(capture, p, seen);
         records += 1;
         frames += accepted(seen.answer);

@@ -2,7 +2,8 @@
 use mathlib.Core.Path.{sym, _∙_}
 use borrow.Author.Needs.{needs}
 use borrow.Author.Tests.{not-true, not-false}
-use Rattle.clean.specs.Answers.{clean-done, clean-full}
+use Rattle.clean.specs.Answers.{clean-done}
+use Rattle.wash.specs.Answers.{clean-full}
 use Rattle.clean.proofs.clean.Statement.{statement}
 use Rattle.clean.proofs.clean.Tie as tie
 

@@ -5,7 +5,7 @@ use Prim.Native.Nat.{_-_}
 use mathlib.Core.Path.{_≡_, sym}
 use lib.ListN.{length}
 use borrow.Author.Needs.{needs}
-use Rattle.clean.specs.Turns.{size-inside, size-small}
+use Rattle.wash.specs.Turns.{size-inside, size-small}
 use Rattle.clean.proofs.PassLaws.{Same, same-start, one-long, same-step, same-here, same-more, same-end}
 use Rattle.clean.proofs.is_clean.Statement.{statement}
 use Rattle.clean.proofs.is_clean.Tie as tie

@@ -5,9 +5,9 @@ use mathlib.Core.Path.{refl}
 use lib.ListN.{length}
 use borrow.Author.Needs.{needs}
 use Rattle.rules.specs.Table.{kind-is}
-use Rattle.scrub.specs.Known.{knownLeaves}
-use Rattle.clean.specs.Turns.{size-inside}
-use Rattle.clean.specs.Own.{seen-scrubs}
+use Rattle.private.specs.Known.{knownLeaves}
+use Rattle.wash.specs.Turns.{size-inside}
+use Rattle.wash.specs.Own.{seen-scrubs}
 use Rattle.clean.proofs.Parts.{kept-there, kept-none}
 use Rattle.clean.proofs.keep.Statement.{statement}
 use Rattle.clean.proofs.keep.Tie as tie

@@ -6,9 +6,9 @@ use borrow.Author.Needs.{needs}
 use Rattle.frame.specs.declared.Found.{Found}
 use Rattle.frame.specs.Papers.{foundPaper}
 use Rattle.wire.specs.Search.{searchOf}
-use Rattle.walk.specs.Onward.{goes-inside}
-use Rattle.clean.specs.Passes.{Steps}
-use Rattle.clean.specs.Turns.{steps-frame, steps-found, steps-none}
+use Rattle.trail.specs.Onward.{goes-inside}
+use Rattle.wash.specs.Steps.{Steps}
+use Rattle.wash.specs.Turns.{steps-frame, steps-found, steps-none}
 use Rattle.clean.proofs.onward.Statement.{statement}
 use Rattle.clean.proofs.onward.Tie as tie
 

@@ -7,7 +7,7 @@ use lib.Dec.{leb}
 use lib.ListN.{length}
 use Rattle.record.specs.declared.Record.{Record}
 use Rattle.record.specs.Record.{recordAt}
-use Rattle.record.specs.Text.{lineOf}
+use Rattle.report.specs.Text.{lineOf}
 use Rattle.lines.specs.Listing.{listingOf}
 use Rattle.lines.specs.Rest.{restOf, rest-first, rest-end, rest-lacks, rest-fits}
 use borrow.Author.Needs.{needs}

@@ -1,6 +1,6 @@
 -- `last_len`: 160 bytes have room for the last line, whatever its numbers. Assumes nothing.
 use native.Mathlib.Omega.{arith}
-use Rattle.record.specs.Lengths.{summary-most}
+use Rattle.report.specs.Lengths.{summary-most}
 use borrow.Author.Needs.{needs}
 use Rattle.lines.proofs.last_len.Statement.{statement}
 use Rattle.lines.proofs.last_len.Tie as tie

@@ -1,7 +1,7 @@
 -- `line_len`: 160 bytes have room for every line. Assumes nothing.
 use native.Mathlib.Omega.{arith}
 use Rattle.record.specs.Fields.{Fits}
-use Rattle.record.specs.Lengths.{line-most}
+use Rattle.report.specs.Lengths.{line-most}
 use borrow.Author.Needs.{needs}
 use Rattle.lines.proofs.line_len.Statement.{statement}
 use Rattle.lines.proofs.line_len.Tie as tie

@@ -1,6 +1,6 @@
 -- `store_line`: there is room for the line, so that it is never refused. Assumes nothing.
 use native.Mathlib.Omega.{arith}
-use Rattle.record.specs.Columns.{not-refused}
+use Rattle.report.specs.Columns.{not-refused}
 use Rattle.lines.specs.Answered.{answered}
 use borrow.Author.Needs.{needs}
 use Rattle.lines.proofs.store_line.Statement.{statement}

@@ -8,8 +8,8 @@ use lib.ListN.{length, take}
 use lib.Seq.{length-take-le}
 use Rattle.octets.specs.Octets.{Bytes}
 use Rattle.octets.specs.Papers.{writtenPaper, roomFor, laidIfRoom}
-use Rattle.record.specs.Columns.{not-refused}
-use Rattle.walk.specs.Literal.{literalWalk}
+use Rattle.report.specs.Columns.{not-refused}
+use Rattle.trail.specs.Literal.{literalWalk}
 use Rattle.walk.specs.Promises.{Listed, with-room}
 use Rattle.lines.specs.Answered.{answered}
 use Rattle.lines.specs.Laws.{LastFits}

@@ -6,7 +6,7 @@ use borrow.Author.Needs.{needs}
 use Rattle.frame.specs.declared.Found.{Found}
 use Rattle.frame.specs.Papers.{foundPaper}
 use Rattle.wire.specs.Search.{searchOf}
-use Rattle.walk.specs.Onward.{Goes, goes-frame, goes-found, goes-none, goes-inside}
+use Rattle.trail.specs.Onward.{Goes, goes-frame, goes-found, goes-none, goes-inside}
 use Rattle.walk.proofs.onward.Statement.{statement}
 use Rattle.walk.proofs.onward.Tie as tie
 

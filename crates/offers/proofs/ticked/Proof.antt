@@ -1,0 +1,33 @@
+-- `ticked`: the number of the ledger's answer is that of its paper. Assumes nothing.
+use mathlib.Core.Path.{sym, ap, _∙_}
+use borrow.Author.Needs.{needs}
+use Rattle.terms.specs.Paper.{one-number}
+use Rattle.book.specs.Calls.{answerTo}
+use Rattle.ledger.specs.Papers.{tickPaper}
+use Rattle.offers.proofs.ticked.Statement.{statement}
+use Rattle.offers.proofs.ticked.Tie as tie
+
+tick-requires : tie.Need-tick-requires
+tick-requires c κs = search needs
+
+enum-told : tie.Need-enum-told
+enum-told c = search needs
+
+enum-known-answer : tie.Need-enum-known-answer
+enum-known-answer c = search needs
+
+number-requires : tie.Need-number-requires
+number-requires c κs = search needs
+
+returns : tie.Need-returns
+unfolding answerTo
+returns c = (one-number (sym (ap tickPaper (c .enum-told .given .1)) ∙ c .before .before .before .tick .ensures .0), c .before .before .before .tick .ensures .1)
+
+returns-2 : tie.Need-returns-2
+unfolding answerTo
+returns-2 c = (c .number .ensures ∙ one-number (sym (ap tickPaper (c .before .before .answer .given .1)) ∙ c .before .before .before .before .before .tick .ensures .0), c .before .before .before .before .before .tick .ensures .1)
+
+pub ticked-spec : {M : Type 1} → statement M
+ticked-spec =
+    tie.close
+    (tie.spec tick-requires enum-told enum-known-answer number-requires returns returns-2)

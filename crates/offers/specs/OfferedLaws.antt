@@ -1,0 +1,20 @@
+-- Each offer from the calls that the reading makes.
+use mathlib.Core.Path.{_≡_}
+use mathlib.Core.List.{[], _∷_}
+use Rattle.book.specs.State.{Book}
+use Rattle.ledger.specs.State.{ledgerOf}
+use Rattle.book.specs.Calls.{Call, numberTo, nextOf}
+use Rattle.seen.specs.declared.Seen.{Seen}
+use Rattle.offers.specs.declared.Offered.{Offered}
+use Rattle.trail.specs.Offers.{callsBy, answered, offerOf}
+
+-- what the code gives where no call is made, and where one is
+module _ (o : Offered) (b : Book) (x : Seen) where
+  pub offer-none : callsBy x ≡ [] → o .answer ≡ x .answer → o .ledger ≡ ledgerOf b → (o .answer ≡ offerOf b x .number) × (o .ledger ≡ ledgerOf (offerOf b x .book))
+  unfolding offerOf answered
+  offer-none e p q = rw e (p, q)
+
+  pub offer-one : (call : Call) → callsBy x ≡ call ∷ [] → o .answer ≡ numberTo b call → o .ledger ≡ ledgerOf (nextOf b call)
+      → (o .answer ≡ offerOf b x .number) × (o .ledger ≡ ledgerOf (offerOf b x .book))
+  unfolding offerOf answered
+  offer-one call e p q = rw e (p, q)

@@ -1,0 +1,86 @@
+// A reading offered to the ledger. Document 01, "Fault records and the listing".
+ghost use mathlib.Core.Path.{_≡_};
+ghost use Rattle.ledger.specs.State.{bookOf, ledgerOf};
+ghost use Rattle.book.specs.Calls.{Tick, Announce, numberTo, nextOf};
+ghost use Rattle.trail.specs.Offers.{offerOf};
+use ledger::Answer;
+use ledger::Ledger;
+use ledger::TickAnswer;
+use rules::Kind;
+use seen::Seen;
+use terms::ChannelNumber;
+use terms::TickNumber;
+
+// What offering a reading to the ledger comes to: the record's answer, and the ledger after it.
+pub struct Offered {
+    pub answer: u32,
+    pub ledger: Ledger,
+}
+
+// The ledger as it is, beside an answer that is not its own.
+fn kept(ledger: Ledger, answer: u32) -> Offered
+    ensures { λ r. ⌜ (r .answer ≡ answer) × (r .ledger ≡ ledgerOf (bookOf ledger)) ⌝ }
+{
+    Offered { answer, ledger }
+}
+
+// The ledger after a tick, and what it answered.
+fn ticked(ledger: Ledger, channel: ChannelNumber, tick: TickNumber) -> Offered
+    ensures { λ r. ⌜ (r .answer ≡ numberTo (bookOf ledger) (Tick (channel .0) (tick .0))) × (r .ledger ≡ ledgerOf (nextOf (bookOf ledger) (Tick (channel .0) (tick .0)))) ⌝ }
+{
+    let ticked = ledger.tick(channel, tick);
+    let next = ticked.next;
+    let answer = ticked.answer;
+    match answer {
+        TickAnswer::Passed { first: _, count: _ } => Offered {
+            answer: 0,
+            ledger: next,
+        },
+        TickAnswer::Refused(why) => Offered {
+            answer: why.number(),
+            ledger: next,
+        },
+    }
+}
+
+// The ledger after an announcement, and what it answered.
+fn announced(ledger: Ledger, channel: ChannelNumber, last: TickNumber) -> Offered
+    ensures { λ r. ⌜ (r .answer ≡ numberTo (bookOf ledger) (Announce (channel .0) (last .0))) × (r .ledger ≡ ledgerOf (nextOf (bookOf ledger) (Announce (channel .0) (last .0)))) ⌝ }
+{
+    let noted = ledger.announce(channel, last);
+    let next = noted.next;
+    let answer = noted.answer;
+    match answer {
+        Answer::Done => Offered {
+            answer: 0,
+            ledger: next,
+        },
+        Answer::Refused(why) => Offered {
+            answer: why.number(),
+            ledger: next,
+        },
+    }
+}
+
+// The ledger after a reading was offered to it: an M201 as a tick, a P001 as an announcement. Any other reading changes
+// nothing and keeps its own answer: a refused one, and a P002, which the walk never offers.
+pub fn offer(ledger: Ledger, seen: Seen) -> Offered
+    ensures { λ r. ⌜ (r .answer ≡ offerOf (bookOf ledger) seen .number) × (r .ledger ≡ ledgerOf (offerOf (bookOf ledger) seen .book)) ⌝ }
+{
+    let channel = seen.channel;
+    let tick = seen.tick;
+    if seen.answer != 0 {
+        return kept(ledger, seen.answer);
+    }
+    match rules::kind_of(seen.msg_type) {
+        Kind::S001 => kept(ledger, 0),
+        Kind::S002 => kept(ledger, 0),
+        Kind::S003 => kept(ledger, 0),
+        Kind::P001 => announced(ledger, channel, tick),
+        Kind::P002 => kept(ledger, 0),
+        Kind::M101 => kept(ledger, 0),
+        Kind::M102 => kept(ledger, 0),
+        Kind::M201 => ticked(ledger, channel, tick),
+        Kind::Unknown => kept(ledger, 0),
+    }
+}

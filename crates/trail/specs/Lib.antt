@@ -1,0 +1,14 @@
+pub mod Offers
+pub mod OfferLaws
+pub mod Onward
+pub mod Walk
+pub mod Tables
+pub mod Counts
+pub mod WalkLaws
+pub mod Answers
+pub mod CallLaws
+pub mod Literal
+pub mod FrameLaws
+pub mod Marked
+pub mod LiteralLaws
+pub mod Records

@@ -1,0 +1,160 @@
+-- What a cleaned capture is, of every capture s that is bytes. All of it is proved of the definition that the code's promise cites.
+use Prim.Native.Nat.{ℕ, zero, suc, _+_, _≤_, _<_}
+use mathlib.Core.Path.{_≡_, refl, sym, ap, _∙_}
+use mathlib.Core.Logic.{⊎-elim}
+use mathlib.Core.List.{List, [], _∷_, _++_}
+use native.Mathlib.Omega.{arith}
+use lib.ListN.{length, getD, take, drop, length-take, List·getD-eq-default}
+use lib.Seq.{getD-take, take-at, drop-at, drop-drop}
+use borrow.Author.Tests.{eq-eqb}
+use Rattle.terms.specs.Cases.{less}
+use Rattle.octets.specs.Octets.{Bytes}
+use Rattle.wire.specs.Frame.{bodyLength, readOf}
+use Rattle.private.specs.Scrub.{scrubbed, spansOf}
+use Rattle.private.specs.Paint.{Inside}
+use Rattle.private.specs.Laws.{length-always, again-always, scrub-fills}
+use Rattle.steps.specs.Walk.{Says, frame, more, bad, Mode, within, seeking}
+use Rattle.steps.specs.Frames.{joined, eachOf, Frames, f-nil, f-cons, taggedOf, frontOf, takenOf, acceptedOf, readsOf, frames-sights, reads-accepted, accepted-frames}
+use Rattle.seen.specs.Seen.{seenOf, saysOf}
+use Rattle.seen.specs.SeenLaws.{seen-answer, seen-kept, seen-fits, frame-says}
+use Rattle.trail.specs.Walk.{sights}
+use Rattle.wash.specs.Clean.{framesIn, cleanOf}
+use Rattle.wash.specs.Accepted.{acceptedIn, frames-accepted, clean-is, scrubbed-length}
+use Rattle.wash.specs.Own.{seen-own, seen-scrubbed}
+
+-- each of these lists is so
+pub data Each (P : List ℕ → Type 0) : List (List ℕ) → Type 0 where
+  e-nil : Each P []
+  e-cons : {f : List ℕ} {fs : List (List ℕ)} → P f → Each P fs → Each P (f ∷ fs)
+
+-- frames, each one and nothing else
+abbrev pub AllFrames : List (List ℕ) → Type 0
+AllFrames fs = Frames seenOf saysOf fs
+
+-- ACCEPTED FRAMES ARE FRAMES, AND BYTES
+
+fits : (s : List ℕ) (n : ℕ) → saysOf (seenOf s) ≡ frame n → 1 ≤ n
+fits s n e = omega (arith, seen-fits s n e .0)
+
+pub all-frames : (s : List ℕ) → AllFrames (acceptedIn s)
+all-frames s = accepted-frames seenOf saysOf seen-own (λ t n e. seen-fits t n e .1) (within zero) s
+
+take-bytes : (n : ℕ) (s : List ℕ) → Bytes s → Bytes (take n s)
+take-bytes n s b i =
+    ⊎-elim (λ (h : i < n). rw (getD-take n s i 0 h) (b i))
+    (λ (h : n ≤ i).
+    let short : length (take n s) ≤ i = omega (arith, length-take n s) in
+    rw (List·getD-eq-default (take n s) 0 short) (omega arith))
+    (less i n)
+
+front-bytes : (w : Says) (s : List ℕ) → Bytes s → Each Bytes (frontOf w s)
+unfolding frontOf
+front-bytes (frame n) s b = e-cons (take-bytes n s b) e-nil
+front-bytes more s b = e-nil
+front-bytes bad s b = e-nil
+
+taken-bytes : (m : Mode) (w : Says) (s : List ℕ) → Bytes s → Each Bytes (takenOf m w s)
+unfolding takenOf
+taken-bytes (within zero) w s b = front-bytes w s b
+taken-bytes (within (suc k)) w s b = e-nil
+taken-bytes seeking w s b = front-bytes w s b
+
+each-append : {P : List ℕ → Type 0} (a b : List (List ℕ)) → Each P a → Each P b → Each P (a ++ b)
+each-append a b e-nil h = h
+each-append a b (e-cons {f = f} {fs = fs} p r) h = e-cons p (each-append fs b r h)
+
+bytes-from : (m : Mode) (s : List ℕ) → Bytes s → Each Bytes (acceptedOf seenOf saysOf m s)
+unfolding acceptedOf
+bytes-from m [] b = e-nil
+bytes-from m (x ∷ s) b = each-append _ _ (taken-bytes m _ (x ∷ s) b) (bytes-from _ s (λ i. b (suc i)))
+
+pub all-bytes : (s : List ℕ) → Bytes s → Each Bytes (acceptedIn s)
+all-bytes s b = bytes-from (within zero) s b
+
+-- FRAMES END TO END are read one by one: the accepted frames are they
+module _ (c : List ℕ) where
+  tagged-frames : (p : ℕ) (fs : List (List ℕ)) → AllFrames fs → drop p c ≡ joined fs → framesIn c (taggedOf seenOf saysOf p fs) ≡ fs
+  unfolding framesIn taggedOf joined
+  tagged-frames p fs f-nil d = refl
+  tagged-frames p fs (f-cons {f = f} {fs = t} e r) d =
+      let says = frame-says (seenOf f) (length f) e in
+      let cut : take (seenOf f .size) (drop p c) ≡ f = rw (says .1, d, take-at f (joined t) (length f) refl) in
+      let rest : drop (p + length f) c ≡ joined t = sym (drop-drop (length f) p c) ∙ ap (drop (length f)) d ∙ drop-at f (joined t) (length f) refl in
+      rw (eq-eqb (seenOf f .answer) 0 (says .0), cut, tagged-frames (p + length f) t r rest)
+
+pub joined-sights : (fs : List (List ℕ)) → AllFrames fs → sights (joined fs) ≡ taggedOf seenOf saysOf 0 fs
+joined-sights fs a = frames-sights seenOf saysOf seen-kept fits 0 fs a
+
+pub joined-frames : (fs : List (List ℕ)) → AllFrames fs → acceptedIn (joined fs) ≡ fs
+joined-frames fs a = sym (frames-accepted (joined fs)) ∙ ap (framesIn (joined fs)) (joined-sights fs a) ∙ tagged-frames (joined fs) 0 fs a refl
+
+-- SCRUBBED FRAMES are frames, seen as they were, and scrubbing them again changes nothing
+scrubbed-frames : (fs : List (List ℕ)) → AllFrames fs → Each Bytes fs → AllFrames (eachOf scrubbed fs)
+unfolding eachOf
+scrubbed-frames fs f-nil e-nil = f-nil
+scrubbed-frames fs (f-cons {f = f} {fs = t} e r) (e-cons b q) =
+    f-cons (ap saysOf (seen-scrubbed f b) ∙ e ∙ ap frame (sym (length-always f))) (scrubbed-frames t r q)
+
+scrubbed-seen : (fs : List (List ℕ)) → Each Bytes fs → eachOf seenOf (eachOf scrubbed fs) ≡ eachOf seenOf fs
+unfolding eachOf
+scrubbed-seen fs e-nil = refl
+scrubbed-seen fs (e-cons {f = f} {fs = t} b q) = rw (seen-scrubbed f b, scrubbed-seen t q)
+
+scrubbed-again : (fs : List (List ℕ)) → Each Bytes fs → eachOf scrubbed (eachOf scrubbed fs) ≡ eachOf scrubbed fs
+unfolding eachOf
+scrubbed-again fs e-nil = refl
+scrubbed-again fs (e-cons {f = f} {fs = t} b q) = rw (again-always f b, scrubbed-again t q)
+
+-- THE CLEANED CAPTURE
+module _ (s : List ℕ) (b : Bytes s) where
+  pub scrubs-to-frames : AllFrames (eachOf scrubbed (acceptedIn s))
+  scrubs-to-frames = scrubbed-frames (acceptedIn s) (all-frames s) (all-bytes s b)
+
+  -- its accepted frames are those of the capture, each scrubbed
+  pub clean-frames : acceptedIn (cleanOf s) ≡ eachOf scrubbed (acceptedIn s)
+  clean-frames = ap acceptedIn (clean-is s) ∙ joined-frames (eachOf scrubbed (acceptedIn s)) scrubs-to-frames
+
+  -- and it is nothing else: no stray byte is left
+  pub clean-whole : joined (acceptedIn (cleanOf s)) ≡ cleanOf s
+  clean-whole = ap joined clean-frames ∙ sym (clean-is s)
+
+  -- the walk over it reads those frames one by one, and nothing more
+  pub clean-sights : sights (cleanOf s) ≡ taggedOf seenOf saysOf 0 (eachOf scrubbed (acceptedIn s))
+  clean-sights = ap sights (clean-is s) ∙ joined-sights (eachOf scrubbed (acceptedIn s)) scrubs-to-frames
+
+  -- its readings are the capture's, refusals left out
+  pub clean-reads : readsOf seenOf saysOf (sights (cleanOf s)) ≡ readsOf seenOf saysOf (sights s)
+  clean-reads =
+      reads-accepted seenOf saysOf seen-own (within zero) 0 (cleanOf s)
+      ∙ ap (eachOf seenOf) clean-frames
+      ∙ scrubbed-seen (acceptedIn s) (all-bytes s b)
+      ∙ sym (reads-accepted seenOf saysOf seen-own (within zero) 0 s)
+
+  -- CLEANING IT AGAIN CHANGES NOTHING
+  pub clean-again : cleanOf (cleanOf s) ≡ cleanOf s
+  clean-again =
+      clean-is (cleanOf s)
+      ∙ ap (λ (fs : List (List ℕ)). joined (eachOf scrubbed fs)) clean-frames
+      ∙ ap joined (scrubbed-again (acceptedIn s) (all-bytes s b))
+      ∙ sym (clean-is s)
+
+-- A CAPTURE OF FRAMES END TO END keeps all of them, and its length
+pub clean-joined : (fs : List (List ℕ)) → AllFrames fs → cleanOf (joined fs) ≡ joined (eachOf scrubbed fs)
+clean-joined fs a = clean-is (joined fs) ∙ ap (λ (gs : List (List ℕ)). joined (eachOf scrubbed gs)) (joined-frames fs a)
+
+pub clean-length : (fs : List (List ℕ)) → AllFrames fs → length (cleanOf (joined fs)) ≡ length (joined fs)
+clean-length fs a = ap length (clean-joined fs a) ∙ scrubbed-length fs
+
+-- NO PRIVATE BYTE STAYS: each private byte of each frame of the cleaned capture is a space
+abbrev pub Painted : List ℕ → Type 0
+Painted f = (i : ℕ) → i < bodyLength f → Inside (spansOf f) i → getD f (24 + i) 0 ≡ 0x20
+
+painted : (fs : List (List ℕ)) → AllFrames fs → Each Bytes fs → Each Painted (eachOf scrubbed fs)
+unfolding eachOf
+painted fs f-nil e-nil = e-nil
+painted fs (f-cons {f = f} {fs = t} e r) (e-cons b q) =
+    let z : readOf (scrubbed f) .number ≡ 0 = sym (seen-answer (scrubbed f)) ∙ frame-says (seenOf (scrubbed f)) (length f) (ap saysOf (seen-scrubbed f b) ∙ e) .0 in
+    e-cons (λ i l h. ap (λ (x : List ℕ). getD x (24 + i) 0) (sym (again-always f b)) ∙ scrub-fills (scrubbed f) z i l h) (painted t r q)
+
+pub no-private : (s : List ℕ) → Bytes s → Each Painted (acceptedIn (cleanOf s))
+no-private s b = rw (clean-frames s b) (painted (acceptedIn s) (all-frames s) (all-bytes s b))
