@@ -1,3 +1,2 @@
-pub mod Back
-pub mod Cuttings
+pub mod Promised
 pub mod OneAnswer

@@ -5,10 +5,10 @@ use mathlib.Core.List.{[]}
 use denote.Ref.{now}
 use Rattle.terms.specs.OneAnswer.{OneAnswer}
 use Rattle.terms.specs.OneBuffer.{OneBuffer, RefusedKeeps}
-use Rattle.stream.specs.Calls.{Feed, Close}
+use Rattle.flow.specs.Calls.{Feed, Close}
 use Rattle.words.specs.Told.{both, Refuses}
-use Rattle.follow.specs.Lent.{Lent, lent, asOne}
-use Rattle.follow.specs.Calls.{refused-keeps}
+use Rattle.lent.specs.Lent.{Lent, lent, asOne}
+use Rattle.lent.specs.Calls.{refused-keeps}
 use Rattle.follow.proofs.rk_stream_open.Reads as rk-stream-open
 use Rattle.follow.proofs.rk_stream_open.Kinds as rk-stream-open-kinds
 use Rattle.follow.proofs.rk_stream_feed.Reads as rk-stream-feed

@@ -2,15 +2,15 @@
 // the nine words of its ledger, and the bytes that wait. Each call answers a number, 0 where all is well. A refusal writes nothing.
 ghost use mathlib.Core.Path.{_≡_};
 ghost use lib.ListN.{length};
-ghost use Rattle.stream.specs.State.{opened};
-ghost use Rattle.stream.specs.Calls.{Feed, Close, answerNumber, leaves, fedPaper};
+ghost use Rattle.flow.specs.State.{opened};
+ghost use Rattle.flow.specs.Calls.{Feed, Close, answerNumber, leaves, fedPaper};
 ghost use Rattle.words.specs.Told.{Tells};
-ghost use Rattle.follow.specs.Lent.{waitingIn, wordOf, lent, lentOf, streamIn};
-ghost use Rattle.follow.specs.Calls.{toldWith, keptBeside, callTold, lentAfter};
-use stream::Fed;
-use stream::Stream;
-use stream::StreamAnswer;
-use stream::Tally;
+ghost use Rattle.lent.specs.Lent.{waitingIn, wordOf, lent, lentOf, streamIn};
+ghost use Rattle.lent.specs.Calls.{toldWith, keptBeside, callTold, lentAfter};
+use flow::Fed;
+use flow::Stream;
+use flow::StreamAnswer;
+use flow::Tally;
 
 // THE STREAM, AS SIX NUMBERS: the place of the first byte that waits, or of the next to come; 1 where the search is under way; 1 where the
 // stream is closed; how many bytes wait; how many frames and refused readings there were.
@@ -141,7 +141,7 @@ pub extern "C" fn rk_stream_feed(
         × ((lent (now (state .exit)) (now (ledger .exit)) (now (kept .exit)) ≡ lentAfter (lent (now (state .entry)) (now (ledger .entry)) (now (kept .entry))) (Feed (now (cut .entry))) (length (now (records .entry))))
         × (now (records .exit) ≡ leaves (streamIn (lent (now (state .entry)) (now (ledger .entry)) (now (kept .entry)))) (Feed (now (cut .entry))) (now (records .entry)))) ⌝ }
 {
-    let fed = stream_in(state, ledger, kept).feed(cut, records);
+    let fed = stream::feed(stream_in(state, ledger, kept), cut, records);
     settle(state, ledger, kept, told, fed)
 }
 
@@ -158,6 +158,6 @@ pub extern "C" fn rk_stream_close(
         × ((lent (now (state .exit)) (now (ledger .exit)) (now (kept .exit)) ≡ lentAfter (lent (now (state .entry)) (now (ledger .entry)) (now (kept .entry))) Close (length (now (records .entry))))
         × (now (records .exit) ≡ leaves (streamIn (lent (now (state .entry)) (now (ledger .entry)) (now (kept .entry)))) Close (now (records .entry)))) ⌝ }
 {
-    let fed = stream_in(state, ledger, kept).close(records);
+    let fed = stream::close(stream_in(state, ledger, kept), records);
     settle(state, ledger, kept, told, fed)
 }

@@ -16,27 +16,22 @@ use Rattle.octets.specs.Overlays.{take-front}
 use Rattle.record.specs.Record.{recordOf}
 use Rattle.record.specs.RecordLaws.{length-record}
 use Rattle.steps.specs.Frames.{joined, eachOf, each-joined, each-long}
-use Rattle.walk.specs.Walk.{walkOf, tableOf}
-use Rattle.stream.specs.declared.Stream.{Stream}
-use Rattle.stream.specs.declared.Fed.{Fed}
-use Rattle.stream.specs.State.{StreamRules}
-use Rattle.stream.specs.Calls.{Call, Feed, Close, cutOf, closes, share, numberTo, answerFor, leavesFor, answerNumber}
-use Rattle.stream.specs.CallLaws.{Promised}
-use Rattle.stream.specs.Trace.{Calls, none, _▸_, after, given, taken, ended, Row, opening, one-more, heard}
-use Rattle.stream.specs.Words.{decided, answered, Closed}
-use Rattle.stream.proofs.Rules.{rules-facts}
-use Rattle.stream.proofs.Cuttings.{every-cutting, closing-call, ran-is}
-use Rattle.stream.proofs.Stream.opened.Reads as opened
-use Rattle.stream.proofs.Stream.opened.Kinds as opened-kinds
-use Rattle.stream.proofs.Stream.feed.Reads as feed
-use Rattle.stream.proofs.Stream.feed.Kinds as feed-kinds
-use Rattle.stream.proofs.Stream.close.Reads as close
-use Rattle.stream.proofs.Stream.close.Kinds as close-kinds
+use Rattle.trail.specs.Walk.{walkOf, tableOf}
+use Rattle.flow.specs.declared.Stream.{Stream}
+use Rattle.flow.specs.declared.Fed.{Fed}
+use Rattle.flow.specs.State.{StreamRules}
+use Rattle.flow.specs.Calls.{Call, Feed, Close, cutOf, closes, share, numberTo, answerFor, leavesFor, answerNumber}
+use Rattle.flow.specs.CallLaws.{Promised}
+use Rattle.flow.specs.Trace.{Calls, _▸_, after, given, taken, ended, Row, opening, one-more, heard}
+use Rattle.flow.specs.Words.{decided, answered, Closed}
+use Rattle.flow.proofs.Rules.{rules-facts}
+use Rattle.flow.proofs.Cuttings.{every-cutting, closing-call, ran-is}
+use Rattle.stream.proofs.feed.Reads as feed
+use Rattle.stream.proofs.feed.Kinds as feed-kinds
+use Rattle.stream.proofs.close.Reads as close
+use Rattle.stream.proofs.close.Kinds as close-kinds
 
--- ---- the code's calls make a row: it begins with `opened`, and goes on with `feed` and `close`
-
-pub opened-is-opening : (κs : Lfts 0) (a : Dens κs opened-kinds.ps) (x : resT opened-kinds.r κs .Denot) (s : AtExit (endedOf 0 opened-kinds.ps opened-kinds.r) κs) → opened.Post κs a x s → Row none x
-opened-is-opening κs a x s p = opening p
+-- ---- the code's calls make a row: it begins with `Stream::opened` (`opened-is-opening` of flow), and goes on with `feed` and `close`
 
 pub feed-goes-on : {calls : Calls} (κs : Lfts 2) (a : Dens κs feed-kinds.ps) (x : resT feed-kinds.r κs .Denot) (s : AtExit (endedOf 2 feed-kinds.ps feed-kinds.r) κs) → Row calls (a .0) → feed.Post κs a x s
     → Row (calls ▸ record { call = Feed (now (a .1 .0)); room = length (now (a .1 .1 .0)) }) (x .stream)

@@ -1,14 +1,3 @@
-pub mod Tally
-pub mod State
-pub mod Run
-pub mod Calls
-pub mod RunLaws
 pub mod Pieces
-pub mod Window
+pub mod Pushed
 pub mod PieceLaws
-pub mod StateLaws
-pub mod CallLaws
-pub mod Trace
-pub mod Words
-pub mod Answers
-pub mod Given

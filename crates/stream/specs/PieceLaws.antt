@@ -1,81 +1,28 @@
 -- A cut of any size, piece by piece: two pushes are one push of both pieces.
-use Prim.Native.Nat.{ℕ, zero, suc, _+_, _-_, _≤_}
+use Prim.Native.Nat.{ℕ, _+_, _-_, _≤_}
 use mathlib.Core.Path.{_≡_, refl, sym, ap, _∙_}
-use mathlib.Core.Bool.{Bool, true, false}
+use mathlib.Core.Bool.{Bool, false}
 use mathlib.Core.List.{List, [], _∷_, _++_, append-nil}
 use native.Mathlib.Omega.{arith}
 use native.Mathlib.Nat.{add-assoc}
 use lib.ListN.{length, take, drop, length-append, length-drop, take-append-drop, drop-of-length-le}
-use lib.Seq.{take-suc, take-append-seam, drop-drop, length-take-le}
+use lib.Seq.{drop-drop, length-take-le}
 use Rattle.record.specs.declared.Record.{Record}
-use Rattle.steps.specs.Walk.{Sight, Mode}
-use Rattle.steps.specs.WaitLaws.{modeOf}
-use Rattle.steps.specs.Kept.{Between, b-reads, b-seeks, Ends, e-within, e-seeking, rested, seen-few}
-use Rattle.steps.specs.Account.{accountOf, account-length}
-use Rattle.steps.specs.Cuts as Cuts
-use Rattle.walk.specs.declared.Seen.{Seen}
-use Rattle.walk.specs.Seen.{seenOf, saysOf}
-use Rattle.walk.specs.SeenLaws.{seen-kept, seen-fits}
-use Rattle.walk.specs.Tables.{notedAt, writtenFrom}
-use Rattle.stream.specs.declared.Stream.{Stream}
-use Rattle.stream.specs.declared.Tally.{Tally}
+use Rattle.trail.specs.Tables.{notedAt, writtenFrom}
+use Rattle.flow.specs.declared.Stream.{Stream}
+use Rattle.flow.specs.Calls.{givenOf, behindOf}
+use Rattle.flow.specs.CutLaws as Cut
+use Rattle.flow.specs.CutLaws.{given-both, behind-both}
 use Rattle.stream.specs.declared.Pushed.{Pushed}
-use Rattle.stream.specs.Tally.{recordAt, tallyAfter}
-use Rattle.stream.specs.State.{headOf, isSeeking, meantBy, valueOf}
-use Rattle.stream.specs.Run.{saysIn}
-use Rattle.stream.specs.RunLaws.{tallied}
-use Rattle.stream.specs.Calls.{feedOf, givenOf, pushedOf}
-use Rattle.stream.specs.Window.{length-head, enough-in}
-
--- A VALUE STANDS FOR WHAT IT WAS MADE OF
-
-pub head-take : (n : ℕ) (l : List ℕ) → n ≤ length l → headOf n l ≡ take n l
-unfolding headOf
-head-take zero l h = refl
-head-take (suc n) l h = rw (head-take n l (omega arith), take-suc l n 0 h)
-
-pub head-front : (l z : List ℕ) → headOf (length l) (l ++ z) ≡ l
-head-front l z = head-take (length l) (l ++ z) (rw length-append (omega arith)) ∙ take-append-seam l z
-
-mode-back : (m : Mode) → Between m → modeOf (isSeeking m) ≡ m
-unfolding isSeeking
-mode-back m b-reads = refl
-mode-back m b-seeks = refl
-
-pub meant-value : (closed : Bool) (y : Cuts.Stream Tally) → Between (y .mode) → meantBy (valueOf closed y) ≡ y
-unfolding meantBy valueOf
-meant-value closed y h = rw (mode-back (y .mode) h, head-front (y .kept) _)
-
-ends-mode : (b : Bool) (n : ℕ) → Ends n (modeOf b)
-ends-mode true n = e-seeking
-ends-mode false n = let h : 0 ≤ n = omega arith in e-within h
-
-fed-between : (x : Stream) (c : List ℕ) → Between (feedOf false (meantBy x) c .stream .mode)
-unfolding meantBy Cuts.feedOf
-fed-between x c = rested seenOf saysOf (λ s n e. seen-fits s n e .1) (modeOf (x .seeking)) (x .place) (headOf (x .len) (x .kept) ++ c) (ends-mode (x .seeking) _)
-
-pub meant-fed : (x : Stream) (c : List ℕ) → meantBy (valueOf false (feedOf false (meantBy x) c .stream)) ≡ feedOf false (meantBy x) c .stream
-meant-fed x c = meant-value false (feedOf false (meantBy x) c .stream) (fed-between x c)
+use Rattle.stream.specs.Pushed.{pushedOf}
 
 -- TWO PUSHES ARE ONE
-
-two-feeds : (x : Stream) (k : ℕ) (a b : List ℕ)
-    → feedOf false (meantBy x) (a ++ b) ≡ record { records = givenOf x false a ++ givenOf (pushedOf x false k a .stream) false b; stream = feedOf false (meantBy (pushedOf x false k a .stream)) b .stream }
-unfolding givenOf pushedOf
-two-feeds x k a b =
-    Cuts.feed-append seenOf saysOf recordAt tallyAfter seen-kept (meantBy x) a b
-    ∙ ap (λ (y : Cuts.Stream Tally). Cuts.before (feedOf false (meantBy x) a .records) (feedOf false y b)) (sym (meant-fed x a))
-
-given-both : (x : Stream) (k : ℕ) (a b : List ℕ) → givenOf x false (a ++ b) ≡ givenOf x false a ++ givenOf (pushedOf x false k a .stream) false b
-unfolding givenOf
-given-both x k a b = ap (λ (y : Cuts.Fed Tally Record). y .records) (two-feeds x k a b)
 
 pub push-push : (x : Stream) (k : ℕ) (a b : List ℕ) → pushedOf (pushedOf x false k a .stream) false (pushedOf x false k a .count) b ≡ pushedOf x false k (a ++ b)
 unfolding pushedOf
 push-push x k a b =
-    let s = ap (λ (y : Cuts.Fed Tally Record). y .stream) (two-feeds x k a b) in
-    let c = ap length (given-both x k a b) ∙ length-append (givenOf x false a) (givenOf (pushedOf x false k a .stream) false b) in
-    rw (s, c, add-assoc k (length (givenOf x false a)) (length (givenOf (pushedOf x false k a .stream) false b)))
+    let c = ap length (given-both x a b) ∙ length-append (givenOf x false a) (givenOf (behindOf x false a) false b) in
+    rw (behind-both x a b, c, add-assoc k (length (givenOf x false a)) (length (givenOf (behindOf x false a) false b)))
 
 written-append : (k : ℕ) (a b : List Record) (d : List ℕ) → writtenFrom k (a ++ b) d ≡ writtenFrom (k + length a) b (writtenFrom k a d)
 unfolding writtenFrom
@@ -84,15 +31,9 @@ written-append k (r ∷ a) b d = let e : k + 1 + length a ≡ k + length (r ∷ 
 
 pub given-given : (x : Stream) (k : ℕ) (a b d : List ℕ) → writtenFrom (pushedOf x false k a .count) (givenOf (pushedOf x false k a .stream) false b) (writtenFrom k (givenOf x false a) d) ≡ writtenFrom k (givenOf x false (a ++ b)) d
 unfolding pushedOf
-given-given x k a b d = sym (rw (given-both x k a b) (written-append k (givenOf x false a) (givenOf (pushedOf x false k a .stream) false b) d))
+given-given x k a b d = sym (rw (given-both x a b) (written-append k (givenOf x false a) (givenOf (behindOf x false a) false b) d))
 
 -- HOW FAR A PUSH GETS
-
--- each reading is counted once
-pub counted-all : (t : Tally) (xs : List (Sight Seen)) → accountOf recordAt tallyAfter t xs .ledger .frames + accountOf recordAt tallyAfter t xs .ledger .refused ≡ t .frames + t .refused + length xs
-unfolding accountOf
-counted-all t [] = omega arith
-counted-all t (x ∷ xs) = counted-all (tallyAfter t x) xs ∙ omega (arith, tallied t (tallyAfter t x) x refl)
 
 pub record Bounds (x : Stream) (closing : Bool) (k : ℕ) (a : List ℕ) : Type 0 where
   pub few : pushedOf x closing k a .stream .len ≤ 8191
@@ -101,18 +42,10 @@ pub record Bounds (x : Stream) (closing : Bool) (k : ℕ) (a : List ℕ) : Type 
   pub counts : x .tally .frames + x .tally .refused ≤ x .place → pushedOf x closing k a .stream .tally .frames + pushedOf x closing k a .stream .tally .refused ≤ pushedOf x closing k a .stream .place
 
 pub bounds : (x : Stream) (closing : Bool) (k : ℕ) (a : List ℕ) → Bounds x closing k a
-unfolding pushedOf valueOf givenOf meantBy Cuts.feedOf
+unfolding pushedOf
 bounds x closing k a =
-    let f = Cuts.feed-keeps seenOf (saysIn closing) recordAt tallyAfter (enough-in closing) (meantBy x) a in
-    let l = length-head (x .len) (x .kept) in
-    let n = seen-few seenOf (saysIn closing) (modeOf (x .seeking)) (x .place) (headOf (x .len) (x .kept) ++ a) in
-    let m = length-append (headOf (x .len) (x .kept)) a in
-    record {
-      few = f .0;
-      place = rw l at (f .1);
-      count = rw account-length (omega (arith, n, m, l));
-      counts = λ h. rw counted-all (omega (arith, n, m, l, rw l at (f .1)));
-    }
+    let b = Cut.bounds x closing a in
+    record { few = b .few; place = b .place; count = omega (arith, b .count); counts = b .counts }
 
 pub bounds-of : (d : Pushed) (x : Stream) (k : ℕ) (a : List ℕ) → d ≡ pushedOf x false k a → (d .stream .place + d .stream .len ≡ x .place + (x .len + length a)) × (d .count + d .stream .len ≤ k + (x .len + length a))
 bounds-of d x k a e = rw e (bounds x false k a .place, bounds x false k a .count)

@@ -5,55 +5,20 @@ ghost use Prim.Native.Nat.{_+_, _-_, _*_, _/_, _≤_, _<_, _^_};
 ghost use lib.Dec.{leb};
 ghost use lib.ListN.{length, drop};
 ghost use Rattle.octets.specs.Octets.{laid};
-ghost use Rattle.walk.specs.Tables.{writtenFrom};
-ghost use Rattle.stream.specs.Tally.{tallyWith, tallyRight, ledgerRight};
-ghost use Rattle.stream.specs.State.{lastPlace, headOf, allZero, soundOf, opened};
-ghost use Rattle.stream.specs.Run.{waitsAt, passedOver, strideOf, accountedOf, RanIs};
-ghost use Rattle.stream.specs.Calls.{Feed, Close, pushedOf, givenOf, answerFor, nextFor, leavesFor, answerTo, nextOf, leaves, fedPaper, refusedBy};
+ghost use Rattle.trail.specs.Tables.{writtenFrom};
+ghost use Rattle.flow.specs.Tally.{tallyWith, tallyRight, ledgerRight};
+ghost use Rattle.flow.specs.State.{lastPlace, headOf, allZero, soundOf};
+ghost use Rattle.flow.specs.Run.{waitsAt, passedOver, strideOf, accountedOf, RanIs};
+ghost use Rattle.flow.specs.Calls.{Feed, Close, givenOf, answerFor, nextFor, leavesFor, answerTo, nextOf, leaves, fedPaper, refusedBy};
 ghost use Rattle.stream.specs.Pieces.{Piece};
+ghost use Rattle.stream.specs.Pushed.{pushedOf};
+use flow::Fed;
+use flow::Stream;
+use flow::StreamAnswer;
+use flow::Tally;
 use ledger::Answer;
 use ledger::Ledger;
-use terms::ChannelNumber;
-use walk::Seen;
-
-// How many frames and refused readings there were so far, and the ledger after them.
-pub struct Tally {
-    pub frames: u64,
-    pub refused: u64,
-    pub ledger: Ledger,
-}
-
-// What stands between two calls. The fields are open, so that a host can keep it and hand it in again; a broken one is refused by 13.
-pub struct Stream {
-    // Of the first kept byte; of the next byte to come, where none is kept.
-    pub place: u64,
-    // The search is under way: a place that does not read is passed over.
-    pub seeking: bool,
-    pub closed: bool,
-    // The first len bytes of kept wait for more; those behind them are 0.
-    pub len: usize,
-    pub kept: [u8; 8191],
-    pub tally: Tally,
-}
-
-pub enum StreamAnswer {
-    Done,
-    // 13: the state is broken.
-    State,
-    // 19: the stream is closed.
-    Closed,
-    // 29: places would pass 64 bits.
-    Places,
-    // 8: the records of this call do not fit.
-    Room,
-}
-
-// How many records this call gave, 0 beside a refusal; and the stream after it, the very one that was passed in beside a refusal.
-pub struct Fed {
-    pub answer: StreamAnswer,
-    pub records: usize,
-    pub stream: Stream,
-}
+use seen::Seen;
 
 // How far a run over a window of bytes got: the place in it where it stopped, and what it had made by then.
 struct Ran {
@@ -119,14 +84,14 @@ fn run(
     out: &mut [u8],
 ) -> Ran
     requires { ⌜ (base + length (now w) < 2 ^ 64) × ((k + length (now w) < 2 ^ 64) × (start .frames + start .refused ≤ base)) ⌝ }
-    ensures { λ r. ⌜ (RanIs (now (w .entry)) base seek closing start k r) × (now (out .exit) ≡ writtenFrom k (accountedOf base seek closing start (now (w .entry)) .records) (now (out .entry))) ⌝ }
+    ensures { λ r. ⌜ (RanIs (now (w .entry)) base seek closing start k (r .at) (r .seeking) (r .count) (r .tally)) × (now (out .exit) ≡ writtenFrom k (accountedOf base seek closing start (now (w .entry)) .records) (now (out .entry))) ⌝ }
 {
     let mut p: usize = 0;
     let mut seeking = seek;
     let mut count = k;
     let mut tally = start;
     while p < w.len() {
-        let seen = walk::see(w, p);
+        let seen = seen::see(w, p);
         let answer = seen.answer;
         if waits(closing, answer) {
             break;
@@ -136,8 +101,8 @@ fn run(
             continue;
         }
         let ledger = tally.ledger;
-        let after = walk::offer(ledger, seen);
-        walk::note(out, count, walk::made(base + p as u64, seen, after));
+        let after = offers::offer(ledger, seen);
+        table::note(out, count, table::made(base + p as u64, seen, after));
         p += stride(seen);
         seeking = answer != 0;
         count += 1;
@@ -309,7 +274,7 @@ fn sound(st: Stream) -> bool
     if st.closed {
         return false;
     }
-    let seen = walk::see(&held[..n], 0);
+    let seen = seen::see(&held[..n], 0);
     seen.answer == 1
 }
 
@@ -373,45 +338,21 @@ fn call(st: Stream, cut: &[u8], closing: bool, records: &mut [u8]) -> Fed
     }
 }
 
-impl Stream {
-    // Before the first call: no byte came, and the ledger of channel 100 is just opened.
-    pub fn opened() -> Stream
-        ensures { λ r. ⌜ r ≡ opened ⌝ }
-    {
-        let noted = Ledger::opened(ChannelNumber::new(100));
-        let ledger = noted.next;
-        let tally = Tally {
-            frames: 0,
-            refused: 0,
-            ledger,
-        };
-        let kept: [u8; 8191] = [0; 8191];
-        Stream {
-            place: 0,
-            seeking: false,
-            closed: false,
-            len: 0,
-            kept,
-            tally,
-        }
-    }
+// One more cut, perhaps of no bytes: the records that it decides. 13, 19, 29, 8.
+pub fn feed(st: Stream, cut: &[u8], records: &mut [u8]) -> Fed
+    ensures { λ r. ⌜ (fedPaper r ≡ answerTo st (Feed (now (cut .entry))) (length (now (records .entry))))
+        × ((r .stream ≡ nextOf st (Feed (now (cut .entry))) (length (now (records .entry))))
+        × (now (records .exit) ≡ leaves st (Feed (now (cut .entry))) (now (records .entry)))) ⌝ }
+{
+    call(st, cut, false, records)
+}
 
-    // One more cut, perhaps of no bytes: the records that it decides. 13, 19, 29, 8.
-    pub fn feed(self, cut: &[u8], records: &mut [u8]) -> Fed
-        ensures { λ r. ⌜ (fedPaper r ≡ answerTo self (Feed (now (cut .entry))) (length (now (records .entry))))
-            × ((r .stream ≡ nextOf self (Feed (now (cut .entry))) (length (now (records .entry))))
-            × (now (records .exit) ≡ leaves self (Feed (now (cut .entry))) (now (records .entry)))) ⌝ }
-    {
-        call(self, cut, false, records)
-    }
-
-    // No more bytes come: what remains is walked as the end of a closed capture is. 13, 19, 8.
-    pub fn close(self, records: &mut [u8]) -> Fed
-        ensures { λ r. ⌜ (fedPaper r ≡ answerTo self Close (length (now (records .entry))))
-            × ((r .stream ≡ nextOf self Close (length (now (records .entry))))
-            × (now (records .exit) ≡ leaves self Close (now (records .entry)))) ⌝ }
-    {
-        let none: [u8; 1] = [0; 1];
-        call(self, &none[..0], true, records)
-    }
+// No more bytes come: what remains is walked as the end of a closed capture is. 13, 19, 8.
+pub fn close(st: Stream, records: &mut [u8]) -> Fed
+    ensures { λ r. ⌜ (fedPaper r ≡ answerTo st Close (length (now (records .entry))))
+        × ((r .stream ≡ nextOf st Close (length (now (records .entry))))
+        × (now (records .exit) ≡ leaves st Close (now (records .entry)))) ⌝ }
+{
+    let none: [u8; 1] = [0; 1];
+    call(st, &none[..0], true, records)
 }

@@ -1,5 +1,5 @@
 -- `keep`: each part of the stream is its word, or its bytes. Assumes nothing.
-use Rattle.follow.specs.Lent.{stateOf}
+use Rattle.lent.specs.Lent.{stateOf}
 use borrow.Author.Needs.{needs}
 use Rattle.follow.proofs.keep.Statement.{statement}
 use Rattle.follow.proofs.keep.Tie as tie

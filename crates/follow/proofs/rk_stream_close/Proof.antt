@@ -1,6 +1,6 @@
 -- `rk_stream_close`: the stream's closing call, told and kept. Assumes nothing.
-use Rattle.stream.specs.Calls.{Close}
-use Rattle.follow.specs.Calls.{settled}
+use Rattle.flow.specs.Calls.{Close}
+use Rattle.lent.specs.Calls.{settled}
 use borrow.Author.Needs.{needs}
 use Rattle.follow.proofs.rk_stream_close.Statement.{statement}
 use Rattle.follow.proofs.rk_stream_close.Tie as tie

@@ -1,6 +1,6 @@
 -- `rk_stream_feed`: the stream's call with a cut, told and kept. Assumes nothing.
-use Rattle.stream.specs.Calls.{Feed}
-use Rattle.follow.specs.Calls.{settled}
+use Rattle.flow.specs.Calls.{Feed}
+use Rattle.lent.specs.Calls.{settled}
 use borrow.Author.Needs.{needs}
 use Rattle.follow.proofs.rk_stream_feed.Statement.{statement}
 use Rattle.follow.proofs.rk_stream_feed.Tie as tie

@@ -1,6 +1,6 @@
 -- `rk_stream_open`: the stream that the crate `stream` opens is kept. Assumes nothing.
 use mathlib.Core.Path.{refl, ap, _∙_}
-use Rattle.follow.specs.Lent.{lentOf}
+use Rattle.lent.specs.Lent.{lentOf}
 use borrow.Author.Needs.{needs}
 use Rattle.follow.proofs.rk_stream_open.Statement.{statement}
 use Rattle.follow.proofs.rk_stream_open.Tie as tie

@@ -2,7 +2,7 @@
 use mathlib.Core.Path.{refl}
 use borrow.Author.Tests.{ne-eqb}
 use Rattle.words.specs.Told.{tells-then, tells-else}
-use Rattle.follow.specs.Calls.{keptBeside}
+use Rattle.lent.specs.Calls.{keptBeside}
 use borrow.Author.Needs.{needs}
 use Rattle.follow.proofs.settle.Statement.{statement}
 use Rattle.follow.proofs.settle.Tie as tie

@@ -1,5 +1,5 @@
 -- `stream_in`: each word is its part of the stream. Assumes nothing.
-use Rattle.follow.specs.Lent.{streamIn}
+use Rattle.lent.specs.Lent.{streamIn}
 use borrow.Author.Needs.{needs}
 use Rattle.follow.proofs.stream_in.Statement.{statement}
 use Rattle.follow.proofs.stream_in.Tie as tie

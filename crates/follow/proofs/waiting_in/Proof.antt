@@ -1,5 +1,5 @@
 -- `waiting_in`: a flag above 1 stands for 8,192 bytes. Assumes nothing.
-use Rattle.follow.specs.Lent.{waitingIn}
+use Rattle.lent.specs.Lent.{waitingIn}
 use Rattle.follow.proofs.waiting_in.Statement.{statement}
 use Rattle.follow.proofs.waiting_in.Tie as tie
 

@@ -4,8 +4,9 @@ use Prim.Native.Nat.{ℕ, _+_, _-_, _≤_}
 use mathlib.Core.Path.{_≡_, refl, sym, ap, _∙_}
 use mathlib.Core.List.{List, _++_}
 use lib.ListN.{length, take, drop}
-use Rattle.stream.specs.State.{headOf}
-use Rattle.stream.specs.Window.{dropped, joined-length, laid-in, window-is, take-drop, padded, kept-few, push-is, given-is}
+use Rattle.flow.specs.State.{headOf}
+use Rattle.flow.specs.Window.{dropped, joined-length, laid-in, window-is, take-drop, padded, kept-few, given-written}
+use Rattle.stream.specs.Pushed.{push-is}
 use borrow.Author.Needs.{needs}
 use Rattle.stream.proofs.push.Statement.{statement}
 use Rattle.stream.proofs.push.Tie as tie
@@ -86,9 +87,9 @@ returns c =
     let w = window (c .before .before .before .before .before .before .before .before .before .before .before .before .before) in
     let z = c .before .before .before .before .before .before .before .before .before .run .ensures .0 in
     let m = rest (c .before .before .before .before .before .before .before .before .before) in
-    let f = padded _ _ _ 8191 (laid-in 0 _ _ _ (omega (arith, ap length m, kept-few _ _ _ _ _ _ _ z)) (c .before .before .before .lay2 .ensures .1)) refl in (
+    let f = padded _ _ _ 8191 (laid-in 0 _ _ _ (omega (arith, ap length m, kept-few _ _ _ _ _ _ _ _ _ _ z)) (c .before .before .before .lay2 .ensures .1)) refl in (
       push-is (s .args .st) (s .args .closing) (s .args .piece .now) (whole (c .before .before .before .before .before .before .before .before .before .before .before .before .before)) w _ _ _ _ z (rw m at f) (dropped _ _ _ (size (c .before .before .before .before .before .before .before .before .before .before .before .before .before))),
-      c .before .before .before .before .before .before .before .before .before .run .ensures .1 ∙ rw (given-is (s .args .st) (s .args .closing) (s .args .piece .now) (whole (c .before .before .before .before .before .before .before .before .before .before .before .before .before)) w),
+      given-written (s .args .st) (s .args .closing) (s .args .piece .now) (whole (c .before .before .before .before .before .before .before .before .before .before .before .before .before)) w _ _ _ (c .before .before .before .before .before .before .before .before .before .run .ensures .1),
     )
 
 pub push-spec : {M : Type 1} → statement M

@@ -2,7 +2,8 @@
 use mathlib.Core.Path.{sym, _∙_}
 use native.Mathlib.Omega.{arith}
 use borrow.Author.Needs.{needs}
-use Rattle.stream.specs.CallLaws.{fits-roomy, fits-counted}
+use Rattle.flow.specs.CallLaws.{fits-roomy}
+use Rattle.stream.specs.Pushed.{fits-counted}
 use Rattle.stream.proofs.takes_all.Statement.{statement}
 use Rattle.stream.proofs.takes_all.Tie as tie
 

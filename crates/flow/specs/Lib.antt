@@ -1,0 +1,13 @@
+pub mod Tally
+pub mod State
+pub mod Run
+pub mod Calls
+pub mod RunLaws
+pub mod Window
+pub mod CutLaws
+pub mod StateLaws
+pub mod CallLaws
+pub mod Trace
+pub mod Words
+pub mod Answers
+pub mod Given

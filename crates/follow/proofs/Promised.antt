@@ -1,0 +1,30 @@
+-- A call through the host, from the promises that the checker makes of the `ensures`, opens or goes on a row of calls. Assumes nothing.
+use contract.Lifetimes.{Lfts}
+use borrow.Fn.Kinds.{Dens, endedOf, resT}
+use denote.Ref.{now}
+use denote.Triple.Clauses.{AtExit}
+use Rattle.flow.specs.Calls.{Feed, Close}
+use Rattle.flow.specs.Trace.{none}
+use Rattle.lent.specs.Lent.{lent}
+use Rattle.lent.specs.Calls.{Called}
+use Rattle.lent.specs.Rows.{Followed, opening}
+use Rattle.follow.proofs.rk_stream_open.Reads as opens
+use Rattle.follow.proofs.rk_stream_open.Kinds as opens-kinds
+use Rattle.follow.proofs.rk_stream_feed.Reads as feed
+use Rattle.follow.proofs.rk_stream_feed.Kinds as feed-kinds
+use Rattle.follow.proofs.rk_stream_close.Reads as close
+use Rattle.follow.proofs.rk_stream_close.Kinds as close-kinds
+
+pub open-is-opening : (κs : Lfts 3) (a : Dens κs opens-kinds.ps) (x : resT opens-kinds.r κs .Denot) (s : AtExit (endedOf 3 opens-kinds.ps opens-kinds.r) κs) → opens.Post κs a x s
+    → Followed none (lent (now (s .0)) (now (s .1 .0)) (now (s .1 .1 .0)))
+open-is-opening κs a x s p = opening (p .1)
+
+pub feed-is-call : (κs : Lfts 6) (a : Dens κs feed-kinds.ps) (x : resT feed-kinds.r κs .Denot) (s : AtExit (endedOf 6 feed-kinds.ps feed-kinds.r) κs) → feed.Post κs a x s
+    → Called (lent (now (a .0)) (now (a .1 .0)) (now (a .1 .1 .0))) (Feed (now (a .1 .1 .1 .0))) (now (a .1 .1 .1 .1 .1 .0)) (now (a .1 .1 .1 .1 .0)) x
+    (lent (now (s .0)) (now (s .1 .0)) (now (s .1 .1 .0))) (now (s .1 .1 .1 .1 .1 .0)) (now (s .1 .1 .1 .1 .0))
+feed-is-call κs a x s p = p
+
+pub close-is-call : (κs : Lfts 5) (a : Dens κs close-kinds.ps) (x : resT close-kinds.r κs .Denot) (s : AtExit (endedOf 5 close-kinds.ps close-kinds.r) κs) → close.Post κs a x s
+    → Called (lent (now (a .0)) (now (a .1 .0)) (now (a .1 .1 .0))) Close (now (a .1 .1 .1 .1 .0)) (now (a .1 .1 .1 .0)) x
+    (lent (now (s .0)) (now (s .1 .0)) (now (s .1 .1 .0))) (now (s .1 .1 .1 .1 .0)) (now (s .1 .1 .1 .0))
+close-is-call κs a x s p = p
