@@ -6,7 +6,7 @@ use std::process;
 fn main() {
     let folder = Path::new(env!("CARGO_MANIFEST_DIR")).join("../build");
     println!("cargo:rustc-link-search=native={}", folder.display());
-    for name in ["host", "follow"] {
+    for name in ["host", "host_ledger", "host_captures", "follow"] {
         let archive = folder.join(format!("lib{name}.a"));
         println!("cargo:rerun-if-changed={}", archive.display());
         if !archive.is_file() {

@@ -24,8 +24,7 @@ echo 'fn terms::new: proved' >&2
 echo 'rt: terms proved (1 s)' >&2
 echo 'rt: rules proved (unchanged since it was last proved)' >&2
 [ ! -f broken ] || exit 1
-echo >build/libhost.a
-echo >build/libfollow.a
+for name in host host_ledger host_captures follow; do echo >build/lib$name.a; done
 ";
 
 /// Notes its call, and makes a command that tells its folder and its words.
@@ -49,7 +48,7 @@ fn project() -> Folder {
     put(folder.path("project/tools/archive"), ARCHIVE, 0o755);
     put(
         folder.path("project/crates.txt"),
-        "# all\nterms:\nrules: terms\nother: terms\nhost: rules\nlast: host\nfollow: rules\n",
+        "# all\nterms:\nrules: terms\nother: terms\nhost: rules\nhost_ledger: terms\nhost_captures: rules\nlast: host\nfollow: rules\n",
         0o644,
     );
     let files = [
@@ -104,10 +103,10 @@ fn the_script() {
 fn it_builds_once_and_again_when_something_changed() {
     let folder = project();
     let script = folder.path("project/rietknoest");
-    let first = "rietknoest: first use: 4 crates are proved, a line for each, then the command is built
+    let first = "rietknoest: first use: 6 crates are proved, a line for each, then the command is built
 rietknoest: that takes about five to ten minutes, once; what is proved stays proved if you break it off
 rietknoest: terms proved (1 s)
-rietknoest: host and follow are proved, and their libraries built
+rietknoest: the libraries are proved and built
 rietknoest: built
 ";
     // words, folder and status are the command's
@@ -162,8 +161,13 @@ rietknoest: built
 /// tools/archive was run before, by itself.
 fn libraries_that_are_there_take_no_minutes() {
     let folder = project();
-    put(folder.path("project/build/libhost.a"), "", 0o644);
-    put(folder.path("project/build/libfollow.a"), "", 0o644);
+    for name in ["host", "host_ledger", "host_captures", "follow"] {
+        put(
+            folder.path(&format!("project/build/lib{name}.a")),
+            "",
+            0o644,
+        );
+    }
     let ran = run_script(&folder, &folder.path("project/rietknoest"), &[]);
     let first = "rietknoest: first use: the libraries are there, ";
     assert!(ran.error().starts_with(first) && !ran.error().contains("minutes"));

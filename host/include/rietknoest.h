@@ -1,6 +1,7 @@
 /* The proved library for C11 and C++: frames of the exchange's market data gateway read, written, searched for and scrubbed, the gap
- * ledger of a tick channel, captures walked, listed and cleaned, whole or while they arrive. Link build/libhost.a, and build/libfollow.a for
- * the functions rk_stream_; tools/archive builds both.
+ * ledger of a tick channel, captures walked, listed and cleaned, whole or while they arrive. Link build/libhost.a for frames and entries,
+ * build/libhost_ledger.a for the functions rk_ledger_, build/libhost_captures.a for rk_walk, rk_listing, rk_clean and rk_is_clean,
+ * build/libfollow.a for the functions rk_stream_; tools/archive builds all four.
  *
  * Every function answers a number of the table below, 0 where all is well, and tells the rest through what it is lent. It keeps no
  * pointer, allocates nothing, has no state of its own, and may be called from several threads at once.

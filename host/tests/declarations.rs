@@ -38,6 +38,14 @@ fn run(command: &mut Command, input: &[u8]) -> Vec<u8> {
     output.stdout
 }
 
+/// The crates that are built as archives, and how many functions each has for others.
+const EXPORTS: [(&str, usize); 4] = [
+    ("host", 7),
+    ("host_ledger", 6),
+    ("host_captures", 4),
+    ("follow", 3),
+];
+
 /// Compiles a program against the header and the archives.
 fn compiled(compiler: &str, standard: &str, source: &str) -> PathBuf {
     let name = Path::new(source).file_stem().expect("a name");
@@ -48,8 +56,7 @@ fn compiled(compiler: &str, standard: &str, source: &str) -> PathBuf {
         .arg("-I")
         .arg(root().join("host/include"))
         .arg(root().join(source))
-        .arg(root().join("build/libhost.a"))
-        .arg(root().join("build/libfollow.a"))
+        .args(EXPORTS.map(|(name, _)| root().join(format!("build/lib{name}.a"))))
         .arg("-o")
         .arg(&program);
     run(&mut command, b"");
@@ -215,7 +222,7 @@ fn of_wrapper() -> Functions {
 #[test]
 fn everyone_declares_the_same_functions() {
     let mut exported = Functions::new();
-    for (name, count) in [("host", 17), ("follow", 3)] {
+    for (name, count) in EXPORTS {
         let functions = of_crate(name);
         assert_eq!(functions.len(), count);
         assert!(functions.values().all(|(_, answer)| answer == "u32"));

@@ -1,29 +1,26 @@
--- What a call on frames and captures comes to, from the promises that the checker makes of the `ensures`. Assumes nothing.
-use Prim.Native.Nat.{ℕ, _+_, _*_, _/_, _≤_, _<_}
+-- What a call on frames comes to, from the promises that the checker makes of the `ensures`. Assumes nothing.
+use Prim.Native.Nat.{ℕ, _+_, _≤_}
 use mathlib.Core.Path.{_≡_, refl, sym, ap, ap₂, _∙_}
-use mathlib.Core.Bool.{true, false}
+use mathlib.Core.Bool.{true}
 use mathlib.Core.Logic.{⊎-elim, _↔_}
 use mathlib.Core.List.{List, [], _∷_}
-use native.Mathlib.Nat.{zero-add}
 use native.Mathlib.Omega.{arith}
 use contract.Lifetimes.{Lfts}
-use borrow.Author.Tests.{le-leb, lt-leb, ne-eqb, eqb-true, leb-true}
+use borrow.Author.Tests.{ne-eqb, eqb-true, leb-true}
 use borrow.Fn.Kinds.{Dens, endedOf, resT}
 use denote.Ref.{now}
 use denote.Triple.Clauses.{AtExit}
-use lib.Dec.{leb}
 use lib.ListN.{length, getD, take, drop}
 use Rattle.terms.specs.Paper.{Paper, answer, refusal, one-number}
-use Rattle.terms.specs.Cases.{two, same}
+use Rattle.terms.specs.Cases.{same}
 use Rattle.octets.specs.Octets.{be}
 use Rattle.octets.specs.Numerals.{numeral-drop, numeral-take}
-use Rattle.octets.specs.Papers.{roomFor, laidIfRoom, room-there, room-lacks, laid-there, laid-kept}
 use Rattle.rules.specs.declared.Kind.{Kind}
 use Rattle.rules.specs.declared.Kind.the-variants.{S001, S002, S003, P001, P002, M101, M102, M201, Unknown}
 use Rattle.rules.specs.Rules.{short, long}
 use Rattle.rules.specs.Meaning.{size-one}
 use Rattle.rules.specs.Table.{kindOf, suits}
-use Rattle.wire.specs.Frame.{bodyLength, body, checked, readOf}
+use Rattle.wire.specs.Frame.{bodyLength, body, readOf}
 use Rattle.wire.specs.GivenRead.{read-given}
 use Rattle.wire.specs.GivenWrite.{write-given}
 use Rattle.wire.specs.Lowest.{ReadsAt, LowestPlace, Lowest, l-at, l-none, lowest, search-given-9, search-given-place, search-given-none}
@@ -39,30 +36,13 @@ use Rattle.entries.specs.Given.{Stands}
 use Rattle.entries.specs.Outcomes.{step-done, entry-short, entry-long}
 use Rattle.entries.specs.Places.{stands-says}
 use Rattle.entries.specs.Reader.{stepOf}
-use Rattle.scrub.specs.Laws.{scrub-number, answer-refused}
-use Rattle.scrub.specs.Private.{privateOf, spanAt}
-use Rattle.scrub.specs.Scrub.{scrubAnswer}
-use Rattle.book.specs.Calls.{Missing, ownNumber, numberTo, answerTo}
-use Rattle.book.specs.State.{Book, StateRules}
-use Rattle.book.proofs.Given.{given-13}
-use Rattle.book.proofs.Numbers.{checked-test}
-use Rattle.ledger.specs.State.{bookOf}
-use Rattle.walk.specs.Literal.{Walk, typeIn, literalWalk}
-use Rattle.walk.specs.Promises.{literal-walk}
-use Rattle.walk.specs.Walk as walks
-use Rattle.clean.specs.Checks.{First, Differs, d-none, d-first, differs, check-clean}
-use Rattle.clean.specs.Clean as cleans
-use Rattle.clean.specs.Clean.{cleanOf, differOf, checkOf}
-use Rattle.lines.specs.Listed.{lastAt}
-use Rattle.lines.specs.Listing.{listingOf}
-use Rattle.words.specs.Told.{perhaps, toldBy, Tells}
-use Rattle.words.specs.Words.{bookIn}
-use Rattle.host.specs.Called.{seen}
-use Rattle.host.specs.Captures.{walkWords, listed, listingTold, listingLeaves, cleanTold}
+use Rattle.private.specs.Laws.{scrub-number, answer-refused}
+use Rattle.private.specs.Private.{privateOf, spanAt}
+use Rattle.private.specs.Scrub.{scrubAnswer}
+use Rattle.trail.specs.Literal.{typeIn}
+use Rattle.words.specs.Told.{toldBy, Tells, seen}
 use Rattle.host.specs.Frames.{viewNumbers, readTold, searchTold, privateTold, entriesTold, entryNumbers, entryTold}
-use Rattle.host.specs.Listed.{HostListed}
-use Rattle.host.specs.Means.{bodyNumbers, HostRead, HostWrote, HostFound, HostScrubbed, HostOpened, HostStepped, HostCleaned, HostChecked}
-use Rattle.host.specs.Words.{keptBy, callTold}
+use Rattle.host.specs.Means.{bodyNumbers, HostRead, HostWrote, HostFound, HostScrubbed, HostOpened, HostStepped}
 use Rattle.host.proofs.rk_read.Reads as read
 use Rattle.host.proofs.rk_read.Kinds as read-kinds
 use Rattle.host.proofs.rk_write.Reads as write
@@ -77,14 +57,6 @@ use Rattle.host.proofs.rk_entries.Reads as entries
 use Rattle.host.proofs.rk_entries.Kinds as entries-kinds
 use Rattle.host.proofs.rk_entry.Reads as entry
 use Rattle.host.proofs.rk_entry.Kinds as entry-kinds
-use Rattle.host.proofs.rk_walk.Reads as walk
-use Rattle.host.proofs.rk_walk.Kinds as walk-kinds
-use Rattle.host.proofs.rk_listing.Reads as listing
-use Rattle.host.proofs.rk_listing.Kinds as listing-kinds
-use Rattle.host.proofs.rk_clean.Reads as clean
-use Rattle.host.proofs.rk_clean.Kinds as clean-kinds
-use Rattle.host.proofs.rk_is_clean.Reads as is-clean
-use Rattle.host.proofs.rk_is_clean.Kinds as is-clean-kinds
 
 -- ======== What a told row shows
 
@@ -290,119 +262,3 @@ module _ (b : List ℕ) (place : ℕ) {was row : List ℕ} {x : ℕ} (t : Tells 
 pub rk-entry-steps : (κs : Lfts 2) (a : Dens κs entry-kinds.ps) (x : resT entry-kinds.r κs .Denot) (s : AtExit (endedOf 2 entry-kinds.ps entry-kinds.r) κs) → entry.Post κs a x s
     → HostStepped (now (a .0)) (a .1 .0) x (now (s .1 .1 .0))
 rk-entry-steps κs a x s p = host-stepped (now (a .0)) (a .1 .0) p
-
--- ======== Cleaning
-
-module _ (κs : Lfts 3) (a : Dens κs clean-kinds.ps) (x : resT clean-kinds.r κs .Denot) (s : AtExit (endedOf 3 clean-kinds.ps clean-kinds.r) κs) (p : clean.Post κs a x s) where
-  pub rk-clean-cleans : length (cleanOf (now (a .0))) ≤ length (now (a .1 .0)) → HostCleaned (now (a .0)) (now (a .1 .0)) x (now (s .1 .1 .0)) (now (s .1 .0))
-  unfolding toldBy cleans.cleanAnswer cleans.cleanLeaves cleans.fitsIn
-  rk-clean-cleans h =
-      let f = le-leb (length (cleanOf (now (a .0)))) (length (now (a .1 .0))) h in
-      record { number = p .0 .answered ∙ rw f; told = p .0 .told ∙ rw f; buffer = p .1 ∙ rw f }
-
-  -- without room: 8, and row and buffer as they were
-  pub rk-clean-lacks : length (now (a .1 .0)) < length (cleanOf (now (a .0))) → (x ≡ 8) × ((now (s .1 .1 .0) ≡ now (a .1 .1 .0)) × (now (s .1 .0) ≡ now (a .1 .0)))
-  unfolding toldBy cleans.cleanAnswer cleans.cleanLeaves cleans.fitsIn
-  rk-clean-lacks h =
-      let f = lt-leb (length (cleanOf (now (a .0)))) (length (now (a .1 .0))) h in
-      (p .0 .answered ∙ rw f, (p .0 .told ∙ rw f, p .1 ∙ rw f))
-
-module _ (c : List ℕ) {was row : List ℕ} {x : ℕ} (t : Tells (cleanTold c) was x row) where
-  check-row : row ≡ perhaps (differOf 0 c (cleanOf c))
-  unfolding toldBy cleanTold checkOf
-  check-row = t .told
-
-  clean-shown : (l : List ℕ) → Differs 0 c (cleanOf c) l → row ≡ perhaps l → row ≡ 0 ∷ 0 ∷ [] → cleanOf c ≡ c
-  clean-shown l (d-none e same) f r = sym same
-  clean-shown l (d-first i e first) f r = absurd (omega (arith, ap (λ (k : List ℕ). getD k 0 0) (sym (f ∙ ap perhaps e) ∙ r)))
-
-  changed-shown : (l : List ℕ) → Differs 0 c (cleanOf c) l → row ≡ perhaps l → (cleanOf c ≡ c → ⊥) → (p : ℕ) × ((row ≡ 1 ∷ p ∷ []) × First c (cleanOf c) p)
-  changed-shown l (d-none e same) f n = absurd (n (sym same))
-  changed-shown l (d-first i e first) f n = (i, (f ∙ ap perhaps (e ∙ ap (λ (k : ℕ). k ∷ []) (zero-add i)), first))
-
-  host-checked : HostChecked c x row
-  unfolding toldBy cleanTold checkOf
-  host-checked =
-      record {
-        number = t .answered;
-        clean = (
-          clean-shown _ (differs 0 c (cleanOf c)) check-row,
-          λ (e : cleanOf c ≡ c). check-row ∙ ap (λ (q : Paper). perhaps (q .values)) (check-clean c .1 e),
-        );
-        changed = changed-shown _ (differs 0 c (cleanOf c)) check-row;
-      }
-
-pub rk-is-clean-checks : (κs : Lfts 2) (a : Dens κs is-clean-kinds.ps) (x : resT is-clean-kinds.r κs .Denot) (s : AtExit (endedOf 2 is-clean-kinds.ps is-clean-kinds.r) κs) → is-clean.Post κs a x s
-    → HostChecked (now (a .0)) x (now (s .1 .0))
-rk-is-clean-checks κs a x s p = host-checked (now (a .0)) p
-
--- ======== The walk without room, and the listing of any records
-
--- 8, and nothing is written anywhere
-pub rk-walk-lacks : (κs : Lfts 4) (a : Dens κs walk-kinds.ps) (x : resT walk-kinds.r κs .Denot) (s : AtExit (endedOf 4 walk-kinds.ps walk-kinds.r) κs) → walk.Post κs a x s
-    → length (now (a .1 .0)) < 64 * length (literalWalk (now (a .0)) .records)
-    → (x ≡ 8) × ((now (s .1 .0) ≡ now (a .1 .0)) × ((now (s .1 .1 .0) ≡ now (a .1 .1 .0)) × (now (s .1 .1 .1 .0) ≡ now (a .1 .1 .1 .0))))
-unfolding toldBy walks.walkAnswer walks.walkLeaves walks.fitsIn walkWords keptBy
-rk-walk-lacks κs a x s p h =
-    let e : length (literalWalk (now (a .0)) .records) ≡ length (walks.walkOf (now (a .0)) .records) = ap (λ (w : Walk). length (w .records)) (literal-walk (now (a .0))) in
-    let f : leb (length (walks.walkOf (now (a .0)) .records)) (length (now (a .1 .0)) / 64) ≡ false = lt-leb (length (walks.walkOf (now (a .0)) .records)) (length (now (a .1 .0)) / 64) (omega (arith, e, h)) in
-    (p .0 .answered ∙ rw f, (p .1 .1 ∙ rw f, (p .1 .0 ∙ rw f, p .0 .told ∙ rw f)))
-
-module _ (κs : Lfts 4) (a : Dens κs listing-kinds.ps) (y : resT listing-kinds.r κs .Denot) (s : AtExit (endedOf 4 listing-kinds.ps listing-kinds.r) κs) (p : listing.Post κs a y s) where
-  -- the book that the words stand for, and the listing: the line of each record, and the last line with the counts lent and what the book says
-  abbrev book : Book
-  book = bookIn (now (a .1 .1 .1 .0))
-
-  abbrev text : List ℕ
-  text = listingOf (now (a .0)) (lastAt (a .1 .0) (a .1 .1 .0) book)
-
-  abbrev before : List ℕ
-  before = now (a .1 .1 .1 .1 .0)
-
-  text-is : listed (now (a .0)) (a .1 .0) (a .1 .1 .0) (now (a .1 .1 .1 .0)) ≡ text
-  unfolding bookOf
-  text-is = refl
-
-  module _ (r : StateRules book) where
-    counts : callTold (now (a .1 .1 .1 .0)) Missing .number ≡ 0
-    unfolding answerTo ownNumber
-    counts = checked-test book Missing r refl
-
-    told-as : listingTold (now (a .0)) (a .1 .0) (a .1 .1 .0) (now (a .1 .1 .1 .0)) (length before) ≡ roomFor 0 (length text) (length before)
-    unfolding listingTold checked
-    told-as = rw (counts, text-is)
-
-    left-as : listingLeaves (now (a .0)) (a .1 .0) (a .1 .1 .0) (now (a .1 .1 .1 .0)) before ≡ laidIfRoom 0 text before
-    unfolding listingLeaves
-    left-as = rw (counts, text-is)
-
-    pub rk-listing-tells : length text ≤ length before → HostListed text before y (now (s .1 .1 .1 .1 .0)) (now (s .1 .1 .1 .1 .1 .0))
-    unfolding toldBy
-    rk-listing-tells room =
-        let t : leb (0 + length text) (length before) ≡ true = rw (zero-add (length text)) (le-leb (length text) (length before) room) in
-        let e = told-as ∙ room-there 0 (length text) (length before) t in
-        let row : now (s .1 .1 .1 .1 .1 .0) ∷ [] ≡ length text ∷ [] = p .0 .told ∙ rw e in
-        record {
-          number = p .0 .answered ∙ one-number e;
-          bytes = ap (λ (v : List ℕ). getD v 0 0) row;
-          buffer = p .1 ∙ left-as ∙ laid-there 0 (length text) text before refl t;
-        }
-
-    pub rk-listing-full : length before < length text → (y ≡ 8) × (now (s .1 .1 .1 .1 .0) ≡ before)
-    rk-listing-full few =
-        let f : leb (0 + length text) (length before) ≡ false = rw (zero-add (length text)) (lt-leb (length text) (length before) few) in
-        (p .0 .answered ∙ one-number (told-as ∙ room-lacks 0 (length text) (length before) f), p .1 ∙ left-as ∙ laid-kept 0 (length text) text before refl f)
-
-    not-13 : y ≡ 13 → ⊥
-    not-13 e =
-        ⊎-elim (λ (t : leb (0 + length text) (length before) ≡ true). omega (arith, e, p .0 .answered ∙ one-number (told-as ∙ room-there 0 (length text) (length before) t)))
-        (λ (f : leb (0 + length text) (length before) ≡ false). omega (arith, e, p .0 .answered ∙ one-number (told-as ∙ room-lacks 0 (length text) (length before) f)))
-        (two (leb (0 + length text) (length before)))
-
-  -- 13 exactly where the words break the state rules
-  pub rk-listing-given-13 : (y ≡ 13) ↔ (StateRules book → ⊥)
-  unfolding listingTold checked answerTo
-  rk-listing-given-13 = (
-    λ (e : y ≡ 13) (r : StateRules book). not-13 r e,
-    λ (n : StateRules book → ⊥). let e : numberTo book Missing ≡ 13 = given-13 book Missing .1 n in p .0 .answered ∙ rw e,
-  )

@@ -14,8 +14,8 @@ use Rattle.entries.specs.declared.Entry.{Entry}
 use Rattle.entries.specs.declared.Entry.the-variants.{Short, Long}
 use Rattle.entries.specs.Papers.{entryPaper}
 use Rattle.entries.specs.Reader.{openOf, stepOf, placeAfter}
-use Rattle.scrub.specs.declared.Span.{Span}
-use Rattle.scrub.specs.Private.{privateOf, spanAt}
+use Rattle.private.specs.declared.Span.{Span}
+use Rattle.private.specs.Private.{privateOf, spanAt}
 use Rattle.words.specs.Told.{perhaps, retold}
 
 -- channel, tick number, first and last resend number, resend status

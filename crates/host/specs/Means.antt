@@ -1,4 +1,4 @@
--- What a host has after a call on frames and captures, in the words of the crates below: a number of a frame by its offset, an answer by document 01's condition for it.
+-- What a host has after a call on frames, in the words of the crates below: a number of a frame by its offset, an answer by document 01's condition for it.
 -- No definition of the promises stands here: proofs/Means.antt says of each function that what its promise allows is this.
 -- x is the answer, row or told what is told; a buffer that was lent as d is d′ afterwards.
 use Prim.Native.Nat.{ℕ, _+_, _≤_, _<_}
@@ -6,7 +6,7 @@ use mathlib.Core.Path.{_≡_}
 use mathlib.Core.Logic.{_↔_}
 use mathlib.Core.List.{List, [], _∷_}
 use lib.ListN.{length, take}
-use Rattle.octets.specs.Octets.{be, laid}
+use Rattle.octets.specs.Octets.{be}
 use Rattle.rules.specs.declared.Kind.{Kind}
 use Rattle.rules.specs.declared.Kind.the-variants.{S001, S002, S003, P001, P002, M101, M102, M201, Unknown}
 use Rattle.wire.specs.Frame.{readOf}
@@ -14,12 +14,9 @@ use Rattle.wire.specs.Given.{Reads, Writes}
 use Rattle.wire.specs.Lowest.{ReadsAt, LowestPlace}
 use Rattle.wire.specs.Write.{Message, writeOf, leftOf}
 use Rattle.entries.specs.Given.{OpensWith, Row20, Stands}
-use Rattle.scrub.specs.Scrub.{scrubAnswer, scrubbed}
-use Rattle.walk.specs.Walk.{sights, framesOf}
-use Rattle.walk.specs.Literal.{typeIn, channelIn, tickIn}
-use Rattle.clean.specs.Clean.{cleanOf, foundOf}
-use Rattle.clean.specs.Checks.{First}
-use Rattle.host.specs.Called.{seen}
+use Rattle.private.specs.Scrub.{scrubAnswer, scrubbed}
+use Rattle.trail.specs.Literal.{typeIn, channelIn, tickIn}
+use Rattle.words.specs.Told.{seen}
 
 -- FRAMES
 
@@ -100,17 +97,3 @@ pub record HostStepped (b : List ℕ) (p x : ℕ) (row : List ℕ) : Type 0 wher
   pub given-20 : (x ≡ 20) ↔ Row20 b p
   pub short : x ≡ 0 → be 5 10 b ≡ 0x4D44303031 → row ≡ 1 ∷ be 2 p b ∷ be 8 (p + 2) b ∷ 0 ∷ 0 ∷ (p + 10) ∷ []
   pub long : x ≡ 0 → (be 5 10 b ≡ 0x4D44303031 → ⊥) → row ≡ 0 ∷ be 2 p b ∷ be 8 (p + 2) b ∷ be 8 (p + 10) b ∷ be 1 (p + 18) b ∷ (p + 19) ∷ []
-
--- CAPTURES
-
--- rk_clean of the capture c into d, with room for all of it: how many bytes and frames, and how many of these the search found behind damage
-pub record HostCleaned (c d : List ℕ) (x : ℕ) (row d′ : List ℕ) : Type 0 where
-  pub number : x ≡ 0
-  pub told : row ≡ length (cleanOf c) ∷ framesOf (sights c) ∷ foundOf c ∷ []
-  pub buffer : d′ ≡ laid 0 (cleanOf c) d
-
--- rk_is_clean: 0 and 0 exactly where cleaning changes nothing, else 1 and the first place where the two differ
-pub record HostChecked (c : List ℕ) (x : ℕ) (row : List ℕ) : Type 0 where
-  pub number : x ≡ 0
-  pub clean : (row ≡ 0 ∷ 0 ∷ []) ↔ (cleanOf c ≡ c)
-  pub changed : (cleanOf c ≡ c → ⊥) → (p : ℕ) × ((row ≡ 1 ∷ p ∷ []) × First c (cleanOf c) p)

@@ -11,8 +11,8 @@ use Rattle.wire.specs.Frame.{msgType, sendingTime, msgSeqNum, bodyLength, body,
 use Rattle.wire.specs.Outcomes.{good, good-reads}
 use Rattle.wire.specs.Places.{body-of}
 use Rattle.view.specs.View.{viewOf}
-use Rattle.scrub.specs.Laws.{Alike}
-use Rattle.scrub.specs.PrivateLaws.{view-same}
+use Rattle.private.specs.Laws.{Alike}
+use Rattle.private.specs.PrivateLaws.{view-same}
 use Rattle.host.specs.Frames.{viewNumbers, readTold}
 
 -- all that is told of a frame that reads

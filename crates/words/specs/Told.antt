@@ -23,6 +23,10 @@ pub record Tells (p : Paper) (was : List ℕ) (number : ℕ) (row : List ℕ) : 
 abbrev pub Refuses : ℕ → Type 0
 Refuses n = n ≡ 0 → ⊥
 
+-- WHAT THE CALLER SEES: the number, and beside 0 the told row
+abbrev pub seen : ℕ → List ℕ → Paper
+seen number row = answer number (pick (eqb number 0) row [])
+
 -- a place that may be there: 1 and the place, or 0 and 0
 abbrev pub perhaps : List ℕ → List ℕ
 perhaps [] = 0 ∷ 0 ∷ []

@@ -4,8 +4,8 @@ use denote.Ref.{now}
 use Rattle.terms.specs.Paper.{answer}
 use Rattle.rules.specs.declared.Kind.{Kind}
 use Rattle.rules.specs.Table.{kind-is}
-use Rattle.scrub.specs.Private.{privateOf, spanAt}
-use Rattle.scrub.specs.declared.Span.{Span}
+use Rattle.private.specs.Private.{privateOf, spanAt}
+use Rattle.private.specs.declared.Span.{Span}
 use Rattle.words.specs.Told.{tells-done}
 use Rattle.host.specs.Frames.{spanNumbers, privateTold}
 use borrow.Author.Needs.{needs}

@@ -1,0 +1,4 @@
+pub mod Kept
+pub mod OneAnswer
+pub mod Listed
+pub mod Means

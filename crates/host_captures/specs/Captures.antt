@@ -1,0 +1,73 @@
+-- What the host is told of whole captures.
+use Prim.Native.Nat.{ℕ}
+use mathlib.Core.Path.{_≡_, refl, ap₂, _∙_}
+use mathlib.Core.List.{List}
+use lib.Dec.{eqb}
+use lib.ListN.{length}
+use borrow.Author.Tests.{ne-eqb}
+use Rattle.terms.specs.Paper.{Paper, pick}
+use Rattle.terms.specs.declared.TickNumber.{TickNumber}
+use Rattle.octets.specs.Papers.{roomFor, laidIfRoom}
+use Rattle.wire.specs.Frame.{checked}
+use Rattle.book.specs.Words.{valueAt}
+use Rattle.book.specs.Calls.{Missing}
+use Rattle.ledger.specs.State.{ledgerOf}
+use Rattle.ledger.specs.declared.Ledger.{Ledger}
+use Rattle.report.specs.declared.Summary.{Summary}
+use Rattle.trail.specs.Walk.{walkAnswer, walkBook}
+use Rattle.lines.specs.Listing.{listingOf}
+use Rattle.wash.specs.Clean.{checkOf}
+use Rattle.words.specs.Told.{perhaps, retold, Tells, tells-refused}
+use Rattle.words.specs.Words.{ledgerIn}
+use Rattle.words.specs.Calls.{keptBy, callTold}
+
+-- the words after a walk: those of channel 100's ledger; beside 8 as they were
+unfoldable pub walkWords : List ℕ → ℕ → List ℕ → List ℕ
+walkWords capture room was = keptBy (walkAnswer capture room .number) (ledgerOf (walkBook capture room)) was
+
+-- the numbers of the last line
+abbrev pub lastLine : ℕ → ℕ → List ℕ → Summary
+lastLine frames refused w =
+    record {
+      frames = frames;
+      refused = refused;
+      floor = ledgerIn w .floor;
+      top = ledgerIn w .top;
+      missing = valueAt (callTold w Missing) 0;
+    }
+
+abbrev pub listed : List ℕ → ℕ → ℕ → List ℕ → List ℕ
+listed records frames refused w = listingOf records (lastLine frames refused w)
+
+-- 13 where the words break the state rules, then 8
+unfoldable pub listingTold : List ℕ → ℕ → ℕ → List ℕ → ℕ → Paper
+listingTold records frames refused w room = checked (callTold w Missing .number) (roomFor 0 (length (listed records frames refused w)) room)
+
+unfoldable pub listingLeaves : List ℕ → ℕ → ℕ → List ℕ → List ℕ → List ℕ
+listingLeaves records frames refused w text =
+    pick (eqb (callTold w Missing .number) 0) (laidIfRoom 0 (listed records frames refused w) text) text
+
+unfoldable pub cleanTold : List ℕ → Paper
+cleanTold capture = retold perhaps (checkOf capture)
+
+-- PROOFS
+
+pub walk-words : (capture : List ℕ) (room : ℕ) (was : List ℕ) {n : ℕ} {l : Ledger} {row : List ℕ} → n ≡ walkAnswer capture room .number → l ≡ ledgerOf (walkBook capture room)
+    → row ≡ keptBy n l was → row ≡ walkWords capture room was
+unfolding walkWords
+walk-words capture room was ne le e = e ∙ ap₂ (λ (m : ℕ) (x : Ledger). keptBy m x was) ne le
+
+pub last-line : (frames refused : ℕ) (w : List ℕ) (floor top : TickNumber) (missing : ℕ) → floor ≡ ledgerIn w .floor → top ≡ ledgerIn w .top → missing ≡ valueAt (callTold w Missing) 0
+    → _≡_ {A = Summary} (record { frames = frames; refused = refused; floor = floor; top = top; missing = missing }) (lastLine frames refused w)
+last-line frames refused w floor top missing e f g = rw (e, f, g)
+
+module _ (records : List ℕ) (frames refused : ℕ) (w text : List ℕ) (n : ℕ) (e : n ≡ callTold w Missing .number) where
+  pub listing-refused : (was : List ℕ) → (n ≡ 0 → ⊥)
+      → Tells (listingTold records frames refused w (length text)) was n was × (text ≡ listingLeaves records frames refused w text)
+  unfolding listingTold listingLeaves checked
+  listing-refused was ne = rw (← e, ne-eqb n 0 ne) (tells-refused _ _ _ refl ne, refl)
+
+  pub listing-laid : (s : Summary) (p : Paper) (after : List ℕ) → n ≡ 0 → s ≡ lastLine frames refused w → p ≡ roomFor 0 (length (listingOf records s)) (length text)
+      → after ≡ laidIfRoom 0 (listingOf records s) text → (p ≡ listingTold records frames refused w (length text)) × (after ≡ listingLeaves records frames refused w text)
+  unfolding listingTold listingLeaves checked
+  listing-laid s p after z f g h = rw (← e, z, ← f) (g, h)

@@ -1,0 +1,151 @@
+// What C and Rust may call on whole captures. Each function answers a number of document 01, 0 where all is well, and tells the rest
+// through what it is lent: a fixed row of numbers, which C declares as a struct of 64-bit numbers (include/rietknoest.h). A refusal writes
+// nothing there, nor into a buffer, nor into the nine words of a ledger (crate `words`).
+ghost use mathlib.Core.Path.{_≡_};
+ghost use mathlib.Core.List.{[], _∷_};
+ghost use lib.ListN.{length};
+ghost use Rattle.octets.specs.Papers.{writtenPaper};
+ghost use Rattle.ledger.specs.Papers.{paperOf};
+ghost use Rattle.trail.specs.Walk.{walkAnswer, walkLeaves};
+ghost use Rattle.wash.specs.Clean.{cleanAnswer, cleanLeaves};
+ghost use Rattle.words.specs.Told.{Tells};
+ghost use Rattle.words.specs.Calls.{keptBy};
+ghost use Rattle.host_captures.specs.Captures.{walkWords, listingTold, listingLeaves, cleanTold};
+use clean::Check;
+use ledger::Answer;
+use ledger::Ledger;
+use octets::Written;
+use report::Summary;
+
+// WHAT AN ANSWER COMES TO: three small functions as `host_ledger` and `host` have them for themselves
+
+fn number_of(a: Answer) -> u32
+    ensures { λ r. ⌜ r ≡ paperOf a .number ⌝ }
+{
+    match a {
+        Answer::Done => 0,
+        Answer::Refused(why) => why.number(),
+    }
+}
+
+// Keeps the ledger that stands beside an answer: 0 and 12 store it, any other refusal leaves the words as they were.
+fn keep(state: &mut [u64; 9], answer: u32, next: Ledger)
+    ensures { λ _. ⌜ now (state .exit) ≡ keptBy answer next (now (state .entry)) ⌝ }
+{
+    if answer == 0 {
+        *state = words::state_of(next);
+    } else if answer == 12 {
+        *state = words::state_of(next);
+    }
+}
+
+// What a writer's answer comes to: its number, and told how many bytes.
+fn told_bytes(w: Written, told: &mut u64) -> u32
+    ensures { λ r. ⌜ Tells (writtenPaper w) (now (told .entry) ∷ []) r (now (told .exit) ∷ []) ⌝ }
+{
+    match w {
+        Written::Refused(why) => why.number(),
+        Written::Bytes(n) => {
+            *told = n as u64;
+            0
+        }
+    }
+}
+
+// CAPTURES
+
+// Walks a capture: a record of 64 bytes for each reading, and channel 100's ledger. Told: how many records, frames, and readings
+// refused. Where the records have no room, 8, and nothing is written anywhere.
+#[no_mangle]
+pub extern "C" fn rk_walk(
+    capture: &[u8],
+    records: &mut [u8],
+    state: &mut [u64; 9],
+    told: &mut [u64; 3],
+) -> u32
+    ensures { λ r. ⌜ Tells (walkAnswer (now (capture .entry)) (length (now (records .entry)))) (now (told .entry)) r (now (told .exit))
+        × ((now (state .exit) ≡ walkWords (now (capture .entry)) (length (now (records .entry))) (now (state .entry)))
+        × (now (records .exit) ≡ walkLeaves (now (capture .entry)) (now (records .entry)))) ⌝ }
+{
+    let walked = walk::walk(capture, records);
+    let ledger = walked.ledger;
+    let given = walked.answer;
+    let answer = number_of(given);
+    keep(state, answer, ledger);
+    if answer == 0 {
+        *told = [
+            walked.records as u64,
+            walked.frames as u64,
+            walked.refused as u64,
+        ];
+    }
+    answer
+}
+
+// The listing of what a walk left: the line of each whole record, then the last line. Told: how many bytes. 13 where the words
+// break the state rules, then 8.
+#[no_mangle]
+pub extern "C" fn rk_listing(
+    records: &[u8],
+    frames: u64,
+    refused: u64,
+    state: &[u64; 9],
+    text: &mut [u8],
+    told: &mut u64,
+) -> u32
+    ensures { λ r. ⌜ Tells (listingTold (now (records .entry)) frames refused (now (state .entry)) (length (now (text .entry)))) (now (told .entry) ∷ []) r (now (told .exit) ∷ [])
+        × (now (text .exit) ≡ listingLeaves (now (records .entry)) frames refused (now (state .entry)) (now (text .entry))) ⌝ }
+{
+    let ledger = words::ledger_in(state);
+    let counted = ledger.missing();
+    let given = counted.answer;
+    let answer = number_of(given);
+    if answer != 0 {
+        return answer;
+    }
+    let s = Summary {
+        frames,
+        refused,
+        floor: ledger.floor(),
+        top: ledger.top(),
+        missing: counted.count,
+    };
+    let laid = lines::put_listing(text, records, s);
+    told_bytes(laid, told)
+}
+
+// A capture, scrubbed: its accepted frames at the front of out, stray bytes left out. Told: how many bytes, how many frames, and
+// how many of these the search found behind damage.
+#[no_mangle]
+pub extern "C" fn rk_clean(capture: &[u8], out: &mut [u8], told: &mut [u64; 3]) -> u32
+    ensures { λ r. ⌜ Tells (cleanAnswer (now (capture .entry)) (length (now (out .entry)))) (now (told .entry)) r (now (told .exit))
+        × (now (out .exit) ≡ cleanLeaves (now (capture .entry)) (now (out .entry))) ⌝ }
+{
+    let cleaned = clean::clean(capture, out);
+    let given = cleaned.answer;
+    let answer = number_of(given);
+    if answer == 0 {
+        *told = [
+            cleaned.bytes as u64,
+            cleaned.frames as u64,
+            cleaned.after_damage as u64,
+        ];
+    }
+    answer
+}
+
+// Whether a capture is what cleaning it gives. Told: 1 and the first place where the two differ, or 0 and 0 where none does.
+#[no_mangle]
+pub extern "C" fn rk_is_clean(capture: &[u8], told: &mut [u64; 2]) -> u32
+    ensures { λ r. ⌜ Tells (cleanTold (now (capture .entry))) (now (told .entry)) r (now (told .exit)) ⌝ }
+{
+    match clean::is_clean(capture) {
+        Check::Clean => {
+            *told = [0, 0];
+        }
+        Check::Changed(at) => {
+            *told = [1, at as u64];
+        }
+    }
+    0
+}

@@ -1,0 +1,303 @@
+-- A ledger call through the host is the book's own call, from the promises that the checker makes of the `ensures`; and demand 3 holds of every
+-- row of such calls on words that rk_ledger_open wrote. Assumes nothing.
+use Prim.Native.Nat.{ℕ, zero, suc, max, _≤_, _<_}
+use mathlib.Core.Path.{_≡_, refl, sym, ap, ap₂, _∙_}
+use mathlib.Core.Bool.{true, false}
+use mathlib.Core.Logic.{⊎-elim}
+use mathlib.Core.List.{List, [], _∷_, _++_}
+use native.Mathlib.Omega.{arith}
+use contract.Lifetimes.{Lfts}
+use borrow.Author.Tests.{le-ltb, lt-ltb, ne-eqb}
+use borrow.Fn.Kinds.{Dens, endedOf, resT}
+use denote.Ref.{now}
+use denote.Triple.Clauses.{AtExit}
+use lib.Dec.{eqb, lit<}
+use lib.ListN.{getD, take, drop}
+use mir.Syntax.{w64}
+use mir.Val.{Fits}
+use Rattle.terms.specs.Paper.{Paper, answer, one-number}
+use Rattle.terms.specs.Cases.{two, same, clash}
+use Rattle.map.specs.Bits.{Words}
+use Rattle.book.specs.State.{Book, soundOf, StateRules}
+use Rattle.book.specs.Calls.{Call, Tick, Announce, Request, Reply, Missing, Held, elsewhere, ownNumber, checkedOf, done, valuesOf, beside, numberTo, answerTo, nextOf, openOf, missingCount, heldCount}
+use Rattle.book.specs.Trace.{Calls, none, _▸_, after, History, start, _▸_⇒_, trace}
+use Rattle.book.specs.Words.{valueAt}
+use Rattle.book.specs.Demand3.{Demand3}
+use Rattle.book.proofs.Answers.{keeps}
+use Rattle.book.proofs.Demand3.{demand-3}
+use Rattle.book.proofs.Given.{given-12, given-13}
+use Rattle.book.proofs.Numbers.{checked-test}
+use Rattle.book.proofs.Rules.{rules-facts, rules-test}
+use Rattle.book.proofs.Steps.{rules-kept}
+use Rattle.ledger.specs.declared.Pending.{Pending}
+use Rattle.ledger.specs.declared.Pending.the-variants.{Nothing, Range}
+use Rattle.ledger.specs.State.{askedOf, bookOf, ledgerOf}
+use Rattle.words.specs.Told.{Tells, toldBy, seen}
+use Rattle.words.specs.Words.{firstAsked, lastAsked, wordsOf, ledgerIn, bookIn}
+use Rattle.words.specs.Calls.{keptBy, callTold, wordsAfter}
+use Rattle.words.proofs.Back.{book-back, words-fore}
+use Rattle.words.proofs.Rows.{call-words, far-words}
+use Rattle.host_ledger.specs.Words.{openWords, ledgerTold}
+use Rattle.host_ledger.specs.Called.{counted, Called, HostRan, opening, one-more, askedNumbers, bookNumbers, historyNumbers, Nine}
+use Rattle.host_ledger.proofs.Kept.{call-kept}
+use Rattle.host_ledger.proofs.rk_ledger_open.Reads as opens
+use Rattle.host_ledger.proofs.rk_ledger_open.Kinds as opens-kinds
+use Rattle.host_ledger.proofs.rk_ledger_tick.Reads as tick
+use Rattle.host_ledger.proofs.rk_ledger_tick.Kinds as tick-kinds
+use Rattle.host_ledger.proofs.rk_ledger_announce.Reads as announce
+use Rattle.host_ledger.proofs.rk_ledger_announce.Kinds as announce-kinds
+use Rattle.host_ledger.proofs.rk_ledger_request.Reads as request
+use Rattle.host_ledger.proofs.rk_ledger_request.Kinds as request-kinds
+use Rattle.host_ledger.proofs.rk_ledger_reply.Reads as reply
+use Rattle.host_ledger.proofs.rk_ledger_reply.Kinds as reply-kinds
+use Rattle.host_ledger.proofs.rk_ledger_told.Reads as told
+use Rattle.host_ledger.proofs.rk_ledger_told.Kinds as told-kinds
+
+-- ======== What the definitions of the promises come to
+
+module _ (w : List ℕ) (call : Call) where
+  abbrev b : Book
+  b = bookIn w
+
+  same-next : (callTold w call .number ≡ 0 → ⊥) → (callTold w call .number ≡ 12 → ⊥) → bookIn (wordsAfter w call) ≡ nextOf b call
+  same-next z f = ap bookIn (call-kept w call z f) ∙ sym (keeps b call .same (ne-eqb _ 0 z) (ne-eqb _ 12 f))
+
+  -- where the next ledger is stored: beside 0 and 12
+  stored-next : StateRules b → wordsAfter w call ≡ wordsOf (ledgerOf (nextOf b call)) → bookIn (wordsAfter w call) ≡ nextOf b call
+  stored-next r e = ap bookIn e ∙ book-back (nextOf b call) (rules-kept b call r)
+
+  stored-0 : callTold w call .number ≡ 0 → wordsAfter w call ≡ wordsOf (ledgerOf (nextOf b call))
+  unfolding wordsAfter keptBy
+  stored-0 e = rw e
+
+  stored-12 : callTold w call .number ≡ 12 → wordsAfter w call ≡ wordsOf (ledgerOf (nextOf b call))
+  unfolding wordsAfter keptBy
+  stored-12 e = rw e
+
+  sound-next : StateRules b → bookIn (wordsAfter w call) ≡ nextOf b call
+  sound-next r =
+      ⊎-elim (λ (z : callTold w call .number ≡ 0). stored-next r (stored-0 z))
+      (λ (z : callTold w call .number ≡ 0 → ⊥).
+      ⊎-elim (λ (f : callTold w call .number ≡ 12). stored-next r (stored-12 f))
+      (λ (f : callTold w call .number ≡ 12 → ⊥). same-next z f)
+      (same (callTold w call .number) 12))
+      (same (callTold w call .number) 0)
+
+  broken-next : (StateRules b → ⊥) → bookIn (wordsAfter w call) ≡ nextOf b call
+  unfolding answerTo
+  broken-next n =
+      let e : numberTo b call ≡ 13 = given-13 b call .1 n in
+      same-next (λ (z : numberTo b call ≡ 0). omega (arith, e, z)) (λ (f : numberTo b call ≡ 12). omega (arith, e, f))
+
+  next-in : bookIn (wordsAfter w call) ≡ nextOf b call
+  next-in =
+      ⊎-elim (λ (t : soundOf b ≡ true). sound-next (rules-facts b t))
+      (λ (f : soundOf b ≡ false). broken-next (λ (r : StateRules b). clash (rules-test b r) f))
+      (two (soundOf b))
+
+  called : {w′ : List ℕ} {a : Paper} → a ≡ callTold w call → w′ ≡ wordsAfter w call → Called w call w′ a
+  unfolding answerTo
+  called {w′} {a} e f =
+      record {
+        number = one-number e;
+        answer-is = e;
+        next-is = ap bookIn f ∙ next-in;
+        words-are = λ (x : Book) (r : StateRules x) (g : w ≡ wordsOf (ledgerOf x)). f ∙ ap (λ (y : List ℕ). wordsAfter y call) g ∙ call-words x r call;
+        kept = λ (z : a .number ≡ 0 → ⊥) (n : a .number ≡ 12 → ⊥). f ∙ call-kept w call (λ (y : callTold w call .number ≡ 0). z (one-number e ∙ y)) (λ (y : callTold w call .number ≡ 12). n (one-number e ∙ y));
+      }
+
+  -- a call that tells nothing: beside 0 it has no value, nor beside a refusal
+  silent : valuesOf b call ≡ [] → beside call ≡ [] → {n : ℕ} {w′ : List ℕ} → (n ≡ callTold w call .number) × (w′ ≡ wordsAfter w call) → Called w call w′ (answer n [])
+  unfolding answerTo
+  silent e f {n} {w′} p =
+      let g : callTold w call .values ≡ [] =
+      ⊎-elim (λ (t : eqb (numberTo b call) 0 ≡ true). rw t e) (λ (u : eqb (numberTo b call) 0 ≡ false). rw u f) (two (eqb (numberTo b call) 0)) in
+      called (ap₂ answer (p .0) (sym g)) (p .1)
+
+  -- one that tells a row beside 0
+  tells-row : beside call ≡ [] → {was row : List ℕ} {n : ℕ} {w′ : List ℕ} → Tells (callTold w call) was n row × (w′ ≡ wordsAfter w call) → Called w call w′ (seen n row)
+  unfolding answerTo toldBy
+  tells-row f {was} {row} {n} {w′} p =
+      let g : seen n row ≡ callTold w call =
+      ⊎-elim (λ (t : eqb (numberTo b call) 0 ≡ true). rw (p .0 .told, p .0 .answered, t))
+      (λ (u : eqb (numberTo b call) 0 ≡ false). rw (p .0 .answered, u, f))
+      (two (eqb (numberTo b call) 0)) in
+      called g (p .1)
+
+-- ======== One call
+
+-- opening starts a row of calls
+pub open-is-opening : (κs : Lfts 1) (a : Dens κs opens-kinds.ps) (x : resT opens-kinds.r κs .Denot) (s : AtExit (endedOf 1 opens-kinds.ps opens-kinds.r) κs) → opens.Post κs a x s
+    → a .0 ≤ 9999 → (x ≡ 0) × HostRan (a .0) none (now (s .1 .0)) start
+unfolding openWords keptBy openOf
+open-is-opening κs a x s p h = (p .0 ∙ rw (le-ltb 9999 (a .0) h), opening (p .1 ∙ rw (le-ltb 9999 (a .0) h)))
+
+-- or is refused, and leaves the words
+pub open-refused : (κs : Lfts 1) (a : Dens κs opens-kinds.ps) (x : resT opens-kinds.r κs .Denot) (s : AtExit (endedOf 1 opens-kinds.ps opens-kinds.r) κs) → opens.Post κs a x s
+    → 9999 < a .0 → (x ≡ 10) × (now (s .1 .0) ≡ now (a .1 .0))
+unfolding openWords keptBy
+open-refused κs a x s p h = (p .0 ∙ rw (lt-ltb 9999 (a .0) h), p .1 ∙ rw (lt-ltb 9999 (a .0) h))
+
+pub tick-is-call : (κs : Lfts 2) (a : Dens κs tick-kinds.ps) (x : resT tick-kinds.r κs .Denot) (s : AtExit (endedOf 2 tick-kinds.ps tick-kinds.r) κs) → tick.Post κs a x s
+    → Called (now (a .0)) (Tick (a .1 .0) (a .1 .1 .0)) (now (s .0)) (seen x (now (s .1 .1 .1 .0)))
+tick-is-call κs a x s p = tells-row _ (Tick (a .1 .0) (a .1 .1 .0)) refl p
+
+pub announce-is-call : (κs : Lfts 1) (a : Dens κs announce-kinds.ps) (x : resT announce-kinds.r κs .Denot) (s : AtExit (endedOf 1 announce-kinds.ps announce-kinds.r) κs) → announce.Post κs a x s
+    → Called (now (a .0)) (Announce (a .1 .0) (a .1 .1 .0)) (now (s .0)) (answer x [])
+unfolding valuesOf
+announce-is-call κs a x s p = silent _ (Announce (a .1 .0) (a .1 .1 .0)) refl refl p
+
+pub request-is-call : (κs : Lfts 2) (a : Dens κs request-kinds.ps) (x : resT request-kinds.r κs .Denot) (s : AtExit (endedOf 2 request-kinds.ps request-kinds.r) κs) → request.Post κs a x s
+    → Called (now (a .0)) (Request (a .1 .0)) (now (s .0)) (seen x (now (s .1 .1 .0)))
+request-is-call κs a x s p = tells-row _ (Request (a .1 .0)) refl p
+
+pub reply-is-call : (κs : Lfts 1) (a : Dens κs reply-kinds.ps) (x : resT reply-kinds.r κs .Denot) (s : AtExit (endedOf 1 reply-kinds.ps reply-kinds.r) κs) → reply.Post κs a x s
+    → Called (now (a .0)) (Reply (a .1 .0) (a .1 .1 .0) (a .1 .1 .1 .0)) (now (s .0)) (answer x [])
+unfolding valuesOf
+reply-is-call κs a x s p = silent _ (Reply (a .1 .0) (a .1 .1 .0) (a .1 .1 .1 .0)) refl refl p
+
+-- ======== What a ledger has to tell
+
+asked-numbers : (p : Pending) → firstAsked p ∷ lastAsked p ∷ [] ≡ askedNumbers (askedOf p)
+asked-numbers Nothing = refl
+asked-numbers (Range first last) = refl
+
+module _ (w : List ℕ) where
+  row-is : numberTo (bookIn w) Missing ≡ 0 → ledgerTold w .values ≡ bookNumbers (bookIn w)
+  unfolding ledgerTold answerTo valuesOf bookOf numberTo ownNumber
+  row-is z = rw (z, asked-numbers (ledgerIn w .pending))
+
+  -- a count leaves the book, and so the words
+  module _ (call : Call) (here : elsewhere (bookIn w) call ≡ false) (own : ownNumber (bookIn w) call ≡ 0) (same : done (bookIn w) call ≡ bookIn w) where
+    count-next : nextOf (bookIn w) call ≡ bookIn w
+    unfolding nextOf numberTo checkedOf
+    count-next =
+        ⊎-elim (λ (t : soundOf (bookIn w) ≡ true). rw (t, here, own, same)) (λ (f : soundOf (bookIn w) ≡ false). rw f) (two (soundOf (bookIn w)))
+
+    count-called : {a : Paper} → a ≡ callTold w call → Called w call w a
+    unfolding answerTo
+    count-called {a} e =
+        record {
+          number = one-number e;
+          answer-is = e;
+          next-is = sym count-next;
+          words-are = λ (b : Book) (r : StateRules b) (g : w ≡ wordsOf (ledgerOf b)).
+              let q : bookIn w ≡ b = ap bookIn g ∙ book-back b r in
+              g ∙ ap (λ (y : Book). wordsOf (ledgerOf y)) (sym (ap (λ (y : Book). nextOf y call) (sym q) ∙ count-next ∙ q));
+          kept = λ (z : a .number ≡ 0 → ⊥) (n : a .number ≡ 12 → ⊥). refl;
+        }
+
+  count-seen : (call : Call) (k : ℕ) {x c : ℕ} → valuesOf (bookIn w) call ≡ k ∷ [] → beside call ≡ 0 ∷ [] → x ≡ numberTo (bookIn w) call → (x ≡ 0 → c ≡ k) → counted x c ≡ callTold w call
+  unfolding answerTo
+  count-seen call k {x} {c} e f g h =
+      ⊎-elim (λ (z : x ≡ 0). rw (← g, z, h z, e)) (λ (z : x ≡ 0 → ⊥). rw (← g, ne-eqb x 0 z, f)) (same x 0)
+
+module _ (κs : Lfts 2) (a : Dens κs told-kinds.ps) (x : resT told-kinds.r κs .Denot) (s : AtExit (endedOf 2 told-kinds.ps told-kinds.r) κs) (p : told.Post κs a x s) where
+  told-number : x ≡ numberTo (bookIn (now (a .0))) Missing
+  unfolding ledgerTold answerTo
+  told-number = p .answered
+
+  -- THE SEVEN NUMBERS, in the book's own counts
+  pub told-row : x ≡ 0 → now (s .1 .0) ≡ bookNumbers (bookIn (now (a .0)))
+  unfolding toldBy
+  told-row z = p .told ∙ rw (← p .answered, z) (row-is (now (a .0)) (sym told-number ∙ z))
+
+  -- exactly where the words keep the state rules; else 13
+  pub told-sound : StateRules (bookIn (now (a .0))) → x ≡ 0
+  unfolding ownNumber
+  told-sound r = told-number ∙ checked-test (bookIn (now (a .0))) Missing r refl
+
+  pub told-broken : (StateRules (bookIn (now (a .0))) → ⊥) → x ≡ 13
+  told-broken n = told-number ∙ given-13 (bookIn (now (a .0))) Missing .1 n
+
+  -- its fourth number is a call of the missing count, its fifth one of the held count
+  pub told-is-missing : Called (now (a .0)) Missing (now (a .0)) (counted x (getD (now (s .1 .0)) 3 0))
+  unfolding ownNumber done valuesOf
+  told-is-missing =
+      count-called (now (a .0)) Missing refl refl refl
+      (count-seen (now (a .0)) Missing (missingCount (bookIn (now (a .0)))) refl refl told-number (λ (z : x ≡ 0). ap (λ (l : List ℕ). getD l 3 0) (told-row z)))
+
+  pub told-is-held : Called (now (a .0)) Held (now (a .0)) (counted x (getD (now (s .1 .0)) 4 0))
+  unfolding ownNumber done valuesOf numberTo
+  told-is-held =
+      count-called (now (a .0)) Held refl refl refl
+      (count-seen (now (a .0)) Held (heldCount (bookIn (now (a .0)))) refl refl told-number (λ (z : x ≡ 0). ap (λ (l : List ℕ). getD l 4 0) (told-row z)))
+
+-- a count that is answered
+count-is : (b : Book) (call : Call) {v k : ℕ} → valuesOf b call ≡ v ∷ [] → answerTo b call ≡ answer 0 (k ∷ []) → v ≡ k
+unfolding answerTo
+count-is b call e f = let z : numberTo b call ≡ 0 = one-number f in ap (λ (y : Paper). valueAt y 0) (rw (z, e) at f)
+
+-- ======== A refused tick
+
+module _ (w : List ℕ) (n : Nine w) where
+  four-in : Words (ledgerIn w .map .words)
+  unfolding ledgerIn
+  four-in = record { four = refl; low = at }
+    where
+      at : (i : ℕ) → Fits w64 (getD (getD w 3 0 ∷ getD w 4 0 ∷ getD w 5 0 ∷ getD w 6 0 ∷ []) i 0)
+      at zero = n .low 3
+      at (suc zero) = n .low 4
+      at (suc (suc zero)) = n .low 5
+      at (suc (suc (suc zero))) = n .low 6
+      at (suc (suc (suc (suc i)))) = record { fits = lit< tt }
+
+  third-word : (channel tick : ℕ) → callTold w (Tick channel tick) .number ≡ 12 → wordsAfter w (Tick channel tick) ≡ take 2 w ++ (max (getD w 2 0) tick ∷ drop 3 w)
+  unfolding answerTo wordsOf
+  third-word channel tick f =
+      let r : StateRules (bookIn w) = given-12 (bookIn w) channel tick .0 f .rules in
+      let e : wordsOf (ledgerIn w) ≡ w = words-fore w (n .nine) r in
+      let g = far-words (ledgerIn w) four-in r channel tick (rw e f) in
+      ap (λ (y : List ℕ). wordsAfter y (Tick channel tick)) (sym e) ∙ g
+      ∙ ap (λ (y : List ℕ). take 2 y ++ (max (getD y 2 0) tick ∷ drop 3 y)) e
+
+module _ (κs : Lfts 2) (a : Dens κs tick-kinds.ps) (x : resT tick-kinds.r κs .Denot) (s : AtExit (endedOf 2 tick-kinds.ps tick-kinds.r) κs) (p : tick.Post κs a x s) where
+  -- 12 changes the third word alone, the top: it is raised to the tick, if it was lower
+  pub tick-12-raises-third : Nine (now (a .0)) → x ≡ 12 → now (s .0) ≡ take 2 (now (a .0)) ++ (max (getD (now (a .0)) 2 0) (a .1 .1 .0) ∷ drop 3 (now (a .0)))
+  tick-12-raises-third n e = p .1 ∙ third-word (now (a .0)) n (a .1 .0) (a .1 .1 .0) (sym (p .0 .answered) ∙ e)
+
+  -- any other refusal changes none
+  pub tick-refused-leaves : (x ≡ 0 → ⊥) → (x ≡ 12 → ⊥) → now (s .0) ≡ now (a .0)
+  tick-refused-leaves = tick-is-call κs a x s p .kept
+
+-- ======== A row of calls
+
+module _ (channel : ℕ) (small : channel ≤ 9999) where
+  rules : (calls : Calls) → StateRules (after channel calls)
+  rules calls = demand-3 channel small calls .state-rules
+
+  -- the words are those of the ledger after the calls, and what the caller sees are the ledger's answers
+  pub host-ran-is-trace : {calls : Calls} {w : List ℕ} {h : History} → HostRan channel calls w h
+      → (w ≡ wordsOf (ledgerOf (after channel calls))) × (h ≡ trace channel calls)
+  unfolding trace
+  host-ran-is-trace (opening e) = (e, refl)
+  host-ran-is-trace (one-more {calls} {w} {w′} {h} {a} call r c) =
+      let q = host-ran-is-trace r in
+      let e : bookIn w ≡ after channel calls = ap bookIn (q .0) ∙ book-back (after channel calls) (rules calls) in (
+        c .words-are (after channel calls) (rules calls) (q .0),
+        ap₂ (λ (x : History) (y : Paper). x ▸ call ⇒ y) (q .1) (c .answer-is ∙ ap (λ (x : Book). answerTo x call) e),
+      )
+
+  module _ {calls : Calls} {w : List ℕ} {h : History} (r : HostRan channel calls w h) where
+    pub host-book : bookIn w ≡ after channel calls
+    host-book = ap bookIn (host-ran-is-trace r .0) ∙ book-back (after channel calls) (rules calls)
+
+    -- DEMAND 3, OF EVERY ROW OF CALLS THROUGH THE HOST, refusals included: of what the caller sees, and of the book that the words stand for
+    pub host-ran-demand-3 : Demand3 h channel (bookIn w)
+    host-ran-demand-3 = rw (host-ran-is-trace r .1, host-book) (demand-3 channel small calls)
+
+    -- whatever a further call is answered is what the calls before it tell
+    pub host-answers : (call : Call) (w′ : List ℕ) (a : Paper) → Called w call w′ a → a ≡ answerTo (after channel calls) call
+    host-answers call w′ a c = c .answer-is ∙ ap (λ (x : Book). answerTo x call) host-book
+
+    -- the seven numbers that rk_ledger_told then tells are those that the calls and answers tell, each counted from them alone
+    pub host-told : (κs : Lfts 2) (a : Dens κs told-kinds.ps) (x : resT told-kinds.r κs .Denot) (s : AtExit (endedOf 2 told-kinds.ps told-kinds.r) κs) → told.Post κs a x s
+        → now (a .0) ≡ w → (x ≡ 0) × (now (s .1 .0) ≡ historyNumbers channel h)
+    unfolding valuesOf
+    host-told κs a x s p e =
+        let d = host-ran-demand-3 in
+        let z = told-sound κs a x s p (rw e (d .state-rules)) in (
+          z,
+          told-row κs a x s p z ∙ ap (λ (y : List ℕ). bookNumbers (bookIn y)) e
+              ∙ rw (count-is (bookIn w) Missing refl (d .counts .missing-is), count-is (bookIn w) Held refl (d .counts .held-is), d .shown .channel-is, d .shown .floor-is, d .shown .top-is, d .shown .pending-is),
+        )

@@ -1,0 +1,45 @@
+-- `rk_ledger_reply`: the number of the call's paper, and the words after it. Assumes nothing.
+use mathlib.Core.Path.{ap₂}
+use Rattle.terms.specs.declared.ChannelNumber.{ChannelNumber}
+use Rattle.terms.specs.declared.TickNumber.{TickNumber}
+use Rattle.book.specs.Calls.{Reply}
+use Rattle.host_ledger.proofs.Calls.{answers}
+use borrow.Author.Needs.{needs}
+use Rattle.host_ledger.proofs.rk_ledger_reply.Statement.{statement}
+use Rattle.host_ledger.proofs.rk_ledger_reply.Tie as tie
+
+ledger-in-requires : tie.Need-ledger-in-requires
+ledger-in-requires c κs = search needs
+
+new-requires : tie.Need-new-requires
+new-requires c κs = search needs
+
+new-requires-2 : tie.Need-new-requires-2
+new-requires-2 c κs = search needs
+
+reply-requires : tie.Need-reply-requires
+reply-requires c κs = search needs
+
+reply-number-requires : tie.Need-reply-number-requires
+reply-number-requires c κs = search needs
+
+keep-requires : tie.Need-keep-requires
+keep-requires c κs = search needs
+
+returns : tie.Need-returns
+returns c =
+    let e = ap₂ (λ (k : ChannelNumber) (n : TickNumber). Reply (k .0) (n .0) (c .before .before .before .before .before .before .before .before .before .args .status)) (c .before .before .before .before .before .before .new .ensures) (c .before .before .before .before .before .new2 .ensures) in
+    let a = c .before .before .before .before .reply .ensures in
+    answers _ (c .before .before .before .before .before .before .before .ledger-in .ensures) e (a .1) (a .0) (c .before .before .reply-number .ensures) (c .keep .ensures)
+
+pub rk-ledger-reply-spec : {M : Type 1} → statement M
+rk-ledger-reply-spec =
+    tie.close
+    (tie.spec
+    ledger-in-requires
+    new-requires
+    new-requires-2
+    reply-requires
+    reply-number-requires
+    keep-requires
+    returns)

@@ -1,0 +1,54 @@
+-- A ledger call through the host in the book's words, and a row of such calls on words that rk_ledger_open wrote. No definition of the
+-- promises stands here: proofs/Promised.antt says of each function that what its promise allows is such a call.
+use Prim.Native.Nat.{ℕ}
+use mathlib.Core.Path.{_≡_}
+use mathlib.Core.List.{List, [], _∷_}
+use lib.Dec.{eqb}
+use lib.ListN.{length, getD}
+use mir.Syntax.{w64}
+use mir.Val.{Fits}
+use Rattle.terms.specs.Paper.{Paper, answer, pick}
+use Rattle.book.specs.State.{Asked, nothing, range, Book, StateRules}
+use Rattle.book.specs.Calls.{Call, numberTo, answerTo, nextOf, fresh, missingCount, heldCount}
+use Rattle.book.specs.Trace.{Calls, none, _▸_, History, start, _▸_⇒_}
+use Rattle.book.specs.Words.{handedOut, knownTop, pending, held, missing, count}
+use Rattle.ledger.specs.State.{ledgerOf}
+use Rattle.words.specs.Words.{wordsOf, bookIn}
+
+-- WHAT THE CALLER SEES of a count, which is one number of a told row: 0 beside a refusal
+abbrev pub counted : ℕ → ℕ → Paper
+counted number count = answer number (pick (eqb number 0) count 0 ∷ [])
+
+-- A CALL on the words w, which leaves w′ and of which the caller sees a: it is the book's own call on the book that w stands for
+pub record Called (w : List ℕ) (call : Call) (w′ : List ℕ) (a : Paper) : Type 0 where
+  pub number : a .number ≡ numberTo (bookIn w) call
+  pub answer-is : a ≡ answerTo (bookIn w) call
+  -- w′ stands for the next book, also where w breaks the rules
+  pub next-is : bookIn w′ ≡ nextOf (bookIn w) call
+  -- and where w is what a sound ledger is kept as, so is w′, word by word
+  pub words-are : (b : Book) → StateRules b → w ≡ wordsOf (ledgerOf b) → w′ ≡ wordsOf (ledgerOf (nextOf b call))
+  -- a refusal other than 12 leaves the very words
+  pub kept : (a .number ≡ 0 → ⊥) → (a .number ≡ 12 → ⊥) → w′ ≡ w
+
+-- A ROW OF CALLS: the words w and the history h come of these calls, on what a call of rk_ledger_open left
+pub data HostRan (channel : ℕ) : Calls → List ℕ → History → Type 0 where
+  opening : {w : List ℕ} → w ≡ wordsOf (ledgerOf (fresh channel)) → HostRan channel none w start
+  one-more : {calls : Calls} {w w′ : List ℕ} {h : History} {a : Paper} (call : Call) → HostRan channel calls w h → Called w call w′ a
+      → HostRan channel (calls ▸ call) w′ (h ▸ call ⇒ a)
+
+-- WHAT A LEDGER HAS TO TELL: channel, floor, top, how many numbers are missing, how many are held, and the pending request, 0 and 0 where there is none
+abbrev pub askedNumbers : Asked → List ℕ
+askedNumbers nothing = 0 ∷ 0 ∷ []
+askedNumbers (range first last) = first ∷ last ∷ []
+
+abbrev pub bookNumbers : Book → List ℕ
+bookNumbers b = b .channel ∷ b .floor ∷ b .top ∷ missingCount b ∷ heldCount b ∷ askedNumbers (b .pending)
+
+-- the same from the calls and their answers alone
+abbrev pub historyNumbers : ℕ → History → List ℕ
+historyNumbers channel h = channel ∷ length (handedOut h) ∷ knownTop h ∷ count (missing h) (knownTop h) ∷ count (held h) (knownTop h) ∷ askedNumbers (pending h)
+
+-- what owning an array of nine words tells of its list
+pub record Nine (w : List ℕ) : Type 0 where
+  pub nine : length w ≡ 9
+  pub low : (i : ℕ) → Fits w64 (getD w i 0)

@@ -1,0 +1,174 @@
+// What C and Rust may call on a ledger. Each function answers a number of document 01, 0 where all is well, and tells the rest through what
+// it is lent: a fixed row of numbers, which C declares as a struct of 64-bit numbers (include/rietknoest.h). A refusal writes nothing
+// there; only 12 changes a ledger, and only its top. A ledger is nine numbers, those of the crate `words`. They are the host's to keep and
+// not to read: the calls tell all there is to know.
+ghost use mathlib.Core.Path.{_≡_};
+ghost use Rattle.book.specs.Calls.{Tick, Announce, Request, Reply, openNumber};
+ghost use Rattle.ledger.specs.Papers.{paperOf, replyPaper};
+ghost use Rattle.words.specs.Told.{Tells};
+ghost use Rattle.words.specs.Calls.{keptBy, callTold, wordsAfter};
+ghost use Rattle.host_ledger.specs.Words.{openWords, ledgerTold};
+use ledger::Answer;
+use ledger::Ledger;
+use ledger::ReplyAnswer;
+use ledger::RequestAnswer;
+use ledger::TickAnswer;
+use terms::ChannelNumber;
+use terms::TickNumber;
+
+fn number_of(a: Answer) -> u32
+    ensures { λ r. ⌜ r ≡ paperOf a .number ⌝ }
+{
+    match a {
+        Answer::Done => 0,
+        Answer::Refused(why) => why.number(),
+    }
+}
+
+// Keeps the ledger that stands beside an answer: 0 and 12 store it, any other refusal leaves the words as they were.
+fn keep(state: &mut [u64; 9], answer: u32, next: Ledger)
+    ensures { λ _. ⌜ now (state .exit) ≡ keptBy answer next (now (state .entry)) ⌝ }
+{
+    if answer == 0 {
+        *state = words::state_of(next);
+    } else if answer == 12 {
+        *state = words::state_of(next);
+    }
+}
+
+// A fresh ledger for a channel; or 10, and the words stay as they were.
+#[no_mangle]
+pub extern "C" fn rk_ledger_open(channel: u16, state: &mut [u64; 9]) -> u32
+    ensures { λ r. ⌜ (r ≡ openNumber channel) × (now (state .exit) ≡ openWords channel (now (state .entry))) ⌝ }
+{
+    let opened = Ledger::opened(ChannelNumber::new(channel));
+    let fresh = opened.next;
+    let given = opened.answer;
+    let answer = number_of(given);
+    keep(state, answer, fresh);
+    answer
+}
+
+// Offers a tick. Told: the first number that the floor has newly passed and how many, perhaps none. 12 raises the top.
+#[no_mangle]
+pub extern "C" fn rk_ledger_tick(
+    state: &mut [u64; 9],
+    channel: u16,
+    number: u64,
+    told: &mut [u64; 2],
+) -> u32
+    ensures { λ r. ⌜ Tells (callTold (now (state .entry)) (Tick channel number)) (now (told .entry)) r (now (told .exit))
+        × (now (state .exit) ≡ wordsAfter (now (state .entry)) (Tick channel number)) ⌝ }
+{
+    let ticked = words::ledger_in(state).tick(ChannelNumber::new(channel), TickNumber::new(number));
+    let next = ticked.next;
+    let answer = ticked.answer;
+    match answer {
+        TickAnswer::Refused(why) => {
+            let n = why.number();
+            keep(state, n, next);
+            n
+        }
+        TickAnswer::Passed { first, count } => {
+            keep(state, 0, next);
+            *told = [first.value(), count];
+            0
+        }
+    }
+}
+
+// Announces the channel's last number.
+#[no_mangle]
+pub extern "C" fn rk_ledger_announce(state: &mut [u64; 9], channel: u16, last: u64) -> u32
+    ensures { λ r. ⌜ (r ≡ callTold (now (state .entry)) (Announce channel last) .number)
+        × (now (state .exit) ≡ wordsAfter (now (state .entry)) (Announce channel last)) ⌝ }
+{
+    let noted = words::ledger_in(state).announce(
+        ChannelNumber::new(channel),
+        TickNumber::new(last),
+    );
+    let next = noted.next;
+    let given = noted.answer;
+    let answer = number_of(given);
+    keep(state, answer, next);
+    answer
+}
+
+// Asks for a resend request. Told: its first and last number, pending from now on.
+#[no_mangle]
+pub extern "C" fn rk_ledger_request(state: &mut [u64; 9], channel: u16, told: &mut [u64; 2]) -> u32
+    ensures { λ r. ⌜ Tells (callTold (now (state .entry)) (Request channel)) (now (told .entry)) r (now (told .exit))
+        × (now (state .exit) ≡ wordsAfter (now (state .entry)) (Request channel)) ⌝ }
+{
+    let asked = words::ledger_in(state).request(ChannelNumber::new(channel));
+    let asking = asked.next;
+    let answer = asked.answer;
+    match answer {
+        RequestAnswer::Refused(why) => {
+            let n = why.number();
+            keep(state, n, asking);
+            n
+        }
+        RequestAnswer::Granted { first, last } => {
+            keep(state, 0, asking);
+            *told = [first.value(), last.value()];
+            0
+        }
+    }
+}
+
+fn reply_number(a: ReplyAnswer) -> u32
+    ensures { λ r. ⌜ r ≡ replyPaper a .number ⌝ }
+{
+    match a {
+        ReplyAnswer::Cleared => 0,
+        ReplyAnswer::Refused(why) => why.number(),
+    }
+}
+
+// The exchange's reply to the pending request, which is cleared.
+#[no_mangle]
+pub extern "C" fn rk_ledger_reply(state: &mut [u64; 9], channel: u16, first: u64, status: u8) -> u32
+    ensures { λ r. ⌜ (r ≡ callTold (now (state .entry)) (Reply channel first status) .number)
+        × (now (state .exit) ≡ wordsAfter (now (state .entry)) (Reply channel first status)) ⌝ }
+{
+    let replied = words::ledger_in(state).reply(
+        ChannelNumber::new(channel),
+        TickNumber::new(first),
+        status,
+    );
+    let cleared = replied.next;
+    let given = replied.answer;
+    let answer = reply_number(given);
+    keep(state, answer, cleared);
+    answer
+}
+
+// What a ledger has to tell. Told: channel, floor, top, how many numbers are missing and how many are held, and the pending
+// request's first and last number, 0 and 0 where nothing is pending.
+#[no_mangle]
+pub extern "C" fn rk_ledger_told(state: &[u64; 9], told: &mut [u64; 7]) -> u32
+    ensures { λ r. ⌜ Tells (ledgerTold (now (state .entry))) (now (told .entry)) r (now (told .exit)) ⌝ }
+{
+    let ledger = words::ledger_in(state);
+    let missing = ledger.missing();
+    let held = ledger.held();
+    let given = missing.answer;
+    let answer = number_of(given);
+    let channel = ledger.channel;
+    let floor = ledger.floor;
+    let top = ledger.top;
+    let pending = ledger.pending;
+    if answer == 0 {
+        *told = [
+            channel.value() as u64,
+            floor.value(),
+            top.value(),
+            missing.count,
+            held.count,
+            words::first_asked(pending),
+            words::last_asked(pending),
+        ];
+    }
+    answer
+}

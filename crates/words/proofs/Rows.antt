@@ -1,0 +1,65 @@
+-- The words of a sound ledger stand for it (`words-back`), so a call through the host is that call on the ledger. Words that break the state rules are refused by 13. Assumes nothing.
+use Prim.Native.Nat.{ℕ, max, _<_}
+use mathlib.Core.Path.{_≡_, refl, sym, ap, _∙_}
+use mathlib.Core.Bool.{true, false}
+use mathlib.Core.Logic.{⊎-elim, _↔_}
+use mathlib.Core.List.{List}
+use lib.Dec.{eqb}
+use lib.ListN.{getD}
+use borrow.Author.Tests.{eq-eqb}
+use Rattle.terms.specs.Cases.{two}
+use Rattle.terms.specs.Counters.{tickOf}
+use Rattle.map.specs.Bits.{Words}
+use Rattle.book.specs.State.{Book, StateRules}
+use Rattle.book.specs.Calls.{Call, Tick, answerTo, nextOf}
+use Rattle.book.proofs.Answers.{keeps}
+use Rattle.book.proofs.Given.{given-13}
+use Rattle.ledger.specs.declared.Ledger.{Ledger}
+use Rattle.ledger.specs.State.{bookOf, ledgerOf}
+use Rattle.ledger.proofs.Promised.{far-raises-top}
+use Rattle.words.proofs.Back.{words-back, book-back, channel-too-large}
+use Rattle.words.specs.Words.{wordsOf, bookIn}
+use Rattle.words.specs.Calls.{keptBy, callTold, wordsAfter}
+
+-- A CALL ON THE WORDS OF A SOUND LEDGER IS THE CALL ON THE LEDGER
+
+module _ (b : Book) (r : StateRules b) (call : Call) where
+  abbrev words : List ℕ
+  words = wordsOf (ledgerOf b)
+
+  abbrev next : List ℕ
+  next = wordsOf (ledgerOf (nextOf b call))
+
+  -- a refusal other than 12 stores nothing, and then the next ledger is the same
+  kept : keptBy (answerTo b call .number) (ledgerOf (nextOf b call)) words ≡ next
+  unfolding keptBy
+  kept =
+      ⊎-elim (λ (t : eqb (answerTo b call .number) 0 ≡ true). rw t)
+      (λ (f : eqb (answerTo b call .number) 0 ≡ false).
+      ⊎-elim (λ (t : eqb (answerTo b call .number) 12 ≡ true). rw (f, t))
+      (λ (g : eqb (answerTo b call .number) 12 ≡ false). rw (f, g, keeps b call .same f g))
+      (two (eqb (answerTo b call .number) 12)))
+      (two (eqb (answerTo b call .number) 0))
+
+  pub call-words : wordsAfter words call ≡ next
+  unfolding wordsAfter
+  call-words = ap (λ (x : Book). keptBy (answerTo x call .number) (ledgerOf (nextOf x call)) words) (book-back b r) ∙ kept
+
+-- 12 changes the third word alone, the top: it is raised to the tick, if it was lower
+pub far-words : (l : Ledger) → Words (l .map .words) → StateRules (bookOf l) → (channel n : ℕ) → callTold (wordsOf l) (Tick channel n) .number ≡ 12
+    → wordsAfter (wordsOf l) (Tick channel n) ≡ wordsOf (record { channel = l .channel; floor = l .floor; top = tickOf (max (l .top .0) n); map = l .map; pending = l .pending })
+unfolding wordsAfter keptBy
+far-words l w r channel n f =
+    let e : bookIn (wordsOf l) ≡ bookOf l = ap bookOf (words-back l (w .four) r) in
+    let g : answerTo (bookOf l) (Tick channel n) .number ≡ 12 = sym (ap (λ (b : Book). answerTo b (Tick channel n) .number) e) ∙ f in
+    rw (e, g) (ap wordsOf (far-raises-top l _ channel n _ w (record { paper-is = refl; next-is = refl }) (eq-eqb _ 12 g)))
+
+-- WORDS THAT BREAK THE STATE RULES ARE REFUSED
+
+pub words-broken : (w : List ℕ) (call : Call) → (callTold w call .number ≡ 13) ↔ (StateRules (bookIn w) → ⊥)
+unfolding answerTo
+words-broken w call = given-13 (bookIn w) call
+
+-- a channel above 9,999 among them, however large
+pub channel-broken : (w : List ℕ) (call : Call) → 9999 < getD w 0 0 → callTold w call .number ≡ 13
+channel-broken w call h = words-broken w call .1 (channel-too-large w h)
