@@ -25,7 +25,7 @@ use Rattle.frame.proofs.write.Reads as write
 use Rattle.frame.proofs.write.Kinds as write-kinds
 use Rattle.frame.proofs.search.Reads as search-reads
 use Rattle.frame.proofs.search.Kinds as search-kinds
-use Rattle.scrub.specs.Scrub.{scrubbed, scrubAnswer}
+use Rattle.private.specs.Scrub.{scrubbed, scrubAnswer}
 use Rattle.scrub.proofs.scrub.Reads as scrub
 use Rattle.scrub.proofs.scrub.Kinds as scrub-kinds
 

@@ -9,32 +9,33 @@ use native.Mathlib.Omega.{arith}
 use lib.ListN.{length, drop}
 use Rattle.octets.specs.Octets.{Bytes}
 use Rattle.ledger.specs.State.{bookOf, ledgerOf}
-use Rattle.record.specs.Text.{summaryOf}
+use Rattle.report.specs.Text.{summaryOf}
 use Rattle.wire.specs.Frame.{readOf}
-use Rattle.walk.specs.Walk.{sights, tableOf}
-use Rattle.walk.specs.Records.{Covers}
-use Rattle.walk.specs.Literal.{Walk, literalWalk}
-use Rattle.walk.specs.Promises.{literal-walk}
+use Rattle.trail.specs.Walk.{sights, tableOf}
+use Rattle.trail.specs.Records.{Covers}
+use Rattle.trail.specs.Literal.{Walk, literalWalk}
+use Rattle.trail.specs.LiteralLaws.{literal-walk}
 use Rattle.lines.specs.Listing.{linesOf, listingOf}
 use Rattle.lines.specs.Laws.{listing-table}
 use Rattle.lines.specs.Fit.{walk-fits}
 use Rattle.lines.specs.Listed.{lastAt, listedOf, walked-book}
-use Rattle.stream.specs.declared.Stream.{Stream}
-use Rattle.stream.specs.declared.Fed.{Fed}
-use Rattle.stream.specs.declared.StreamAnswer.the-variants.{Done}
-use Rattle.stream.specs.State.{headOf, StreamRules}
-use Rattle.stream.specs.Calls.{Call, cutOf, closes, answerNumber}
-use Rattle.stream.specs.CallLaws.{Promised}
-use Rattle.stream.specs.Answers.{refused-leaves, refused-stream}
-use Rattle.stream.specs.Trace.{Calls, after, given, taken, ended, Row, heard}
-use Rattle.stream.specs.Words.{waitAt, decided, answered}
-use Rattle.stream.proofs.Rules.{rules-facts}
-use Rattle.stream.proofs.Cuttings.{every-cutting, one-state, ran-is, waits-there, waits-first}
+use Rattle.flow.specs.declared.Stream.{Stream}
+use Rattle.flow.specs.declared.Fed.{Fed}
+use Rattle.flow.specs.declared.StreamAnswer.the-variants.{Done}
+use Rattle.flow.specs.State.{headOf, StreamRules}
+use Rattle.flow.specs.Calls.{Call, cutOf, closes, answerNumber}
+use Rattle.flow.specs.CallLaws.{Promised}
+use Rattle.flow.specs.Answers.{refused-leaves, refused-stream}
+use Rattle.flow.specs.Trace.{Calls, after, given, taken, ended, Row, heard}
+use Rattle.flow.specs.Words.{waitAt, decided, answered}
+use Rattle.flow.proofs.Rules.{rules-facts}
+use Rattle.flow.proofs.Cuttings.{every-cutting, one-state, ran-is, waits-there, waits-first}
+use Rattle.flow.proofs.Promised as Opened
 use Rattle.stream.proofs.Promised as Promised
-use Rattle.follow.specs.Lent.{Lent}
-use Rattle.follow.specs.Rows.{Followed, HostFollows}
-use Rattle.follow.proofs.Cuttings as Follow
-use Rattle.follow.proofs.Cuttings.{every-host-cutting}
+use Rattle.lent.specs.Lent.{Lent}
+use Rattle.lent.specs.Rows.{Followed, HostFollows}
+use Rattle.follow.proofs.Promised as Follow
+use Rattle.lent.proofs.Cuttings.{every-host-cutting}
 use Rattle.stream.proofs.Promised.{ran-rules, ran-few, ran-heard, ran-closed, ran-number}
 
 -- "A place that answers 1 waits for more": `waitAt` is such a place, or the end, and every one before it lies inside a frame that was read
@@ -119,7 +120,7 @@ data Named : Type 0 where
 
 ties : Calls → Named
 ties calls =
-    let opened-is-opening = Promised.opened-is-opening in
+    let opened-is-opening = Opened.opened-is-opening in
     let feed-goes-on = Promised.feed-goes-on {calls = calls} in
     let close-goes-on = Promised.close-goes-on {calls = calls} in
     let host-opening = Follow.open-is-opening in

@@ -21,8 +21,8 @@ use Rattle.rules.specs.Verdicts.{verdictNumber}
 use Rattle.wire.specs.Frame.{readOf}
 use Rattle.wire.specs.Given.{Reads}
 use Rattle.wire.specs.GivenRead.{read-given}
-use Rattle.walk.specs.Seen.{seenOf}
-use Rattle.walk.specs.SeenLaws.{seen-answer}
+use Rattle.seen.specs.Seen.{seenOf}
+use Rattle.seen.specs.SeenLaws.{seen-answer}
 use Rattle.frame.specs.declared.Read.{Read}
 use Rattle.frame.specs.declared.Read.the-variants as read
 use Rattle.frame.specs.declared.Found.{Found}
@@ -48,28 +48,37 @@ use Rattle.book.specs.Answers.{OnlyTop}
 use Rattle.book.proofs.Answers.{keeps}
 use Rattle.ledger.specs.Papers.{tickPaper, requestPaper, replyPaper, paperOf}
 use Rattle.ledger.specs.Trace.{Promise}
-use Rattle.stream.specs.declared.StreamAnswer.{StreamAnswer}
-use Rattle.stream.specs.declared.StreamAnswer.the-variants as streamed
-use Rattle.stream.specs.Calls.{answerNumber}
+use Rattle.flow.specs.declared.StreamAnswer.{StreamAnswer}
+use Rattle.flow.specs.declared.StreamAnswer.the-variants as streamed
+use Rattle.flow.specs.Calls.{answerNumber}
 use Rattle.book.specs.Words.{answered}
 use Rattle.ledger.proofs.Promised.{refused-gives-back, far-raises-top}
 use Rattle.terms.proofs.OneAnswer as terms
 use Rattle.octets.proofs.OneAnswer as octets
 use Rattle.digits.proofs.OneAnswer as digits
 use Rattle.rules.proofs.OneAnswer as rules
+use Rattle.fields.proofs.OneAnswer as fields
 use Rattle.frame.proofs.OneAnswer as frame
 use Rattle.entries.proofs.OneAnswer as entries
+use Rattle.private.proofs.OneAnswer as private
 use Rattle.scrub.proofs.OneAnswer as scrub
 use Rattle.map.proofs.OneAnswer as map
 use Rattle.ledger.proofs.OneAnswer as ledger
 use Rattle.record.proofs.OneAnswer as «record»
+use Rattle.report.proofs.OneAnswer as report
 use Rattle.view.proofs.OneAnswer as view
+use Rattle.seen.proofs.OneAnswer as seen
+use Rattle.offers.proofs.OneAnswer as offers
+use Rattle.table.proofs.OneAnswer as table
 use Rattle.walk.proofs.OneAnswer as walk
+use Rattle.flow.proofs.OneAnswer as flow
 use Rattle.stream.proofs.OneAnswer as stream
 use Rattle.lines.proofs.OneAnswer as lines
 use Rattle.clean.proofs.OneAnswer as clean
 use Rattle.words.proofs.OneAnswer as words
 use Rattle.host.proofs.OneAnswer as host
+use Rattle.host_ledger.proofs.OneAnswer as host_ledger
+use Rattle.host_captures.proofs.OneAnswer as host_captures
 use Rattle.follow.proofs.OneAnswer as follow
 
 -- "EVERY PUBLIC ENTRY POINT TAKES ALL INPUT": of each public function, the theorem that its promise fixes the answer for all input.
@@ -120,9 +129,14 @@ rules-answers =
     let kind-of-one-answer = rules.kind-of-one-answer in
     let is-known-one-answer = rules.is-known-one-answer in
     let measure-one-answer = rules.measure-one-answer in
-    let judge-one-answer = rules.judge-one-answer in
-    let fields-ok-one-answer = rules.fields-ok-one-answer in
-    let entry-size-one-answer = rules.entry-size-one-answer in
+    named
+
+-- fields
+fields-answers : Named
+fields-answers =
+    let judge-one-answer = fields.judge-one-answer in
+    let fields-ok-one-answer = fields.fields-ok-one-answer in
+    let entry-size-one-answer = fields.entry-size-one-answer in
     named
 
 -- frame
@@ -147,7 +161,7 @@ entries-answers =
 -- scrub
 scrub-answers : Named
 scrub-answers =
-    let private-span-one-answer = scrub.private-span-one-answer in
+    let private-span-one-answer = private.private-span-one-answer in
     let scrub-known-one-answer = scrub.scrub-known-one-answer in
     let scrub-one-answer = scrub.scrub-one-answer in
     named
@@ -186,8 +200,8 @@ record-answers : Named
 record-answers =
     let put-one-answer = «record».put-one-answer in
     let record-at-one-answer = «record».record-at-one-answer in
-    let put-line-one-answer = «record».put-line-one-answer in
-    let put-summary-one-answer = «record».put-summary-one-answer in
+    let put-line-one-answer = report.put-line-one-answer in
+    let put-summary-one-answer = report.put-summary-one-answer in
     named
 
 -- view
@@ -196,22 +210,42 @@ view-answers =
     let view-of-one-answer = view.view-of-one-answer in
     named
 
+-- seen
+seen-answers : Named
+seen-answers =
+    let see-one-answer = seen.see-one-answer in
+    named
+
+-- offers
+offers-answers : Named
+offers-answers =
+    let offer-one-answer = offers.offer-one-answer in
+    named
+
+-- table
+table-answers : Named
+table-answers =
+    let made-one-answer = table.made-one-answer in
+    let note-one-answer = table.note-one-answer in
+    named
+
 -- walk
 walk-answers : Named
 walk-answers =
-    let see-one-answer = walk.see-one-answer in
-    let offer-one-answer = walk.offer-one-answer in
-    let made-one-answer = walk.made-one-answer in
-    let note-one-answer = walk.note-one-answer in
     let walk-one-answer = walk.walk-one-answer in
+    named
+
+-- flow
+flow-answers : Named
+flow-answers =
+    let Stream-opened-one-answer = flow.Stream-opened-one-answer in
     named
 
 -- stream
 stream-answers : Named
 stream-answers =
-    let Stream-opened-one-answer = stream.Stream-opened-one-answer in
-    let Stream-feed-one-answer = stream.Stream-feed-one-answer in
-    let Stream-close-one-answer = stream.Stream-close-one-answer in
+    let feed-one-answer = stream.feed-one-answer in
+    let close-one-answer = stream.close-one-answer in
     named
 
 -- lines
@@ -246,16 +280,26 @@ host-answers =
     let rk-private-one-answer = host.rk-private-one-answer in
     let rk-entries-one-answer = host.rk-entries-one-answer in
     let rk-entry-one-answer = host.rk-entry-one-answer in
-    let rk-ledger-open-one-answer = host.rk-ledger-open-one-answer in
-    let rk-ledger-tick-one-answer = host.rk-ledger-tick-one-answer in
-    let rk-ledger-announce-one-answer = host.rk-ledger-announce-one-answer in
-    let rk-ledger-request-one-answer = host.rk-ledger-request-one-answer in
-    let rk-ledger-reply-one-answer = host.rk-ledger-reply-one-answer in
-    let rk-ledger-told-one-answer = host.rk-ledger-told-one-answer in
-    let rk-walk-one-answer = host.rk-walk-one-answer in
-    let rk-listing-one-answer = host.rk-listing-one-answer in
-    let rk-clean-one-answer = host.rk-clean-one-answer in
-    let rk-is-clean-one-answer = host.rk-is-clean-one-answer in
+    named
+
+-- host_ledger
+host-ledger-answers : Named
+host-ledger-answers =
+    let rk-ledger-open-one-answer = host_ledger.rk-ledger-open-one-answer in
+    let rk-ledger-tick-one-answer = host_ledger.rk-ledger-tick-one-answer in
+    let rk-ledger-announce-one-answer = host_ledger.rk-ledger-announce-one-answer in
+    let rk-ledger-request-one-answer = host_ledger.rk-ledger-request-one-answer in
+    let rk-ledger-reply-one-answer = host_ledger.rk-ledger-reply-one-answer in
+    let rk-ledger-told-one-answer = host_ledger.rk-ledger-told-one-answer in
+    named
+
+-- host_captures
+host-captures-answers : Named
+host-captures-answers =
+    let rk-walk-one-answer = host_captures.rk-walk-one-answer in
+    let rk-listing-one-answer = host_captures.rk-listing-one-answer in
+    let rk-clean-one-answer = host_captures.rk-clean-one-answer in
+    let rk-is-clean-one-answer = host_captures.rk-is-clean-one-answer in
     named
 
 -- follow
@@ -399,25 +443,29 @@ record-buffers : Named
 record-buffers =
     let put-one-buffer = «record».put-one-buffer in
     let put-refused-keeps = «record».put-refused-keeps in
-    let put-line-one-buffer = «record».put-line-one-buffer in
-    let put-line-refused-keeps = «record».put-line-refused-keeps in
-    let put-summary-one-buffer = «record».put-summary-one-buffer in
-    let put-summary-refused-keeps = «record».put-summary-refused-keeps in
+    let put-line-one-buffer = report.put-line-one-buffer in
+    let put-line-refused-keeps = report.put-line-refused-keeps in
+    let put-summary-one-buffer = report.put-summary-one-buffer in
+    let put-summary-refused-keeps = report.put-summary-refused-keeps in
+    named
+
+table-buffers : Named
+table-buffers =
+    let note-one-buffer = table.note-one-buffer in
     named
 
 walk-buffers : Named
 walk-buffers =
-    let note-one-buffer = walk.note-one-buffer in
     let walk-one-buffer = walk.walk-one-buffer in
     let walk-refused-keeps = walk.walk-refused-keeps in
     named
 
 stream-buffers : Named
 stream-buffers =
-    let Stream-feed-one-buffer = stream.Stream-feed-one-buffer in
-    let Stream-feed-refused-keeps = stream.Stream-feed-refused-keeps in
-    let Stream-close-one-buffer = stream.Stream-close-one-buffer in
-    let Stream-close-refused-keeps = stream.Stream-close-refused-keeps in
+    let feed-one-buffer = stream.feed-one-buffer in
+    let feed-refused-keeps = stream.feed-refused-keeps in
+    let close-one-buffer = stream.close-one-buffer in
+    let close-refused-keeps = stream.close-refused-keeps in
     named
 
 lines-buffers : Named
@@ -432,7 +480,7 @@ clean-buffers =
     let clean-refused-keeps = clean.clean-refused-keeps in
     named
 
--- of all that a function of host is lent: told row, words and buffer
+-- of all that a function of host, host_ledger and host_captures is lent: told row, words and buffer
 host-buffers : Named
 host-buffers =
     let rk-read-one-buffer = host.rk-read-one-buffer in
@@ -449,26 +497,34 @@ host-buffers =
     let rk-entries-refused-keeps = host.rk-entries-refused-keeps in
     let rk-entry-one-buffer = host.rk-entry-one-buffer in
     let rk-entry-refused-keeps = host.rk-entry-refused-keeps in
-    let rk-ledger-open-one-buffer = host.rk-ledger-open-one-buffer in
-    let rk-ledger-open-refused-keeps = host.rk-ledger-open-refused-keeps in
-    let rk-ledger-tick-one-buffer = host.rk-ledger-tick-one-buffer in
-    let rk-ledger-tick-refused-keeps = host.rk-ledger-tick-refused-keeps in
-    let rk-ledger-announce-one-buffer = host.rk-ledger-announce-one-buffer in
-    let rk-ledger-announce-refused-keeps = host.rk-ledger-announce-refused-keeps in
-    let rk-ledger-request-one-buffer = host.rk-ledger-request-one-buffer in
-    let rk-ledger-request-refused-keeps = host.rk-ledger-request-refused-keeps in
-    let rk-ledger-reply-one-buffer = host.rk-ledger-reply-one-buffer in
-    let rk-ledger-reply-refused-keeps = host.rk-ledger-reply-refused-keeps in
-    let rk-ledger-told-one-buffer = host.rk-ledger-told-one-buffer in
-    let rk-ledger-told-refused-keeps = host.rk-ledger-told-refused-keeps in
-    let rk-walk-one-buffer = host.rk-walk-one-buffer in
-    let rk-walk-refused-keeps = host.rk-walk-refused-keeps in
-    let rk-listing-one-buffer = host.rk-listing-one-buffer in
-    let rk-listing-refused-keeps = host.rk-listing-refused-keeps in
-    let rk-clean-one-buffer = host.rk-clean-one-buffer in
-    let rk-clean-refused-keeps = host.rk-clean-refused-keeps in
-    let rk-is-clean-one-buffer = host.rk-is-clean-one-buffer in
-    let rk-is-clean-refused-keeps = host.rk-is-clean-refused-keeps in
+    named
+
+host-ledger-buffers : Named
+host-ledger-buffers =
+    let rk-ledger-open-one-buffer = host_ledger.rk-ledger-open-one-buffer in
+    let rk-ledger-open-refused-keeps = host_ledger.rk-ledger-open-refused-keeps in
+    let rk-ledger-tick-one-buffer = host_ledger.rk-ledger-tick-one-buffer in
+    let rk-ledger-tick-refused-keeps = host_ledger.rk-ledger-tick-refused-keeps in
+    let rk-ledger-announce-one-buffer = host_ledger.rk-ledger-announce-one-buffer in
+    let rk-ledger-announce-refused-keeps = host_ledger.rk-ledger-announce-refused-keeps in
+    let rk-ledger-request-one-buffer = host_ledger.rk-ledger-request-one-buffer in
+    let rk-ledger-request-refused-keeps = host_ledger.rk-ledger-request-refused-keeps in
+    let rk-ledger-reply-one-buffer = host_ledger.rk-ledger-reply-one-buffer in
+    let rk-ledger-reply-refused-keeps = host_ledger.rk-ledger-reply-refused-keeps in
+    let rk-ledger-told-one-buffer = host_ledger.rk-ledger-told-one-buffer in
+    let rk-ledger-told-refused-keeps = host_ledger.rk-ledger-told-refused-keeps in
+    named
+
+host-captures-buffers : Named
+host-captures-buffers =
+    let rk-walk-one-buffer = host_captures.rk-walk-one-buffer in
+    let rk-walk-refused-keeps = host_captures.rk-walk-refused-keeps in
+    let rk-listing-one-buffer = host_captures.rk-listing-one-buffer in
+    let rk-listing-refused-keeps = host_captures.rk-listing-refused-keeps in
+    let rk-clean-one-buffer = host_captures.rk-clean-one-buffer in
+    let rk-clean-refused-keeps = host_captures.rk-clean-refused-keeps in
+    let rk-is-clean-one-buffer = host_captures.rk-is-clean-one-buffer in
+    let rk-is-clean-refused-keeps = host_captures.rk-is-clean-refused-keeps in
     named
 
 follow-buffers : Named

@@ -23,9 +23,9 @@ use Rattle.frame.specs.Papers.{readPaper, read-one}
 use Rattle.wire.specs.Places.{body-of}
 use Rattle.wire.specs.Write.{Message, message, messageOf, writeOf, leftOf}
 use Rattle.wire.specs.RoundTrip.{Widths, write-read, read-then-write, write-then-read, write-then-body}
-use Rattle.scrub.specs.Scrub.{scrubbed, scrubAnswer}
-use Rattle.scrub.specs.Laws.{scrub-number, scrub-length, scrub-keeps, scrub-fills, scrub-reads, scrub-sum, refused-same, answer-as}
-use Rattle.scrub.specs.PrivateLaws.{PrivateByte, private-is}
+use Rattle.private.specs.Scrub.{scrubbed, scrubAnswer}
+use Rattle.private.specs.Laws.{scrub-number, scrub-length, scrub-keeps, scrub-fills, scrub-reads, scrub-sum, refused-same, answer-as}
+use Rattle.private.specs.PrivateLaws.{PrivateByte, private-is}
 use Rattle.frame.specs.declared.Found.{Found}
 use Rattle.frame.specs.Papers.{foundPaper}
 use Rattle.wire.specs.Lowest.{ReadsAt, LowestPlace, search-given-place, search-given-none, search-given-9}

@@ -18,8 +18,8 @@ use Rattle.ledger.proofs.Seam.{book-of}
 use Rattle.ledger.proofs.Promised as Promised
 use Rattle.ledger.proofs.Promised.{ran-is-trace, ran-demand-3}
 use Rattle.words.specs.Words.{bookIn}
-use Rattle.host.specs.Called.{Called, HostRan}
-use Rattle.host.proofs.Promised as Hosted
+use Rattle.host_ledger.specs.Called.{Called, HostRan}
+use Rattle.host_ledger.proofs.Promised as Hosted
 
 module _ (channel : ℕ) (opens : channel ≤ 9999) {calls : Calls} {l : Ledger} {h : History} (ran : Ran channel calls l h) where
   all : Demand3 h channel (bookOf l)

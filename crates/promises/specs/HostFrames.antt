@@ -16,8 +16,8 @@ use Rattle.wire.specs.Outcomes.{read-length}
 use Rattle.wire.specs.Places.{body-of}
 use Rattle.wire.specs.RoundTrip.{Widths, write-read, read-then-write, write-then-read, write-then-body}
 use Rattle.wire.specs.Write.{Message, message, messageOf, writeOf, leftOf}
-use Rattle.scrub.specs.Laws.{scrub-number, refused-same}
-use Rattle.host.specs.Called.{seen}
+use Rattle.private.specs.Laws.{scrub-number, refused-same}
+use Rattle.words.specs.Told.{seen}
 use Rattle.host.specs.Means.{HostRead, HostWrote, HostScrubbed}
 use Rattle.host.proofs.Means as Means
 use Rattle.promises.specs.Demand2.{ScrubbedFrame, scrubbed-frame}

@@ -1,5 +1,5 @@
 -- Demand 1 through the host, where an answer is a bare number: it is 0, or one of document 01's table. `Tells` says that it is a paper's, and
--- this is said of each paper that a function of `host` names in its promise.
+-- this is said of each paper that a function of `host`, `host_ledger` or `host_captures` names in its promise.
 use Prim.Native.Nat.{ℕ, _+_, _/_}
 use mathlib.Core.Path.{_≡_, refl, ap}
 use mathlib.Core.Bool.{Bool, true, false, not}
@@ -22,22 +22,23 @@ use Rattle.wire.specs.Write.{Message, writeOf}
 use Rattle.wire.specs.Search.{searchOf}
 use Rattle.wire.specs.Lowest.{search-given-9, search-given-0}
 use Rattle.entries.specs.Reader.{openOf, stands, entryAt, stepOf}
-use Rattle.scrub.specs.Scrub.{scrubAnswer}
+use Rattle.private.specs.Scrub.{scrubAnswer}
 use Rattle.book.specs.State.{Book, largest, has, soundOf}
 use Rattle.book.specs.Calls.{Call, Tick, Announce, Request, Reply, Missing, Held, tickNumber, replyStatus, isPending, startsAt, elsewhere, ownNumber, checkedOf, numberTo, answerTo, openNumber}
-use Rattle.walk.specs.Walk as walk
-use Rattle.clean.specs.Clean as clean
-use Rattle.stream.specs.declared.Stream.{Stream}
-use Rattle.stream.specs.State as stream
-use Rattle.stream.specs.State.{lastPlace}
-use Rattle.stream.specs.Calls as stream-calls
-use Rattle.stream.specs.Calls.{givenOf, numberFor, answerFor}
+use Rattle.trail.specs.Walk as walk
+use Rattle.wash.specs.Clean as clean
+use Rattle.flow.specs.declared.Stream.{Stream}
+use Rattle.flow.specs.State as stream
+use Rattle.flow.specs.State.{lastPlace}
+use Rattle.flow.specs.Calls as stream-calls
+use Rattle.flow.specs.Calls.{givenOf, numberFor, answerFor}
 use Rattle.words.specs.Told.{Tells}
-use Rattle.follow.specs.Lent.{lent, streamIn}
+use Rattle.lent.specs.Lent.{lent, streamIn}
 use Rattle.host.specs.Frames.{readTold, searchTold, privateTold, entriesTold, entryTold}
 use Rattle.words.specs.Words.{bookIn}
-use Rattle.host.specs.Words.{callTold, ledgerTold}
-use Rattle.host.specs.Captures.{listed, listingTold, cleanTold}
+use Rattle.words.specs.Calls.{callTold}
+use Rattle.host_ledger.specs.Words.{ledgerTold}
+use Rattle.host_captures.specs.Captures.{listed, listingTold, cleanTold}
 use Rattle.host.proofs.rk_read.Reads as rk-read
 use Rattle.host.proofs.rk_read.Kinds as rk-read-kinds
 use Rattle.host.proofs.rk_write.Reads as rk-write
@@ -52,26 +53,26 @@ use Rattle.host.proofs.rk_entries.Reads as rk-entries
 use Rattle.host.proofs.rk_entries.Kinds as rk-entries-kinds
 use Rattle.host.proofs.rk_entry.Reads as rk-entry
 use Rattle.host.proofs.rk_entry.Kinds as rk-entry-kinds
-use Rattle.host.proofs.rk_ledger_open.Reads as rk-ledger-open
-use Rattle.host.proofs.rk_ledger_open.Kinds as rk-ledger-open-kinds
-use Rattle.host.proofs.rk_ledger_tick.Reads as rk-ledger-tick
-use Rattle.host.proofs.rk_ledger_tick.Kinds as rk-ledger-tick-kinds
-use Rattle.host.proofs.rk_ledger_announce.Reads as rk-ledger-announce
-use Rattle.host.proofs.rk_ledger_announce.Kinds as rk-ledger-announce-kinds
-use Rattle.host.proofs.rk_ledger_request.Reads as rk-ledger-request
-use Rattle.host.proofs.rk_ledger_request.Kinds as rk-ledger-request-kinds
-use Rattle.host.proofs.rk_ledger_reply.Reads as rk-ledger-reply
-use Rattle.host.proofs.rk_ledger_reply.Kinds as rk-ledger-reply-kinds
-use Rattle.host.proofs.rk_ledger_told.Reads as rk-ledger-told
-use Rattle.host.proofs.rk_ledger_told.Kinds as rk-ledger-told-kinds
-use Rattle.host.proofs.rk_walk.Reads as rk-walk
-use Rattle.host.proofs.rk_walk.Kinds as rk-walk-kinds
-use Rattle.host.proofs.rk_listing.Reads as rk-listing
-use Rattle.host.proofs.rk_listing.Kinds as rk-listing-kinds
-use Rattle.host.proofs.rk_clean.Reads as rk-clean
-use Rattle.host.proofs.rk_clean.Kinds as rk-clean-kinds
-use Rattle.host.proofs.rk_is_clean.Reads as rk-is-clean
-use Rattle.host.proofs.rk_is_clean.Kinds as rk-is-clean-kinds
+use Rattle.host_ledger.proofs.rk_ledger_open.Reads as rk-ledger-open
+use Rattle.host_ledger.proofs.rk_ledger_open.Kinds as rk-ledger-open-kinds
+use Rattle.host_ledger.proofs.rk_ledger_tick.Reads as rk-ledger-tick
+use Rattle.host_ledger.proofs.rk_ledger_tick.Kinds as rk-ledger-tick-kinds
+use Rattle.host_ledger.proofs.rk_ledger_announce.Reads as rk-ledger-announce
+use Rattle.host_ledger.proofs.rk_ledger_announce.Kinds as rk-ledger-announce-kinds
+use Rattle.host_ledger.proofs.rk_ledger_request.Reads as rk-ledger-request
+use Rattle.host_ledger.proofs.rk_ledger_request.Kinds as rk-ledger-request-kinds
+use Rattle.host_ledger.proofs.rk_ledger_reply.Reads as rk-ledger-reply
+use Rattle.host_ledger.proofs.rk_ledger_reply.Kinds as rk-ledger-reply-kinds
+use Rattle.host_ledger.proofs.rk_ledger_told.Reads as rk-ledger-told
+use Rattle.host_ledger.proofs.rk_ledger_told.Kinds as rk-ledger-told-kinds
+use Rattle.host_captures.proofs.rk_walk.Reads as rk-walk
+use Rattle.host_captures.proofs.rk_walk.Kinds as rk-walk-kinds
+use Rattle.host_captures.proofs.rk_listing.Reads as rk-listing
+use Rattle.host_captures.proofs.rk_listing.Kinds as rk-listing-kinds
+use Rattle.host_captures.proofs.rk_clean.Reads as rk-clean
+use Rattle.host_captures.proofs.rk_clean.Kinds as rk-clean-kinds
+use Rattle.host_captures.proofs.rk_is_clean.Reads as rk-is-clean
+use Rattle.host_captures.proofs.rk_is_clean.Kinds as rk-is-clean-kinds
 use Rattle.follow.proofs.rk_stream_open.Reads as rk-stream-open
 use Rattle.follow.proofs.rk_stream_open.Kinds as rk-stream-open-kinds
 use Rattle.follow.proofs.rk_stream_feed.Reads as rk-stream-feed

@@ -13,21 +13,21 @@ use borrow.Author.Tests.{eqb-true}
 use Rattle.terms.specs.Paper.{pick}
 use Rattle.terms.specs.Cases.{two, clash}
 use Rattle.book.specs.State.{orElse}
-use Rattle.scrub.specs.Scrub.{scrubbed}
+use Rattle.private.specs.Scrub.{scrubbed}
 use Rattle.steps.specs.Walk.{within}
 use Rattle.steps.specs.Frames.{joined, eachOf, acceptedOf, each-joined}
 use Rattle.promises.specs.Parts.{piece-accepts}
-use Rattle.walk.specs.Seen.{seenOf, saysOf}
-use Rattle.walk.specs.SeenLaws.{seen-kept, seen-fits}
-use Rattle.clean.specs.Clean.{cleanOf}
-use Rattle.clean.specs.Accepted.{acceptedIn, clean-is}
-use Rattle.clean.specs.Own.{seen-own}
-use Rattle.stream.specs.declared.Stream.{Stream}
-use Rattle.stream.specs.State.{valueOf, opened}
-use Rattle.stream.specs.Calls.{Call, Feed, Close, cutOf, closes, numberFor, numberTo, nextFor, nextOf}
-use Rattle.stream.specs.Trace.{Calls, none, _▸_, Asked, after, accepted, taken, ended, Row}
-use Rattle.stream.specs.Words.{waitAt, answered}
-use Rattle.stream.proofs.Cuttings.{every-cutting, closing-call}
+use Rattle.seen.specs.Seen.{seenOf, saysOf}
+use Rattle.seen.specs.SeenLaws.{seen-kept, seen-fits}
+use Rattle.wash.specs.Clean.{cleanOf}
+use Rattle.wash.specs.Accepted.{acceptedIn, clean-is}
+use Rattle.wash.specs.Own.{seen-own}
+use Rattle.flow.specs.declared.Stream.{Stream}
+use Rattle.flow.specs.State.{valueOf, opened}
+use Rattle.flow.specs.Calls.{Call, Feed, Close, cutOf, closes, numberFor, numberTo, nextFor, nextOf}
+use Rattle.flow.specs.Trace.{Calls, none, _▸_, Asked, after, accepted, taken, ended, Row}
+use Rattle.flow.specs.Words.{waitAt, answered}
+use Rattle.flow.proofs.Cuttings.{every-cutting, closing-call}
 
 -- what one more call decides
 abbrev pub pieceOf : Calls → Asked → List ℕ
