@@ -18,21 +18,6 @@ pub fn put(b: &mut [u8], at: usize, w: usize, v: u64) {
     octets::put(b, at, w, v);
 }
 
-// Field i of a list: its place behind `at`, its width and its value.
-fn field(b: &mut [u8], at: usize, list: &[[u64; 3]], i: usize) {
-    if i < list.len() {
-        let place = list[i][0] as usize;
-        let w = list[i][1] as usize;
-        put(b, sums::add(at, place), w, list[i][2]);
-    }
-}
-
-pub fn fields(b: &mut [u8], at: usize, list: &[[u64; 3]]) {
-    for i in 0..list.len() {
-        field(b, at, list, i);
-    }
-}
-
 pub fn fill(b: &mut [u8], at: usize, n: usize, v: u8) {
     let end = sums::add(at, n);
     if at <= end {
@@ -64,8 +49,10 @@ pub fn letters(b: &mut [u8], at: usize, n: usize, x: &mut u64) {
     draws(b, at, n, 65, 26, x);
 }
 
-pub fn noise(b: &mut [u8], at: usize, n: usize, x: &mut u64) {
+// Answers the place behind the noise.
+pub fn noise(b: &mut [u8], at: usize, n: usize, x: &mut u64) -> usize {
     draws(b, at, n, 0, 256, x);
+    sums::add(at, n)
 }
 
 pub fn raise(b: &mut [u8], at: usize, x: &mut u64) {

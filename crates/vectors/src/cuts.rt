@@ -8,12 +8,12 @@ use crate::rows;
 use crate::sums;
 use crate::text;
 use crate::walks;
+use flow::Fed;
+use flow::Stream;
+use flow::StreamAnswer;
+use flow::Tally;
 use ledger::Pending;
 use map::Map;
-use stream::Fed;
-use stream::Stream;
-use stream::StreamAnswer;
-use stream::Tally;
 
 // What follows a call's line: the lines `at`, or the lines `rec`. SPARSE is as REC, but a feed that is answered 0 and gives
 // no record has no line.
@@ -65,85 +65,71 @@ fn number_of(f: Fed) -> u64 {
 }
 
 // The line `at` of record k.
-fn at_line(t: &mut [u8], out: &[u8], case: u64, k: usize) {
+fn at_line(out: &[u8], case: u64, k: usize) {
     let r = record::record_at(out, (k % 65536) * 64);
-    let known = [
-        case,
-        r.place,
-        r.answer as u64,
-        r.floor.value(),
-        r.top.value(),
-    ];
-    let n = text::start(t, b"at", &known);
-    text::end(t, n);
+    text::start(b"at", case);
+    text::four(r.place, r.answer as u64, r.floor.value(), r.top.value());
+    text::end();
 }
 
-fn at_lines(t: &mut [u8], out: &[u8], case: u64, records: usize) {
+fn at_lines(out: &[u8], case: u64, records: usize) {
     for k in 0..records {
-        at_line(t, out, case, k);
+        at_line(out, case, k);
     }
 }
 
 // Ends a line `feed` or `close` with its items from ANSWER on. All of `out` was 0xA5, and its second half still is.
-fn end(t: &mut [u8], n: usize, out: &[u8], room: usize, f: Fed) {
-    let st = f.stream;
-    let tally = st.tally;
-    let l = tally.ledger;
+fn end(out: &[u8], room: usize, f: Fed) {
     let changed = buffer::changed(
         out,
         buffer::second_half(out),
         (f.records % 65536) * 64,
         room,
     );
-    let given = [number_of(f), f.records as u64, changed];
-    let answered = text::numbers(t, n, &given);
-    let known = [
-        st.place,
-        st.len as u64,
-        ledgers::one_if(st.seeking),
-        ledgers::one_if(st.closed),
-        tally.frames,
-        tally.refused,
-    ];
-    let told = text::numbers(t, answered, &known);
-    ledgers::end(t, told, l);
+    text::three(number_of(f), f.records as u64, changed);
+    let st = f.stream;
+    text::two(st.place, st.len as u64);
+    text::two(ledgers::one_if(st.seeking), ledgers::one_if(st.closed));
+    let tally = st.tally;
+    text::two(tally.frames, tally.refused);
+    let l = tally.ledger;
+    ledgers::end(l);
 }
 
 // The rest of the line of a call, and the lines of its records.
-fn lines(t: &mut [u8], n: usize, out: &[u8], call: Call, f: Fed) {
-    end(t, n, out, call.room, f);
+fn lines(out: &[u8], call: Call, f: Fed) {
+    end(out, call.room, f);
     if call.shown == AT {
-        at_lines(t, out, call.case, f.records);
+        at_lines(out, call.case, f.records);
     } else {
-        walks::rec_lines(t, out, call.case, f.records);
+        walks::rec_lines(out, call.case, f.records);
     }
 }
 
 // Feeds a cut, with the first `room` bytes of `out` lent.
 fn fed(st: Stream, cut: &[u8], out: &mut [u8], room: usize) -> Fed {
-    buffer::fill_from(out, 0, 0xA5);
     if room <= out.len() {
-        return st.feed(cut, &mut out[0..room]);
+        return stream::feed(st, cut, &mut out[0..room]);
     }
-    st.feed(cut, out)
+    stream::feed(st, cut, out)
 }
 
 // The same for the closing call.
 fn closed(st: Stream, out: &mut [u8], room: usize) -> Fed {
-    buffer::fill_from(out, 0, 0xA5);
     if room <= out.len() {
-        return st.close(&mut out[0..room]);
+        return stream::close(st, &mut out[0..room]);
     }
-    st.close(out)
+    stream::close(st, out)
 }
 
 // The line `feed` of n bytes, unless it is left out, and the lines of its records.
-fn feed_lines(t: &mut [u8], n: usize, out: &[u8], call: Call, f: Fed) {
+fn feed_lines(n: usize, out: &[u8], call: Call, f: Fed) {
     if (call.shown == SPARSE) & (number_of(f) == 0) & (f.records == 0) {
         return;
     }
-    let started = text::start(t, b"feed", &[call.case, n as u64, call.room as u64]);
-    lines(t, started, out, call, f);
+    text::start(b"feed", call.case);
+    text::two(n as u64, call.room as u64);
+    lines(out, call, f);
 }
 
 // How many bytes of a cut of n bytes were taken.
@@ -152,10 +138,11 @@ fn taken(f: Fed, n: usize) -> usize {
 }
 
 // Feeds the next n bytes, and prints the call.
-fn feed(t: &mut [u8], b: &[u8], out: &mut [u8], call: Call, w: Way, n: usize) -> Way {
+fn feed(b: &[u8], call: Call, w: Way, n: usize) -> Way {
+    let mut out = [0xA5u8; 36864];
     let st = w.stream;
-    let f = fed(st, buffer::part(b, w.done, n), out, call.room);
-    feed_lines(t, n, out, call, f);
+    let f = fed(st, buffer::part(b, w.done, n), &mut out, call.room);
+    feed_lines(n, &out, call, f);
     let stream = f.stream;
     Way {
         stream,
@@ -164,11 +151,13 @@ fn feed(t: &mut [u8], b: &[u8], out: &mut [u8], call: Call, w: Way, n: usize) ->
 }
 
 // Closes, and prints the call.
-fn close(t: &mut [u8], out: &mut [u8], call: Call, w: Way) -> Way {
+fn close(call: Call, w: Way) -> Way {
+    let mut out = [0xA5u8; 36864];
     let st = w.stream;
-    let f = closed(st, out, call.room);
-    let started = text::start(t, b"close", &[call.case, call.room as u64]);
-    lines(t, started, out, call, f);
+    let f = closed(st, &mut out, call.room);
+    text::start(b"close", call.case);
+    text::number(call.room as u64);
+    lines(&out, call, f);
     let stream = f.stream;
     Way {
         stream,
@@ -177,68 +166,71 @@ fn close(t: &mut [u8], out: &mut [u8], call: Call, w: Way) -> Way {
 }
 
 // The first i of `size` bytes, then the rest.
-fn two_cuts(t: &mut [u8], b: &[u8], out: &mut [u8], case: u64, size: usize, i: usize) {
+fn two_cuts(b: &[u8], case: u64, size: usize, i: usize) {
     let call = roomy(case, AT);
-    let first = feed(t, b, out, call, begun(Stream::opened()), i);
-    let second = feed(t, b, out, call, first, sums::sub(size, i));
-    close(t, out, call, second);
+    let first = feed(b, call, begun(Stream::opened()), i);
+    let second = feed(b, call, first, sums::sub(size, i));
+    close(call, second);
 }
 
 // Each place of `size` bytes, both ends too.
-fn cut_at_each(t: &mut [u8], b: &[u8], out: &mut [u8], case: u64, size: usize) {
+fn cut_at_each(b: &[u8], case: u64, size: usize) {
     for i in 0..sums::add(size, 1) {
-        two_cuts(t, b, out, case, size, i);
+        two_cuts(b, case, size, i);
     }
 }
 
 const SHORT: [u64; 11] = [0, 1, 2, 7, 8, 9, 13, 15, 16, 17, 19];
 
 // Every cut of short capture k.
-pub fn every_cut(t: &mut [u8], b: &mut [u8], out: &mut [u8], r: &[u8], k: u64) {
+pub fn every_cut(r: &[u8], k: u64) {
+    let mut b = [0u8; 8192];
     let number = sums::entry_of(&SHORT, k);
-    let size = hand::capture(b, r, number);
-    cut_at_each(t, b, out, number, size);
+    let size = hand::capture(&mut b, r, number);
+    cut_at_each(&b, number, size);
 }
 
 // One byte a call.
-fn bytes(t: &mut [u8], b: &[u8], out: &mut [u8], call: Call, from: Way, size: usize) -> Way {
+fn bytes(b: &[u8], call: Call, from: Way, size: usize) -> Way {
     let mut w = from;
     for _ in 0..size {
-        w = feed(t, b, out, call, w, 1);
+        w = feed(b, call, w, 1);
     }
     w
 }
 
-fn bytes_closed(t: &mut [u8], b: &[u8], out: &mut [u8], case: u64, size: usize) {
+fn bytes_closed(b: &[u8], case: u64, size: usize) {
     let call = roomy(case, SPARSE);
-    let w = bytes(t, b, out, call, begun(Stream::opened()), size);
-    close(t, out, call, w);
+    let w = bytes(b, call, begun(Stream::opened()), size);
+    close(call, w);
 }
 
 const BY_BYTE: [u64; 5] = [0, 3, 8, 12, 18];
 
 // Capture k of those that arrive byte by byte.
-pub fn byte_by_byte(t: &mut [u8], b: &mut [u8], out: &mut [u8], r: &[u8], k: u64) {
+pub fn byte_by_byte(r: &[u8], k: u64) {
+    let mut b = [0u8; 8192];
     let number = sums::entry_of(&BY_BYTE, k);
-    let size = hand::capture(b, r, number);
-    bytes_closed(t, b, out, sums::plus(100, number), size);
+    let size = hand::capture(&mut b, r, number);
+    bytes_closed(&b, sums::plus(100, number), size);
 }
 
 // All of a frame but its last byte, then the last one; in the last case it is closed without it.
-fn long_cuts(t: &mut [u8], b: &[u8], out: &mut [u8], case: u64, size: usize) {
+fn long_cuts(b: &[u8], case: u64, size: usize) {
     let head = sums::sub(size, 1);
     if case != 202 {
-        two_cuts(t, b, out, case, size, head);
+        two_cuts(b, case, size, head);
         return;
     }
     let call = roomy(case, AT);
-    let w = feed(t, b, out, call, begun(Stream::opened()), head);
-    close(t, out, call, w);
+    let w = feed(b, call, begun(Stream::opened()), head);
+    close(call, w);
 }
 
-pub fn long_frame(t: &mut [u8], b: &mut [u8], out: &mut [u8], case: u64) {
-    let size = hand::base(b, 0, if case == 200 { 11 } else { 13 });
-    long_cuts(t, b, out, case, size);
+pub fn long_frame(case: u64) {
+    let mut b = [0u8; 8192];
+    let size = hand::base(&mut b, 0, if case == 200 { 11 } else { 13 });
+    long_cuts(&b, case, size);
 }
 
 const CUTS: [u64; 6] = [6, 2, 4, 3, 0, 1];
@@ -248,10 +240,10 @@ fn few(i: u64) -> usize {
 }
 
 // A few bytes a call; those that were refused come again.
-fn few_bytes(t: &mut [u8], b: &[u8], out: &mut [u8], call: Call, from: Way) -> Way {
+fn few_bytes(b: &[u8], call: Call, from: Way) -> Way {
     let mut w = from;
     for i in 0..6u64 {
-        w = feed(t, b, out, call, w, few(i));
+        w = feed(b, call, w, few(i));
     }
     w
 }
@@ -264,20 +256,21 @@ fn near_the_end() -> Way {
 }
 
 // The closing call with little room, then with enough.
-fn close_twice(t: &mut [u8], out: &mut [u8], case: u64, little: usize, w: Way) -> Way {
-    let tried = close(t, out, with_room(case, little, REC), w);
-    close(t, out, roomy(case, REC), tried)
+fn close_twice(case: u64, little: usize, w: Way) -> Way {
+    let tried = close(with_room(case, little, REC), w);
+    close(roomy(case, REC), tried)
 }
 
-fn last_bytes(t: &mut [u8], b: &[u8], out: &mut [u8], case: u64) {
-    let w = few_bytes(t, b, out, roomy(case, REC), near_the_end());
-    close_twice(t, out, case, 63, w);
+fn last_bytes(b: &[u8], case: u64) {
+    let w = few_bytes(b, roomy(case, REC), near_the_end());
+    close_twice(case, 63, w);
 }
 
 // The front of capture 0, near the last place.
-pub fn last_places(t: &mut [u8], b: &mut [u8], out: &mut [u8], r: &[u8], case: u64) {
-    hand::capture(b, r, 0);
-    last_bytes(t, b, out, case);
+pub fn last_places(r: &[u8], case: u64) {
+    let mut b = [0u8; 8192];
+    hand::capture(&mut b, r, 0);
+    last_bytes(&b, case);
 }
 
 fn tally_cells(r: &[u8], row: usize) -> Tally {
@@ -307,18 +300,17 @@ fn stream_row(r: &[u8], row: usize) -> Stream {
 }
 
 // Three calls, each on the same stream.
-fn three_calls(t: &mut [u8], b: &[u8], out: &mut [u8], case: u64, w: Way) {
+fn three_calls(b: &[u8], case: u64, w: Way) {
     let call = roomy(case, AT);
-    feed(t, b, out, call, w, 1);
-    feed(t, b, out, call, w, 0);
-    close(t, out, call, w);
+    feed(b, call, w, 1);
+    feed(b, call, w, 0);
+    close(call, w);
 }
 
 // The stream of row i.
-pub fn row(t: &mut [u8], b: &mut [u8], out: &mut [u8], r: &[u8], i: u64) {
-    buffer::put(b, 0, 1, 0x20);
+pub fn row(r: &[u8], i: u64) {
     let w = begun(stream_row(r, ((i % 65536) * 12) as usize));
-    three_calls(t, b, out, sums::plus(400, i), w);
+    three_calls(b" ", sums::plus(400, i), w);
 }
 
 // How long the next cut is, before it is cut to what is left.
@@ -342,70 +334,63 @@ fn any_room(x: &mut u64) -> usize {
 }
 
 // One cut more of `size` bytes, where some are left.
-fn any_feed(
-    t: &mut [u8],
-    b: &[u8],
-    out: &mut [u8],
-    case: u64,
-    size: usize,
-    w: Way,
-    x: &mut u64,
-) -> Way {
+fn any_feed(b: &[u8], case: u64, size: usize, w: Way, x: &mut u64) -> Way {
     if size <= w.done {
         return w;
     }
     let left = sums::sub(size, w.done);
     let n = sums::smaller(any_size(size as u64, x), left as u64) as usize;
-    feed(t, b, out, with_room(case, any_room(x), REC), w, n)
+    feed(b, with_room(case, any_room(x), REC), w, n)
 }
 
 // As long as bytes are left, but at most 24 times.
-fn any_feeds(t: &mut [u8], b: &[u8], out: &mut [u8], case: u64, size: usize, x: &mut u64) -> Way {
+fn any_feeds(b: &[u8], case: u64, size: usize, x: &mut u64) -> Way {
     let mut w = begun(Stream::opened());
     for _ in 0..24u64 {
-        w = any_feed(t, b, out, case, size, w, x);
+        w = any_feed(b, case, size, w, x);
     }
     w
 }
 
 // All of `size` bytes: what is left after that goes in one cut.
-fn any_cuts(t: &mut [u8], b: &[u8], out: &mut [u8], case: u64, size: usize, x: &mut u64) -> Way {
-    let w = any_feeds(t, b, out, case, size, x);
-    feed(t, b, out, roomy(case, REC), w, sums::sub(size, w.done))
+fn any_cuts(b: &[u8], case: u64, size: usize, x: &mut u64) -> Way {
+    let w = any_feeds(b, case, size, x);
+    feed(b, roomy(case, REC), w, sums::sub(size, w.done))
 }
 
 // The closing call, perhaps with little room first.
-fn any_close(t: &mut [u8], out: &mut [u8], case: u64, w: Way, x: &mut u64) -> Way {
+fn any_close(case: u64, w: Way, x: &mut u64) -> Way {
     if generator::pick(x, 4) == 0 {
-        return close_twice(t, out, case, generator::place(x, 130), w);
+        return close_twice(case, generator::place(x, 130), w);
     }
-    close(t, out, roomy(case, REC), w)
+    close(roomy(case, REC), w)
 }
 
 // Two calls after the closing one.
-fn late_calls(t: &mut [u8], b: &[u8], out: &mut [u8], case: u64, w: Way) -> Way {
-    let late = feed(t, b, out, roomy(case, REC), w, 0);
-    close(t, out, with_room(case, 0, REC), late)
+fn late_calls(b: &[u8], case: u64, w: Way) -> Way {
+    let late = feed(b, roomy(case, REC), w, 0);
+    close(with_room(case, 0, REC), late)
 }
 
-fn any_calls(t: &mut [u8], b: &[u8], out: &mut [u8], case: u64, size: usize, x: &mut u64) -> Way {
-    let all = any_cuts(t, b, out, case, size, x);
-    let ended = any_close(t, out, case, all, x);
-    late_calls(t, b, out, case, ended)
+fn any_calls(b: &[u8], case: u64, size: usize, x: &mut u64) -> Way {
+    let all = any_cuts(b, case, size, x);
+    let ended = any_close(case, all, x);
+    late_calls(b, case, ended)
 }
 
 // The line `sum` of a stream.
-fn sum_of(t: &mut [u8], case: u64, w: Way) {
+fn sum_of(case: u64, w: Way) {
     let st = w.stream;
     let tally = st.tally;
     let l = tally.ledger;
-    walks::sum_line(t, case, tally.frames, tally.refused, l);
+    walks::sum_line(case, tally.frames, tally.refused, l);
 }
 
-pub fn generated(t: &mut [u8], b: &mut [u8], out: &mut [u8], case: u64) {
+pub fn generated(case: u64) {
+    let mut b = [0u8; 8192];
     let mut x = 0;
     generator::seed(&mut x, 10, case);
-    let size = made::capture(b, &mut x);
-    let w = any_calls(t, b, out, case, size, &mut x);
-    sum_of(t, case, w);
+    let size = made::capture(&mut b, &mut x);
+    let w = any_calls(&b, case, size, &mut x);
+    sum_of(case, w);
 }

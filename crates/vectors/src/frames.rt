@@ -1,4 +1,4 @@
-// Reading, writing, scrubbing and searching: docs/VECTORS.md, 5.1, 5.2, 5.3 and 5.5. `b` is the buffer, `t` the line.
+// Reading, writing, scrubbing and searching: docs/VECTORS.md, 5.1, 5.2, 5.3 and 5.5. `b` is the buffer.
 use crate::buffer;
 use crate::generator;
 use crate::hand;
@@ -17,9 +17,9 @@ const TYPES: [u64; 10] = [0, 1, 2, 3, 4, 11, 12, 13, 14, 15];
 const OTHERS: [u64; 3] = [0x4D44323131, 0x4D44323137, 0x4D44303030];
 
 // The items of a line `read` behind its case.
-fn read_items(t: &mut [u8], n: usize, bytes: &[u8]) -> usize {
+fn read_items(bytes: &[u8]) {
     match frame::read_at(bytes, 0) {
-        Read::Refused(why) => text::number(t, n, text::number_of(why)),
+        Read::Refused(why) => text::refusal(why),
         Read::Frame {
             msg_type,
             sending_time,
@@ -27,28 +27,30 @@ fn read_items(t: &mut [u8], n: usize, bytes: &[u8]) -> usize {
             body_len,
         } => {
             let size = body_len as u64;
-            let told = text::numbers(t, n, &[0, sums::plus(28, size)]);
-            let typed = text::msg_type(t, told, msg_type as u64);
-            let headed = text::numbers(t, typed, &[sending_time, seq.value(), size]);
-            text::hex(t, headed, frame::body_at(bytes, 0))
+            text::two(0, sums::plus(28, size));
+            text::msg_type(msg_type as u64);
+            text::three(sending_time, seq.value(), size);
+            text::hex(frame::body_at(bytes, 0));
         }
     }
 }
 
 // The line `read` of the first len bytes.
-fn read_line(t: &mut [u8], b: &[u8], case: u64, len: usize) {
-    let started = text::start(t, b"read", &[case]);
-    let n = read_items(t, started, buffer::part(b, 0, len));
-    text::end(t, n);
+fn read_line(b: &[u8], case: u64, len: usize) {
+    text::start(b"read", case);
+    read_items(buffer::part(b, 0, len));
+    text::end();
 }
 
-pub fn read_row(t: &mut [u8], b: &mut [u8], r: &[u8], i: usize) {
-    let len = hand::piece(b, 0, r, rows::READ, (i % 65536) * 9);
-    read_line(t, b, i as u64, len);
+pub fn read_row(r: &[u8], i: usize) {
+    let mut b = [0u8; 8192];
+    let len = hand::piece(&mut b, 0, r, rows::READ, (i % 65536) * 9);
+    read_line(&b, i as u64, len);
 }
 
 // SecurityType and stream of an M102, all pairs.
-pub fn read_pair(t: &mut [u8], b: &mut [u8], case: u64) {
+pub fn read_pair(case: u64) {
+    let mut b = [0u8; 8192];
     let k = sums::minus(case, 500);
     let j = k % 13;
     let stream = if j < 10 {
@@ -56,11 +58,11 @@ pub fn read_pair(t: &mut [u8], b: &mut [u8], case: u64) {
     } else {
         sums::entry_of(&OTHERS, sums::minus(j, 10))
     };
-    let len = hand::base(b, 0, 10);
-    let list = [[24, 1, sums::entry_of(&TYPES, k / 13)], [34, 5, stream]];
-    buffer::fields(b, 0, &list);
-    buffer::mend(b, 0, len);
-    read_line(t, b, case, len);
+    let len = hand::base(&mut b, 0, 10);
+    buffer::put(&mut b, 24, 1, sums::entry_of(&TYPES, k / 13));
+    buffer::put(&mut b, 34, 5, stream);
+    buffer::mend(&mut b, 0, len);
+    read_line(&b, case, len);
 }
 
 // A frame at 0 of any kind, channel and number.
@@ -78,9 +80,10 @@ fn damaged_frame(b: &mut [u8], s: u64, case: u64) -> usize {
     made::damage(b, 0, len, &mut x)
 }
 
-pub fn read_made(t: &mut [u8], b: &mut [u8], case: u64) {
-    let len = damaged_frame(b, 1, case);
-    read_line(t, b, case, len);
+pub fn read_made(case: u64) {
+    let mut b = [0u8; 8192];
+    let len = damaged_frame(&mut b, 1, case);
+    read_line(&b, case, len);
 }
 
 // Writes the message of the frame at 0, with a body of n bytes, into the first `room` bytes of `out`.
@@ -96,36 +99,30 @@ fn write_message(b: &[u8], n: usize, out: &mut [u8], room: usize) -> Written {
 }
 
 // The items of a line `write` behind its case. The bytes lent were as those of `was` are.
-fn write_items(t: &mut [u8], n: usize, answer: Written, lent: &[u8], was: &[u8]) -> usize {
+fn write_items(answer: Written, lent: &[u8], was: &[u8]) {
     match answer {
-        Written::Refused(why) => text::numbers(
-            t,
-            n,
-            &[
-                text::number_of(why),
-                buffer::changed(lent, was, 0, lent.len()),
-            ],
-        ),
+        Written::Refused(why) => {
+            text::refusal(why);
+            text::number(buffer::changed(lent, was, 0, lent.len()));
+        }
         Written::Bytes(len) => {
-            let told = text::numbers(t, n, &[0, len as u64]);
-            text::hex(t, told, lent)
+            text::two(0, len as u64);
+            text::hex(lent);
         }
     }
 }
 
 // The line `write`. All of `out` was 0xA5, and its second half still is.
-fn write_line(t: &mut [u8], b: &[u8], out: &mut [u8], case: u64, size: usize, room: usize) {
-    buffer::fill_from(out, 0, 0xA5);
-    let started = text::start(t, b"write", &[case]);
-    let answer = write_message(b, size, out, room);
-    let n = write_items(
-        t,
-        started,
+fn write_line(b: &[u8], case: u64, size: usize, room: usize) {
+    let mut out = [0xA5u8; 36864];
+    let answer = write_message(b, size, &mut out, room);
+    text::start(b"write", case);
+    write_items(
         answer,
-        buffer::part(out, 0, room),
-        buffer::second_half(out),
+        buffer::part(&out, 0, room),
+        buffer::second_half(&out),
     );
-    text::end(t, n);
+    text::end();
 }
 
 // A number, or another one where it is `*`.
@@ -144,14 +141,18 @@ pub fn bare_base(b: &mut [u8], i: u64, told: u64) -> usize {
     sums::sub(len, 28)
 }
 
-pub fn write_row(t: &mut [u8], b: &mut [u8], out: &mut [u8], r: &[u8], i: usize) {
+pub fn write_row(r: &[u8], i: usize) {
+    let mut b = [0u8; 8192];
     let row = (i % 65536) * 9;
     let told = rows::cell(r, rows::WRITE, row, 7);
-    let n = given(told, bare_base(b, rows::cell(r, rows::WRITE, row, 0), told));
-    hand::change(b, 0, r, rows::WRITE, row, 1);
-    hand::change(b, 0, r, rows::WRITE, row, 4);
+    let n = given(
+        told,
+        bare_base(&mut b, rows::cell(r, rows::WRITE, row, 0), told),
+    );
+    hand::change(&mut b, 0, r, rows::WRITE, row, 1);
+    hand::change(&mut b, 0, r, rows::WRITE, row, 4);
     let room = given(rows::cell(r, rows::WRITE, row, 8), sums::add(n, 28));
-    write_line(t, b, out, i as u64, n, room);
+    write_line(&b, i as u64, n, room);
 }
 
 // The frame with a body of n bytes changed, or not; answers the new n.
@@ -187,12 +188,13 @@ fn room_for(n: usize, x: &mut u64) -> usize {
     }
 }
 
-pub fn write_made(t: &mut [u8], b: &mut [u8], out: &mut [u8], case: u64) {
+pub fn write_made(case: u64) {
+    let mut b = [0u8; 8192];
     let mut x = 0;
-    let len = any_frame(b, 2, case, &mut x);
-    let n = rewritten(b, sums::sub(len, 28), &mut x);
+    let len = any_frame(&mut b, 2, case, &mut x);
+    let n = rewritten(&mut b, sums::sub(len, 28), &mut x);
     let room = room_for(n, &mut x);
-    write_line(t, b, out, case, n, room);
+    write_line(&b, case, n, room);
 }
 
 // Scrubs the first len bytes.
@@ -203,65 +205,66 @@ fn scrub_front(b: &mut [u8], len: usize) -> Written {
     Written::Bytes(0)
 }
 
-// The second scrubbing of a buffer that was scrubbed: its number.
-fn scrub_again(b: &mut [u8], was: &mut [u8], lent: usize) -> u64 {
-    octets::lay(was, 0, b);
-    match scrub_front(b, lent) {
+// The number of a scrubbing.
+fn scrub_answer(answer: Written) -> u64 {
+    match answer {
         Written::Bytes(_) => 0,
         Written::Refused(why) => text::number_of(why),
     }
 }
 
-// The items of a line `scrub` behind its case, but for CHANGED. The first scrubbing has given `answer`.
-fn scrub_items(
-    t: &mut [u8],
-    n: usize,
-    answer: Written,
-    b: &mut [u8],
-    was: &mut [u8],
-    lent: usize,
-) -> usize {
+// The items of scrubbing a buffer that was scrubbed.
+fn scrub_again(was: &[u8], lent: usize) {
+    let mut b = [0u8; 8192];
+    octets::lay(&mut b, 0, was);
+    text::number(scrub_answer(scrub_front(&mut b, lent)));
+    text::number(buffer::changed(&b, was, 0, lent));
+}
+
+// The items of a line `scrub` behind its case.
+fn scrub_items(answer: Written, b: &[u8], was: &[u8], lent: usize) {
     match answer {
-        Written::Refused(why) => text::number(t, n, text::number_of(why)),
+        Written::Refused(why) => {
+            text::refusal(why);
+            text::number(buffer::changed(b, was, 0, lent));
+        }
         Written::Bytes(len) => {
-            let told = text::numbers(t, n, &[0, len as u64]);
-            let shown = text::hex(t, told, buffer::part(b, 0, lent));
-            text::number(t, shown, scrub_again(b, was, lent))
+            text::two(0, len as u64);
+            text::hex(buffer::part(b, 0, lent));
+            scrub_again(b, lent);
         }
     }
 }
 
 // The line `scrub`, of the first `lent` bytes.
-fn scrub_line(t: &mut [u8], b: &mut [u8], was: &mut [u8], case: u64, lent: usize) {
-    octets::lay(was, 0, b);
-    let started = text::start(t, b"scrub", &[case]);
-    let answer = scrub_front(b, lent);
-    let n = scrub_items(t, started, answer, b, was, lent);
-    let changed = text::number(t, n, buffer::changed(b, was, 0, lent));
-    text::end(t, changed);
+fn scrub_line(was: &[u8], case: u64, lent: usize) {
+    let mut b = [0u8; 8192];
+    octets::lay(&mut b, 0, was);
+    let answer = scrub_front(&mut b, lent);
+    text::start(b"scrub", case);
+    scrub_items(answer, &b, was, lent);
+    text::end();
 }
 
-pub fn scrub_base(t: &mut [u8], b: &mut [u8], was: &mut [u8], i: u64) {
-    let len = hand::base(b, 0, i);
-    buffer::fill(b, len, 5, 0xEE);
-    let lent = if i == 13 { len } else { sums::add(len, 5) };
-    scrub_line(t, b, was, i, lent);
+pub fn scrub_base(i: u64) {
+    let mut b = [0u8; 8192];
+    let len = hand::base(&mut b, 0, i);
+    buffer::fill(&mut b, len, 5, 0xEE);
+    scrub_line(&b, i, if i == 13 { len } else { sums::add(len, 5) });
 }
 
-pub fn scrub_made(t: &mut [u8], b: &mut [u8], was: &mut [u8], case: u64) {
-    let len = damaged_frame(b, 3, case);
-    scrub_line(t, b, was, case, len);
+pub fn scrub_made(case: u64) {
+    let mut b = [0u8; 8192];
+    let len = damaged_frame(&mut b, 3, case);
+    scrub_line(&b, case, len);
 }
 
 // The items of a line `search` behind its place.
-fn search_items(t: &mut [u8], n: usize, found: Found) -> usize {
+fn search_items(found: Found) {
     match found {
-        Found::At(place) => text::numbers(t, n, &[0, place as u64]),
-        Found::Nothing => {
-            let told = text::number(t, n, 0);
-            text::word(t, told, b"none")
-        }
-        Found::Beyond => text::number(t, n, 9),
+        Found::At(place) => text::two(0, place as u64),
+        Found::Nothing => text::word(b"0 none"),
+        Found::Beyond => text::number(9),
     }
 }
 
@@ -275,56 +278,58 @@ fn after(found: Found) -> usize {
 }
 
 // The line `search`. Answers the place to search from next.
-fn search_line(t: &mut [u8], b: &[u8], case: u64, size: usize, from: usize) -> usize {
+fn search_line(b: &[u8], case: u64, size: usize, from: usize) -> usize {
     let found = frame::search(buffer::part(b, 0, size), from);
-    let started = text::start(t, b"search", &[case, size as u64, from as u64]);
-    let n = search_items(t, started, found);
-    text::end(t, n);
+    text::start(b"search", case);
+    text::two(size as u64, from as u64);
+    search_items(found);
+    text::end();
     after(found)
 }
 
-fn search_from_each(t: &mut [u8], b: &[u8], case: u64, size: usize, end: usize) {
+fn search_from_each(b: &[u8], case: u64, size: usize, end: usize) {
     for from in 0..end {
-        search_line(t, b, case, size, from);
+        search_line(b, case, size, from);
     }
 }
 
 // From 0, and as long as a place is found from the place after it.
-fn search_on(t: &mut [u8], b: &[u8], case: u64, size: usize) {
+fn search_on(b: &[u8], case: u64, size: usize) {
     let mut from = 0;
     for _ in 0..size {
-        from = search_line(t, b, case, size, from);
+        from = search_line(b, case, size, from);
         if size < from {
             break;
         }
     }
 }
 
-// Case 2 is capture 0 from the largest place of all.
-pub fn search_hand(t: &mut [u8], b: &mut [u8], r: &[u8], case: u64) {
-    let size = hand::capture(b, r, if case == 2 { 0 } else { case });
+// Case 2 is from the largest place of all.
+fn search_by_hand(b: &[u8], case: u64, size: usize) {
     match case {
-        0 => search_from_each(t, b, 0, size, 71),
-        1 => search_from_each(t, b, 1, size, 2),
+        0 => search_from_each(b, 0, size, 71),
+        1 => search_from_each(b, 1, size, 2),
         2 => {
-            search_line(t, b, 2, size, 18446744073709551615);
+            search_line(b, 2, size, 18446744073709551615);
         }
-        _ => search_on(t, b, case, size),
+        _ => search_on(b, case, size),
     }
 }
 
-pub fn search_made(t: &mut [u8], b: &mut [u8], case: u64) {
+// Case 2 is of capture 0.
+pub fn search_hand(r: &[u8], case: u64) {
+    let mut b = [0u8; 8192];
+    let size = hand::capture(&mut b, r, if case == 2 { 0 } else { case });
+    search_by_hand(&b, case, size);
+}
+
+pub fn search_made(case: u64) {
+    let mut b = [0u8; 8192];
     let mut x = 0;
     generator::seed(&mut x, 4, case);
-    let size = made::capture(b, &mut x);
+    let size = made::capture(&mut b, &mut x);
     let places = sums::add(size, 1);
-    search_line(t, b, case, size, generator::place(&mut x, places));
-    search_line(t, b, case, size, generator::place(&mut x, places));
-    search_line(
-        t,
-        b,
-        case,
-        size,
-        sums::add(size, generator::place(&mut x, 3)),
-    );
+    search_line(&b, case, size, generator::place(&mut x, places));
+    search_line(&b, case, size, generator::place(&mut x, places));
+    search_line(&b, case, size, sums::add(size, generator::place(&mut x, 3)));
 }

@@ -1,4 +1,5 @@
-// The ledger: docs/VECTORS.md, 5.8, 5.9 and 5.10. Each call prints its line and gives back the next ledger.
+// The ledger: docs/VECTORS.md, 5.8, 5.9 and 5.10. Each call prints its line as far as the state, and gives back the next
+// ledger.
 use crate::generator;
 use crate::rows;
 use crate::sums;
@@ -43,116 +44,112 @@ fn reply_answer(a: ReplyAnswer) -> u64 {
     }
 }
 
+fn words(w: [u64; 4]) {
+    text::four(w[0], w[1], w[2], w[3]);
+}
+
 // The items of a state.
-pub fn state(t: &mut [u8], n: usize, l: Ledger) -> usize {
+fn state(l: Ledger) {
+    text::three(wide(l.channel.value()), l.floor.value(), l.top.value());
     let m = l.map;
+    let held = m.words;
+    words(held);
     let pending = l.pending;
-    let known = [wide(l.channel.value()), l.floor.value(), l.top.value()];
-    let told = text::numbers(t, n, &known);
-    let held = text::numbers(t, told, &m.words);
     match pending {
-        Pending::Nothing => text::word(t, held, b"none"),
-        Pending::Range { first, last } => text::numbers(t, held, &[first.value(), last.value()]),
+        Pending::Nothing => text::word(b"none"),
+        Pending::Range { first, last } => text::two(first.value(), last.value()),
     }
 }
 
-// Ends a line with a state, and gives the ledger back.
-pub fn end(t: &mut [u8], n: usize, l: Ledger) -> Ledger {
-    let told = state(t, n, l);
-    text::end(t, told);
+// Ends a line with a state.
+pub fn end(l: Ledger) {
+    state(l);
+    text::end();
+}
+
+fn opened(case: u64, chan: u64) -> Ledger {
+    let noted = Ledger::opened(channel_of(chan));
+    let answer = noted.answer;
+    text::start(b"open", case);
+    text::two(chan, answer_of(answer));
+    noted.next
+}
+
+fn stated(case: u64, l: Ledger) -> Ledger {
+    text::start(b"state", case);
     l
 }
 
-fn opened(t: &mut [u8], case: u64, chan: u64) -> Ledger {
-    let noted = Ledger::opened(channel_of(chan));
-    let answer = noted.answer;
-    let n = text::start(t, b"open", &[case, chan, answer_of(answer)]);
-    let next = noted.next;
-    end(t, n, next)
-}
-
-fn stated(t: &mut [u8], case: u64, l: Ledger) -> Ledger {
-    let n = text::start(t, b"state", &[case]);
-    end(t, n, l)
-}
-
 // The numbers newly passed, or `none`.
-fn passed(t: &mut [u8], n: usize, a: TickAnswer) -> usize {
+fn passed(a: TickAnswer) {
     match a {
-        TickAnswer::Refused(_) => text::word(t, n, b"none"),
+        TickAnswer::Refused(_) => text::word(b"none"),
         TickAnswer::Passed { first, count } => {
             if count == 0 {
-                return text::word(t, n, b"none");
+                text::word(b"none");
+                return;
             }
             let from = first.value();
-            text::numbers(t, n, &[from, sums::plus(from, sums::minus(count, 1))])
+            text::two(from, sums::plus(from, sums::minus(count, 1)));
         }
     }
 }
 
-fn ticked(t: &mut [u8], case: u64, l: Ledger, chan: u64, num: u64) -> Ledger {
+fn ticked(case: u64, l: Ledger, chan: u64, num: u64) -> Ledger {
     let done = l.tick(channel_of(chan), TickNumber::new(num));
     let answer = done.answer;
-    let started = text::start(t, b"tick", &[case, chan, num, tick_answer(answer)]);
-    let n = passed(t, started, answer);
-    let next = done.next;
-    end(t, n, next)
+    text::start(b"tick", case);
+    text::three(chan, num, tick_answer(answer));
+    passed(answer);
+    done.next
 }
 
-fn announced(t: &mut [u8], case: u64, l: Ledger, chan: u64, num: u64) -> Ledger {
+fn announced(case: u64, l: Ledger, chan: u64, num: u64) -> Ledger {
     let noted = l.announce(channel_of(chan), TickNumber::new(num));
     let answer = noted.answer;
-    let n = text::start(t, b"announce", &[case, chan, num, answer_of(answer)]);
-    let next = noted.next;
-    end(t, n, next)
+    text::start(b"announce", case);
+    text::three(chan, num, answer_of(answer));
+    noted.next
 }
 
 // The answer of a request and the range asked for, or `none`.
-fn granted(t: &mut [u8], n: usize, a: RequestAnswer) -> usize {
+fn granted(a: RequestAnswer) {
     match a {
         RequestAnswer::Refused(why) => {
-            let told = text::number(t, n, text::number_of(why));
-            text::word(t, told, b"none")
+            text::refusal(why);
+            text::word(b"none");
         }
-        RequestAnswer::Granted { first, last } => text::numbers(
-            t,
-            n,
-            &[0, first.value(), last.value()],
-        ),
+        RequestAnswer::Granted { first, last } => text::three(0, first.value(), last.value()),
     }
 }
 
-fn requested(t: &mut [u8], case: u64, l: Ledger, chan: u64) -> Ledger {
+fn requested(case: u64, l: Ledger, chan: u64) -> Ledger {
     let done = l.request(channel_of(chan));
     let answer = done.answer;
-    let started = text::start(t, b"request", &[case, chan]);
-    let n = granted(t, started, answer);
-    let next = done.next;
-    end(t, n, next)
+    text::start(b"request", case);
+    text::number(chan);
+    granted(answer);
+    done.next
 }
 
-fn replied(t: &mut [u8], case: u64, l: Ledger, chan: u64, first: u64, status: u64) -> Ledger {
+fn replied(case: u64, l: Ledger, chan: u64, first: u64, status: u64) -> Ledger {
     let done = l.reply(
         channel_of(chan),
         TickNumber::new(first),
         (status % 256) as u8,
     );
     let answer = done.answer;
-    let next = done.next;
-    let n = text::start(
-        t,
-        b"reply",
-        &[case, chan, first, status, reply_answer(answer)],
-    );
-    end(t, n, next)
+    text::start(b"reply", case);
+    text::four(chan, first, status, reply_answer(answer));
+    done.next
 }
 
 // The line of a count.
-fn counted(t: &mut [u8], w: &[u8], case: u64, c: Counted) -> Ledger {
+fn counted(w: &[u8], case: u64, c: Counted) -> Ledger {
     let answer = c.answer;
-    let next = c.next;
-    let n = text::start(t, w, &[case, answer_of(answer), c.count]);
-    end(t, n, next)
+    text::start(w, case);
+    text::two(answer_of(answer), c.count);
+    c.next
 }
 
 fn range(first: u64, last: u64) -> Pending {
@@ -208,29 +205,29 @@ fn state_row(r: &[u8], i: u64) -> Ledger {
     )
 }
 
-fn call(t: &mut [u8], case: u64, l: Ledger, op: u64, a: u64, b: u64, c: u64) -> Ledger {
+fn call(case: u64, l: Ledger, op: u64, a: u64, b: u64, c: u64) -> Ledger {
     match op {
-        0 => opened(t, case, a),
-        1 => ticked(t, case, l, a, b),
-        2 => announced(t, case, l, a, b),
-        3 => requested(t, case, l, a),
-        4 => replied(t, case, l, a, b, c),
-        5 => counted(t, b"missing", case, l.missing()),
-        _ => counted(t, b"held", case, l.held()),
+        0 => opened(case, a),
+        1 => ticked(case, l, a, b),
+        2 => announced(case, l, a, b),
+        3 => requested(case, l, a),
+        4 => replied(case, l, a, b, c),
+        5 => counted(b"missing", case, l.missing()),
+        _ => counted(b"held", case, l.held()),
     }
 }
 
 // The call of row i, or another state in the ledger's place.
-fn call_row(t: &mut [u8], l: Ledger, r: &[u8], i: usize) -> Ledger {
+fn call_row(l: Ledger, r: &[u8], i: usize) -> Ledger {
     let row = (i % 65536) * 4;
     let op = rows::cell(r, rows::LEDGER, row, 0);
     let a = rows::cell(r, rows::LEDGER, row, 1);
     if op == 7 {
-        return stated(t, i as u64, state_row(r, a));
+        return stated(i as u64, state_row(r, a));
     }
     let b = rows::cell(r, rows::LEDGER, row, 2);
     let c = rows::cell(r, rows::LEDGER, row, 3);
-    call(t, i as u64, l, op, a, b, c)
+    call(i as u64, l, op, a, b, c)
 }
 
 fn fresh() -> Ledger {
@@ -239,10 +236,11 @@ fn fresh() -> Ledger {
 }
 
 // All rows, one after the other on one ledger.
-pub fn by_hand(t: &mut [u8], r: &[u8]) {
+pub fn by_hand(r: &[u8]) {
     let mut l = fresh();
     for i in 0..rows::count(r, rows::LEDGER) / 4 {
-        l = call_row(t, l, r, i);
+        l = call_row(l, r, i);
+        end(l);
     }
 }
 
@@ -392,11 +390,11 @@ fn any_channel(x: &mut u64) -> u64 {
     }
 }
 
-fn any_ledger(t: &mut [u8], case: u64, x: &mut u64) -> Ledger {
+fn any_ledger(case: u64, x: &mut u64) -> Ledger {
     match generator::pick(x, 4) {
-        0 => opened(t, case, any_channel(x)),
-        3 => stated(t, case, broken(sound(x), x)),
-        _ => stated(t, case, sound(x)),
+        0 => opened(case, any_channel(x)),
+        3 => stated(case, broken(sound(x), x)),
+        _ => stated(case, sound(x)),
     }
 }
 
@@ -454,19 +452,18 @@ fn any_first(pending: Pending, x: &mut u64) -> u64 {
 
 const STATUSES: [u64; 11] = [0, 1, 2, 3, 4, 5, 6, 98, 99, 100, 255];
 
-fn any_call(t: &mut [u8], case: u64, l: Ledger, x: &mut u64) -> Ledger {
+fn any_call(case: u64, l: Ledger, x: &mut u64) -> Ledger {
     let floor = l.floor.value();
     let top = l.top.value();
     let pending = l.pending;
     let chan = named(wide(l.channel.value()), x);
     match generator::pick(x, 16) {
-        0..=8 => ticked(t, case, l, chan, any_tick(floor, top, x)),
-        9..=10 => announced(t, case, l, chan, any_announcement(top, x)),
-        11..=12 => requested(t, case, l, chan),
+        0..=8 => ticked(case, l, chan, any_tick(floor, top, x)),
+        9..=10 => announced(case, l, chan, any_announcement(top, x)),
+        11..=12 => requested(case, l, chan),
         13..=14 => {
             let first = any_first(pending, x);
             replied(
-                t,
                 case,
                 l,
                 chan,
@@ -475,18 +472,21 @@ fn any_call(t: &mut [u8], case: u64, l: Ledger, x: &mut u64) -> Ledger {
             )
         }
         _ => {
-            let next = counted(t, b"missing", case, l.missing());
-            counted(t, b"held", case, next.held())
+            let next = counted(b"missing", case, l.missing());
+            end(next);
+            counted(b"held", case, next.held())
         }
     }
 }
 
-pub fn generated(t: &mut [u8], case: u64) {
+pub fn generated(case: u64) {
     let mut x = 0;
     generator::seed(&mut x, 7, case);
-    let mut l = any_ledger(t, case, &mut x);
+    let mut l = any_ledger(case, &mut x);
+    end(l);
     for _ in 0..12u64 {
-        l = any_call(t, case, l, &mut x);
+        l = any_call(case, l, &mut x);
+        end(l);
     }
 }
 
@@ -519,26 +519,20 @@ fn run_tick(run: Run, w: u64, x: &mut u64) -> Run {
 }
 
 // One tick more, and behind each 50 a line.
-fn run_turn(t: &mut [u8], case: u64, run: Run, turn: u64, w: u64, x: &mut u64) -> Run {
+fn run_turn(case: u64, run: Run, turn: u64, w: u64, x: &mut u64) -> Run {
     let next = run_tick(run, w, x);
     let l = next.ledger;
     if turn % 50 == 49 {
-        let counts = [
-            case,
-            sums::plus(turn, 1),
-            next.zero,
-            next.eleven,
-            next.twelve,
-        ];
-        let n = text::start(t, b"run", &counts);
-        end(t, n, l);
+        text::start(b"run", case);
+        text::four(sums::plus(turn, 1), next.zero, next.eleven, next.twelve);
+        end(l);
     }
     next
 }
 
 const WIDTHS: [u64; 6] = [1, 2, 8, 64, 256, 300];
 
-pub fn long_run(t: &mut [u8], case: u64) {
+pub fn long_run(case: u64) {
     let mut x = 0;
     generator::seed(&mut x, 8, case);
     let w = sums::entry_of(&WIDTHS, sums::minus(case, 1000));
@@ -549,6 +543,6 @@ pub fn long_run(t: &mut [u8], case: u64) {
         twelve: 0,
     };
     for turn in 0..700 {
-        run = run_turn(t, case, run, turn, w, &mut x);
+        run = run_turn(case, run, turn, w, &mut x);
     }
 }

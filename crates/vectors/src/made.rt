@@ -67,44 +67,67 @@ const SHORT: u64 = 8;
 
 const LONG: u64 = 9;
 
-// The fields in the order drawn: the kind, the place in its body, the width, how it is drawn, and from how many.
-const FIELDS: [[u64; 5]; 35] = [
-    [0, 0, 32, LETTERS, 0],
-    [0, 32, 32, LETTERS, 0],
-    [0, 64, 2, FROM_1, 65535],
-    [0, 66, 8, VALUE, 0x302E363220202020],
-    [1, 0, 4, FROM_0, 10000],
-    [1, 4, 256, LETTERS, 0],
-    [3, 0, 1, VALUE, 13],
-    [3, 1, 2, CHANNEL, 0],
-    [3, 3, 8, NUMBER, 0],
-    [3, 11, 1, LAST, 0],
-    [4, 0, 2, CHANNEL, 0],
-    [4, 2, 1, VALUE, 1],
-    [4, 3, 8, NUMBER, 0],
-    [6, 1, 1, FROM_1, 3],
-    [6, 2, 4, DATE, 0],
-    [6, 6, 4, CLOCK, 0],
-    [6, 15, 8, LETTERS, 0],
-    [6, 23, 8, LETTERS, 0],
-    [6, 31, 8, DECIMAL, 13],
-    [6, 39, 8, DECIMAL, 16],
-    [6, 47, 8, DECIMAL, 16],
-    [6, 55, 8, DECIMAL, 16],
-    [6, 63, 8, LETTERS, 0],
-    [7, 0, 1, VALUE, 13],
-    [7, 1, 2, CHANNEL, 0],
-    [7, 3, 8, NUMBER, 0],
-    [7, 16, 8, LETTERS, 0],
-    [7, 24, 4, CLOCK, 0],
-    [7, 29, 8, DECIMAL, 13],
-    [7, 37, 8, DECIMAL, 15],
-    [SHORT, 0, 1, DIGIT, 10],
-    [SHORT, 1, 1, VALUE, 32],
-    [SHORT, 2, 8, DECIMAL, 13],
-    [LONG, 10, 8, DECIMAL, 12],
-    [LONG, 18, 1, FROM_0, 100],
-];
+// A field: the kind, the place in its body, the width, how it is drawn, and from how many.
+struct Row {
+    kind: u64,
+    place: usize,
+    width: usize,
+    how: u64,
+    n: u64,
+}
+
+fn of(kind: u64, place: usize, width: usize, how: u64, n: u64) -> Row {
+    Row {
+        kind,
+        place,
+        width,
+        how,
+        n,
+    }
+}
+
+const FIELDS: u64 = 35;
+
+// The fields in the order drawn.
+fn row_of(k: u64) -> Row {
+    match k {
+        0 => of(0, 0, 32, LETTERS, 0),
+        1 => of(0, 32, 32, LETTERS, 0),
+        2 => of(0, 64, 2, FROM_1, 65535),
+        3 => of(0, 66, 8, VALUE, 0x302E363220202020),
+        4 => of(1, 0, 4, FROM_0, 10000),
+        5 => of(1, 4, 256, LETTERS, 0),
+        6 => of(3, 0, 1, VALUE, 13),
+        7 => of(3, 1, 2, CHANNEL, 0),
+        8 => of(3, 3, 8, NUMBER, 0),
+        9 => of(3, 11, 1, LAST, 0),
+        10 => of(4, 0, 2, CHANNEL, 0),
+        11 => of(4, 2, 1, VALUE, 1),
+        12 => of(4, 3, 8, NUMBER, 0),
+        13 => of(6, 1, 1, FROM_1, 3),
+        14 => of(6, 2, 4, DATE, 0),
+        15 => of(6, 6, 4, CLOCK, 0),
+        16 => of(6, 15, 8, LETTERS, 0),
+        17 => of(6, 23, 8, LETTERS, 0),
+        18 => of(6, 31, 8, DECIMAL, 13),
+        19 => of(6, 39, 8, DECIMAL, 16),
+        20 => of(6, 47, 8, DECIMAL, 16),
+        21 => of(6, 55, 8, DECIMAL, 16),
+        22 => of(6, 63, 8, LETTERS, 0),
+        23 => of(7, 0, 1, VALUE, 13),
+        24 => of(7, 1, 2, CHANNEL, 0),
+        25 => of(7, 3, 8, NUMBER, 0),
+        26 => of(7, 16, 8, LETTERS, 0),
+        27 => of(7, 24, 4, CLOCK, 0),
+        28 => of(7, 29, 8, DECIMAL, 13),
+        29 => of(7, 37, 8, DECIMAL, 15),
+        30 => of(SHORT, 0, 1, DIGIT, 10),
+        31 => of(SHORT, 1, 1, VALUE, 32),
+        32 => of(SHORT, 2, 8, DECIMAL, 13),
+        33 => of(LONG, 10, 8, DECIMAL, 12),
+        _ => of(LONG, 18, 1, FROM_0, 100),
+    }
+}
 
 fn value_of(how: u64, n: u64, chan: u64, num: u64, x: &mut u64) -> u64 {
     match how {
@@ -121,42 +144,40 @@ fn value_of(how: u64, n: u64, chan: u64, num: u64, x: &mut u64) -> u64 {
     }
 }
 
+// Draws a field.
+fn field(b: &mut [u8], at: usize, f: Row, chan: u64, num: u64, x: &mut u64) {
+    if f.how == LETTERS {
+        buffer::letters(b, at, f.width, x);
+    } else {
+        buffer::put(b, at, f.width, value_of(f.how, f.n, chan, num, x));
+    }
+}
+
 // Row k of the fields, if it is a field of the kind.
-fn field(b: &mut [u8], o: usize, kind: u64, k: usize, chan: u64, num: u64, x: &mut u64) {
-    if k < 35 {
-        let row = FIELDS[k];
-        let at = sums::add(o, row[1] as usize);
-        if row[0] == kind {
-            if row[3] == LETTERS {
-                buffer::letters(b, at, row[2] as usize, x);
-            } else {
-                buffer::put(
-                    b,
-                    at,
-                    row[2] as usize,
-                    value_of(row[3], row[4], chan, num, x),
-                );
-            }
-        }
+fn field_if(b: &mut [u8], o: usize, kind: u64, k: u64, chan: u64, num: u64, x: &mut u64) {
+    let f = row_of(k);
+    if f.kind == kind {
+        field(b, sums::add(o, f.place), f, chan, num, x);
     }
 }
 
 // All fields of a kind.
 fn fields(b: &mut [u8], o: usize, kind: u64, chan: u64, num: u64, x: &mut u64) {
-    for k in 0..35usize {
-        field(b, o, kind, k, chan, num, x);
+    for k in 0..FIELDS {
+        field_if(b, o, kind, k, chan, num, x);
     }
 }
 
-fn header(b: &mut [u8], at: usize, kind: u64, x: &mut u64) {
+// The time that a header tells.
+fn time(x: &mut u64) -> u64 {
     let d = generator::date(x) % 100000000;
-    let time = sums::plus(d * 1000000000, generator::clock(x));
-    let list = [
-        [0, 4, name_of(kind)],
-        [4, 8, time],
-        [12, 8, 1 + generator::pick(x, 1000000)],
-    ];
-    buffer::fields(b, at, &list);
+    sums::plus(d * 1000000000, generator::clock(x))
+}
+
+fn header(b: &mut [u8], at: usize, kind: u64, x: &mut u64) {
+    buffer::put(b, at, 4, name_of(kind));
+    buffer::put(b, sums::add(at, 4), 8, time(x));
+    buffer::put(b, sums::add(at, 12), 8, 1 + generator::pick(x, 1000000));
 }
 
 // ApplEndSeqNum of a resend with a status.
@@ -174,8 +195,8 @@ fn resend_end(status: u64, num: u64, x: &mut u64) -> u64 {
 fn resend(b: &mut [u8], o: usize, num: u64, x: &mut u64) -> usize {
     let s = generator::pick(x, 7);
     let status = if s == 6 { 99 } else { s };
-    let list = [[11, 8, resend_end(status, num, x)], [19, 1, status]];
-    buffer::fields(b, o, &list);
+    buffer::put(b, sums::add(o, 11), 8, resend_end(status, num, x));
+    buffer::put(b, sums::add(o, 19), 1, status);
     buffer::letters(b, sums::add(o, 20), 32, x);
     52
 }
@@ -208,12 +229,9 @@ fn snapshot(b: &mut [u8], o: usize, x: &mut u64) -> usize {
     let k = generator::pick(x, 10);
     fields(b, o, 6, 0, 0, x);
     let m = generator::pick(x, 6);
-    let list = [
-        [0, 1, sums::entry_of(&SECURITIES, k)],
-        [10, 5, stream_of(k)],
-        [71, 2, m],
-    ];
-    buffer::fields(b, o, &list);
+    buffer::put(b, o, 1, sums::entry_of(&SECURITIES, k));
+    buffer::put(b, sums::add(o, 10), 5, stream_of(k));
+    buffer::put(b, sums::add(o, 71), 2, m);
     let end = entries(b, sums::add(o, 73), k, m, x);
     sums::sub(end, o)
 }
@@ -250,8 +268,8 @@ fn order(b: &mut [u8], o: usize, chan: u64, num: u64, x: &mut u64) -> usize {
     } else {
         0x4D44323939
     };
-    let list = [[11, 5, stream], [28, 1, exec]];
-    buffer::fields(b, o, &list);
+    buffer::put(b, sums::add(o, 11), 5, stream);
+    buffer::put(b, sums::add(o, 28), 1, exec);
     fields(b, o, 7, chan, num, x);
     buffer::noise(b, sums::add(o, 45), tail, x);
     sums::add(45, tail)
@@ -290,15 +308,18 @@ fn inner_kind(x: &mut u64) -> u64 {
     }
 }
 
+// At most five bytes of noise; answers the place behind them.
+fn little_noise(b: &mut [u8], at: usize, x: &mut u64) -> usize {
+    let n = generator::place(x, 6);
+    buffer::noise(b, at, n, x)
+}
+
 // A frame with a few bytes before it and behind it; answers how many bytes they all are.
 fn padded(b: &mut [u8], o: usize, chan: u64, num: u64, x: &mut u64) -> usize {
-    let p = generator::place(x, 6);
-    buffer::noise(b, o, p, x);
+    let at = little_noise(b, o, x);
     let kind = inner_kind(x);
-    let n = sums::add(p, frame(b, sums::add(o, p), kind, chan, num, x));
-    let q = generator::place(x, 6);
-    buffer::noise(b, sums::add(o, n), q, x);
-    sums::add(n, q)
+    let end = sums::add(at, frame(b, at, kind, chan, num, x));
+    sums::sub(little_noise(b, end, x), o)
 }
 
 // An M101 around another frame.
@@ -344,61 +365,62 @@ fn shortened(b: &mut [u8], at: usize, n: usize, x: &mut u64) -> usize {
     buffer::seal(b, at, c)
 }
 
-// A byte of the body changed, and the frame mended.
-fn altered(b: &mut [u8], at: usize, len: usize, n: usize, x: &mut u64) -> usize {
-    if n != 0 {
-        raised(b, sums::add(at, 24), n, x);
-        buffer::mend(b, at, len);
-    }
-    len
-}
-
 // A byte of the n from a place on changed.
 pub fn raised(b: &mut [u8], at: usize, n: usize, x: &mut u64) {
     let i = generator::place(x, n);
     buffer::raise(b, sums::add(at, i), x);
 }
 
-// One of the high bytes of CheckSum set.
-fn high_sum(b: &mut [u8], at: usize, len: usize, x: &mut u64) {
-    let p = sums::add(at, sums::sub(len, sums::sub(4, generator::place(x, 3))));
-    buffer::put(b, p, 1, 1 + generator::pick(x, 255));
+// Another BodyLength told, or one of the high bytes of CheckSum set.
+fn overwritten(b: &mut [u8], at: usize, len: usize, how: u64, x: &mut u64) -> usize {
+    if how == 4 {
+        let n = sums::sub(len, 28);
+        buffer::put(b, sums::add(at, 20), 4, false_length(n as u64, x));
+    } else {
+        let p = sums::sub(len, sums::sub(4, generator::place(x, 3)));
+        buffer::put(b, sums::add(at, p), 1, 1 + generator::pick(x, 255));
+    }
+    len
 }
 
 fn followed(b: &mut [u8], at: usize, len: usize, x: &mut u64) -> usize {
     let more = generator::more(x, 20);
-    buffer::noise(b, sums::add(at, len), more, x);
-    sums::add(len, more)
+    sums::sub(buffer::noise(b, sums::add(at, len), more, x), at)
 }
 
-// Damage that keeps the frame's length.
-fn damage_within(b: &mut [u8], at: usize, len: usize, how: u64, x: &mut u64) -> usize {
-    let n = sums::sub(len, 28);
+// Which byte is changed: any, one of the body, the last one or one of MsgType.
+fn changed_byte(how: u64, len: usize, x: &mut u64) -> usize {
     match how {
-        2 => raised(b, at, len, x),
-        4 => buffer::put(b, sums::add(at, 20), 4, false_length(n as u64, x)),
-        8 => high_sum(b, at, len, x),
-        9 => buffer::raise(b, sums::add(at, sums::sub(len, 1)), x),
-        10 => {
-            raised(b, at, 4, x);
-            buffer::mend(b, at, len);
-        }
-        _ => {}
+        2 => generator::place(x, len),
+        3 => sums::add(24, generator::place(x, sums::sub(len, 28))),
+        9 => sums::sub(len, 1),
+        _ => generator::place(x, 4),
+    }
+}
+
+// A byte changed, and the frame mended where it is one of the body or of MsgType.
+fn altered(b: &mut [u8], at: usize, len: usize, how: u64, x: &mut u64) -> usize {
+    let i = changed_byte(how, len, x);
+    buffer::raise(b, sums::add(at, i), x);
+    if (how == 3) | (how == 10) {
+        buffer::mend(b, at, len);
     }
     len
 }
 
 // Damages the frame of len bytes at a place, or does not; answers the new length.
 pub fn damage(b: &mut [u8], at: usize, len: usize, x: &mut u64) -> usize {
-    let n = sums::sub(len, 28);
     let how = generator::pick(x, 12);
+    if (how < 2) | ((how == 3) & (len == 28)) {
+        return len;
+    }
     match how {
-        3 => altered(b, at, len, n, x),
-        5 => lengthened(b, at, n, x),
-        6 => shortened(b, at, n, x),
+        4 | 8 => overwritten(b, at, len, how, x),
+        5 => lengthened(b, at, sums::sub(len, 28), x),
+        6 => shortened(b, at, sums::sub(len, 28), x),
         7 => generator::place(x, len),
         11 => followed(b, at, len, x),
-        _ => damage_within(b, at, len, how, x),
+        _ => altered(b, at, len, how, x),
     }
 }
 
@@ -454,8 +476,7 @@ fn piece(b: &mut [u8], size: usize, t: &mut u64, x: &mut u64) -> usize {
     let c = generator::pick(x, 10);
     if c == 0 {
         let more = generator::more(x, 12);
-        buffer::noise(b, size, more, x);
-        return sums::add(size, more);
+        return buffer::noise(b, size, more, x);
     }
     let chan = if generator::pick(x, 6) == 0 { 101 } else { 100 };
     let num = next_number(t, x);

@@ -65,93 +65,56 @@ fn cases_of(part: usize, r: &[u8]) -> Cases {
     }
 }
 
-// A case of reading or searching.
-fn reading(part: usize, case: u64, r: &[u8], b: &mut [u8], t: &mut [u8]) {
+// (All cases of the ledger by hand are one: they stand on one ledger.)
+fn run_case(part: usize, case: u64, r: &[u8]) {
     match part {
-        0 => frames::read_row(t, b, r, case as usize),
-        1 => frames::read_pair(t, b, case),
-        2 => frames::read_made(t, b, case),
-        7 => frames::search_hand(t, b, r, case),
-        _ => frames::search_made(t, b, case),
+        0 => frames::read_row(r, case as usize),
+        1 => frames::read_pair(case),
+        2 => frames::read_made(case),
+        3 => frames::write_row(r, case as usize),
+        4 => frames::write_made(case),
+        5 => frames::scrub_base(case),
+        6 => frames::scrub_made(case),
+        7 => frames::search_hand(r, case),
+        8 => frames::search_made(case),
+        9 => walks::hand_capture(r, case),
+        10 => walks::little_room(r, case),
+        11 => walks::made_capture(case),
+        12 => walks::made_record(case),
+        13 => walks::read_back(case),
+        14 => ledgers::by_hand(r),
+        15 => ledgers::generated(case),
+        16 => ledgers::long_run(case),
+        17 => readers::row(r, case as usize),
+        18 => readers::generated(case),
+        19 => cuts::every_cut(r, case),
+        20 => cuts::byte_by_byte(r, case),
+        21 => cuts::long_frame(case),
+        22 => cuts::last_places(r, case),
+        23 => cuts::row(r, case),
+        _ => cuts::generated(case),
     }
 }
 
-// A case of writing or scrubbing.
-fn writing(part: usize, case: u64, r: &[u8], b: &mut [u8], out: &mut [u8], t: &mut [u8]) {
-    match part {
-        3 => frames::write_row(t, b, out, r, case as usize),
-        4 => frames::write_made(t, b, out, case),
-        5 => frames::scrub_base(t, b, out, case),
-        _ => frames::scrub_made(t, b, out, case),
-    }
-}
-
-// A case of the walk or of records.
-fn walking(part: usize, case: u64, r: &[u8], b: &mut [u8], out: &mut [u8], t: &mut [u8]) {
-    match part {
-        9 => walks::hand_capture(t, b, out, r, case),
-        10 => walks::little_room(t, b, out, r, case),
-        11 => walks::made_capture(t, b, out, case),
-        12 => walks::made_record(t, out, case),
-        _ => walks::read_back(t, b, case),
-    }
-}
-
-// A case of the ledger or of entries. (All of the ledger's by hand are one: they stand on one ledger.)
-fn counting(part: usize, case: u64, r: &[u8], b: &mut [u8], t: &mut [u8]) {
-    match part {
-        14 => ledgers::by_hand(t, r),
-        15 => ledgers::generated(t, case),
-        16 => ledgers::long_run(t, case),
-        17 => readers::row(t, b, r, case as usize),
-        _ => readers::generated(t, b, case),
-    }
-}
-
-// A case of bytes that arrive in cuts.
-fn streaming(part: usize, case: u64, r: &[u8], b: &mut [u8], out: &mut [u8], t: &mut [u8]) {
-    match part {
-        19 => cuts::every_cut(t, b, out, r, case),
-        20 => cuts::byte_by_byte(t, b, out, r, case),
-        21 => cuts::long_frame(t, b, out, case),
-        22 => cuts::last_places(t, b, out, r, case),
-        23 => cuts::row(t, b, out, r, case),
-        _ => cuts::generated(t, b, out, case),
-    }
-}
-
-fn run_case(part: usize, case: u64, r: &[u8], b: &mut [u8], out: &mut [u8], t: &mut [u8]) {
-    match part {
-        0..=2 | 7..=8 => reading(part, case, r, b, t),
-        3..=6 => writing(part, case, r, b, out, t),
-        9..=13 => walking(part, case, r, b, out, t),
-        14..=18 => counting(part, case, r, b, t),
-        _ => streaming(part, case, r, b, out, t),
-    }
-}
-
-fn run_part(part: usize, r: &[u8], b: &mut [u8], out: &mut [u8], t: &mut [u8]) {
+fn run_part(part: usize, r: &[u8]) {
     let cases = cases_of(part, r);
     let first = cases.first;
     let count = cases.count;
     for i in 0..count {
-        run_case(part, sums::plus(first, i), r, b, out, t);
+        run_case(part, sums::plus(first, i), r);
     }
 }
 
-fn run_all(r: &[u8], b: &mut [u8], out: &mut [u8], t: &mut [u8]) {
+fn run_all(r: &[u8]) {
     for part in 0..PARTS {
-        run_part(part, r, b, out, t);
+        run_part(part, r);
     }
 }
 
 fn main() {
     let mut page = io::large_buffer();
     let mut r = [0u8; rows::SIZE];
-    let mut b = [0u8; 8192];
-    let mut out = [0u8; 36864];
-    let mut t = [0u8; 20480];
     let n = io::read_full(0, &mut page);
     rows::take(&mut r, &page[..n]);
-    run_all(&r, &mut b, &mut out, &mut t);
+    run_all(&r);
 }

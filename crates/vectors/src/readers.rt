@@ -24,19 +24,17 @@ fn step_answer(a: Answer) -> u64 {
     }
 }
 
-// The two bytes of an entry type in hex.
-fn kind_item(t: &mut [u8], n: usize, kind: u16) -> usize {
-    let mut bytes = [0u8; 2];
-    buffer::put(&mut bytes, 0, 2, kind as u64);
-    text::hex(t, n, &bytes)
+// A word, and the two bytes of an entry type in hex.
+fn kind_items(w: &[u8], kind: u16) {
+    text::word(w);
+    text::hex_number(kind as u64, 4);
 }
 
-fn entry_items(t: &mut [u8], n: usize, e: Entry) -> usize {
+fn entry_items(e: Entry) {
     match e {
         Entry::Short { kind, price } => {
-            let told = text::word(t, n, b"index");
-            let typed = kind_item(t, told, kind);
-            text::number(t, typed, price)
+            kind_items(b"index", kind);
+            text::number(price);
         }
         Entry::Long {
             kind,
@@ -44,38 +42,38 @@ fn entry_items(t: &mut [u8], n: usize, e: Entry) -> usize {
             size,
             position,
         } => {
-            let told = text::word(t, n, b"full");
-            let typed = kind_item(t, told, kind);
-            text::numbers(t, typed, &[price, size, buffer::wide(position)])
+            kind_items(b"full", kind);
+            text::three(price, size, buffer::wide(position));
         }
     }
 }
 
-fn answer_items(t: &mut [u8], n: usize, a: Answer) -> usize {
+fn answer_items(a: Answer) {
     match a {
-        Answer::Done(e) => entry_items(t, n, e),
-        Answer::Refused(_) => n,
+        Answer::Done(e) => entry_items(e),
+        Answer::Refused(_) => {}
     }
 }
 
 // The line `step`. Answers the place after it, or one beyond all on a refusal.
-fn step_line(t: &mut [u8], body: &[u8], case: u64, place: usize) -> usize {
+fn step_line(body: &[u8], case: u64, place: usize) -> usize {
     let stop = entries::step_from(body, place);
     let answer = stop.answer;
     let next = stop.place;
     let number = step_answer(answer);
-    let started = text::start(t, b"step", &[case, place as u64, number]);
-    let told = answer_items(t, started, answer);
-    let n = text::number(t, told, next as u64);
-    text::end(t, n);
+    text::start(b"step", case);
+    text::two(place as u64, number);
+    answer_items(answer);
+    text::number(next as u64);
+    text::end();
     if number == 0 { next } else { BEYOND }
 }
 
 // Steps until the first refusal, but at most eight times.
-fn steps(t: &mut [u8], body: &[u8], case: u64) {
+fn steps(body: &[u8], case: u64) {
     let mut place = FIRST;
     for _ in 0..8u64 {
-        place = step_line(t, body, case, place);
+        place = step_line(body, case, place);
         if place == BEYOND {
             break;
         }
@@ -83,47 +81,46 @@ fn steps(t: &mut [u8], body: &[u8], case: u64) {
 }
 
 // The line `reader`, and the steps of a reader that was opened.
-fn opening(t: &mut [u8], body: &[u8], case: u64) {
-    let size = body.len() as u64;
+fn opening(body: &[u8], case: u64) {
+    text::start(b"reader", case);
+    text::number(body.len() as u64);
     match entries::open_at(body) {
         Verdict::Fine => {
-            let n = text::start(t, b"reader", &[case, size, 0, FIRST as u64]);
-            text::end(t, n);
-            steps(t, body, case);
+            text::two(0, FIRST as u64);
+            text::end();
+            steps(body, case);
         }
         Verdict::Refused(why) => {
             let stop = entries::step_from(buffer::part(body, 0, 0), FIRST);
             let answer = stop.answer;
-            let n = text::start(
-                t,
-                b"reader",
-                &[case, size, text::number_of(why), step_answer(answer)],
-            );
-            text::end(t, n);
+            text::refusal(why);
+            text::number(step_answer(answer));
+            text::end();
         }
     }
 }
 
 // A step at each place of the page.
-fn places(t: &mut [u8], body: &[u8], r: &[u8], case: u64) {
+fn places(body: &[u8], r: &[u8], case: u64) {
     for i in 0..rows::count(r, rows::PLACES) {
-        step_line(t, body, case, rows::cell(r, rows::PLACES, i, 0) as usize);
+        step_line(body, case, rows::cell(r, rows::PLACES, i, 0) as usize);
     }
 }
 
-pub fn row(t: &mut [u8], b: &mut [u8], r: &[u8], i: usize) {
+pub fn row(r: &[u8], i: usize) {
+    let mut b = [0u8; 8192];
     let at = (i % 65536) * 5;
     let told = rows::cell(r, rows::ENTRY, at, 4);
-    let own = frames::bare_base(b, rows::cell(r, rows::ENTRY, at, 0), told);
+    let own = frames::bare_base(&mut b, rows::cell(r, rows::ENTRY, at, 0), told);
     let n = if told == rows::STAR {
         own
     } else {
         told as usize
     };
-    hand::change(b, 0, r, rows::ENTRY, at, 1);
-    let body = buffer::part(b, 24, n);
-    opening(t, body, i as u64);
-    places(t, body, r, i as u64);
+    hand::change(&mut b, 0, r, rows::ENTRY, at, 1);
+    let body = buffer::part(&b, 24, n);
+    opening(body, i as u64);
+    places(body, r, i as u64);
 }
 
 // The body of n bytes changed, or not; answers the new n.
@@ -151,18 +148,19 @@ fn any_place(x: &mut u64) -> usize {
     }
 }
 
-fn three_steps(t: &mut [u8], body: &[u8], case: u64, x: &mut u64) {
-    step_line(t, body, case, any_place(x));
-    step_line(t, body, case, any_place(x));
-    step_line(t, body, case, any_place(x));
+fn three_steps(body: &[u8], case: u64, x: &mut u64) {
+    step_line(body, case, any_place(x));
+    step_line(body, case, any_place(x));
+    step_line(body, case, any_place(x));
 }
 
-pub fn generated(t: &mut [u8], b: &mut [u8], case: u64) {
+pub fn generated(case: u64) {
+    let mut b = [0u8; 8192];
     let mut x = 0;
     generator::seed(&mut x, 9, case);
-    let len = made::frame(b, 0, 6, 100, 1, &mut x);
-    let n = altered(b, sums::sub(len, 28), &mut x);
-    let body = buffer::part(b, 24, n);
-    opening(t, body, case);
-    three_steps(t, body, case, &mut x);
+    let len = made::frame(&mut b, 0, 6, 100, 1, &mut x);
+    let n = altered(&mut b, sums::sub(len, 28), &mut x);
+    let body = buffer::part(&b, 24, n);
+    opening(body, case);
+    three_steps(body, case, &mut x);
 }

@@ -1,19 +1,18 @@
-// One line of the text: items with a space between them, laid into `t` as far as `n`, written when the line ends.
-// Each function answers the new n.
+// One line of the text: its first word, items with a space before each, and its end. Each is written to standard output
+// at once.
 use crate::buffer;
 use crate::sums;
 use octets::Written;
 use terms::Refusal;
 
-pub fn space(t: &mut [u8], n: usize) -> usize {
-    buffer::put(t, n, 1, 32);
-    sums::add(n, 1)
+// Bytes as they are.
+fn write(s: &[u8]) {
+    io::write_all(1, s);
 }
 
-pub fn word(t: &mut [u8], n: usize, w: &[u8]) -> usize {
-    let at = space(t, n);
-    octets::lay(t, at, w);
-    sums::add(at, w.len())
+pub fn word(w: &[u8]) {
+    write(b" ");
+    write(w);
 }
 
 // How many bytes were written; none on a refusal.
@@ -24,74 +23,77 @@ pub fn bytes_in(written: Written) -> usize {
     }
 }
 
+// A space and at most 20 digits.
+pub fn number(v: u64) {
+    let mut item = [32u8; 21];
+    let n = bytes_in(digits::put_decimal(&mut item, 1, v));
+    write(buffer::part(&item, 0, sums::add(n, 1)));
+}
+
+pub fn two(a: u64, b: u64) {
+    number(a);
+    number(b);
+}
+
+pub fn three(a: u64, b: u64, c: u64) {
+    two(a, b);
+    number(c);
+}
+
+pub fn four(a: u64, b: u64, c: u64, d: u64) {
+    two(a, b);
+    two(c, d);
+}
+
 pub fn number_of(why: Refusal) -> u64 {
     why.number() as u64
 }
 
-pub fn number(t: &mut [u8], n: usize, v: u64) -> usize {
-    let at = space(t, n);
-    sums::add(at, bytes_in(digits::put_decimal(t, at, v)))
+// The number of a refusal.
+pub fn refusal(why: Refusal) {
+    number(number_of(why));
 }
 
-pub fn numbers(t: &mut [u8], n: usize, list: &[u64]) -> usize {
-    let mut at = n;
-    for i in 0..list.len() {
-        at = number(t, at, sums::entry_of(list, i as u64));
-    }
-    at
+// A number in hex, with zeros in front up to a width.
+pub fn hex_number(v: u64, width: usize) {
+    write(b" ");
+    io::print_hex(1, v, width);
 }
 
-// A line's first word and the numbers behind it.
-pub fn start(t: &mut [u8], w: &[u8], list: &[u64]) -> usize {
-    octets::lay(t, 0, w);
-    numbers(t, w.len(), list)
-}
-
-// The four bytes of a MsgType as they are.
-pub fn msg_type(t: &mut [u8], n: usize, v: u64) -> usize {
-    let at = space(t, n);
-    buffer::put(t, at, 4, v);
-    sums::add(at, 4)
-}
-
-fn digit(v: u64) -> u64 {
-    let d = v % 16;
-    if d < 10 { 48 + d } else { 87 + d }
-}
-
-// A byte in hex; answers the place behind it.
-fn hex_byte(t: &mut [u8], at: usize, v: u64) -> usize {
-    buffer::put(t, at, 1, digit(v / 16));
-    buffer::put(t, sums::add(at, 1), 1, digit(v));
-    sums::add(at, 2)
-}
-
-fn hex_bytes(t: &mut [u8], n: usize, s: &[u8]) -> usize {
-    let mut at = n;
+fn hex_bytes(s: &[u8]) {
     for i in 0..s.len() {
-        at = hex_byte(t, at, buffer::byte(s, i));
+        io::print_hex(1, buffer::byte(s, i), 2);
     }
-    at
 }
 
 // The bytes of s in hex; of no bytes `-`.
-pub fn hex(t: &mut [u8], n: usize, s: &[u8]) -> usize {
+pub fn hex(s: &[u8]) {
+    write(b" ");
     if s.len() == 0 {
-        return word(t, n, b"-");
+        write(b"-");
     }
-    let at = space(t, n);
-    hex_bytes(t, at, s)
+    hex_bytes(s);
 }
 
-// Writes the first n bytes.
-pub fn write_out(t: &[u8], n: usize) {
-    if n <= t.len() {
-        io::write_all(1, &t[0..n]);
-    }
+// The four bytes of a MsgType as they are.
+pub fn msg_type(v: u64) {
+    let mut name = [0u8; 4];
+    buffer::put(&mut name, 0, 4, v);
+    word(&name);
+}
+
+// A line's first word and its case.
+pub fn start(w: &[u8], case: u64) {
+    write(w);
+    number(case);
+}
+
+// A line's last word, which has the line's end of its own: the first n bytes of s.
+pub fn last(s: &[u8], n: usize) {
+    word(buffer::part(s, 0, n));
 }
 
 // Ends the line.
-pub fn end(t: &mut [u8], n: usize) {
-    buffer::put(t, n, 1, 10);
-    write_out(t, sums::add(n, 1));
+pub fn end() {
+    write(b"\n");
 }

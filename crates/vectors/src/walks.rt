@@ -8,35 +8,35 @@ use crate::sums;
 use crate::text;
 use ledger::Ledger;
 use record::Record;
-use record::Summary;
+use report::Summary;
 use terms::ChannelNumber;
 use terms::SessionNumber;
 use terms::TickNumber;
 use walk::Walked;
 
 // Ends a line with a record in hex and its line of the listing, which has a newline of its own.
-fn listed(t: &mut [u8], n: usize, bytes: &[u8], r: Record) {
-    let shown = text::hex(t, n, bytes);
-    let at = text::space(t, shown);
-    let k = text::bytes_in(record::put_line(t, at, r));
-    text::write_out(t, sums::add(at, k));
+fn listed(bytes: &[u8], r: Record) {
+    let mut line = [0u8; 512];
+    let n = text::bytes_in(report::put_line(&mut line, 0, r));
+    text::hex(bytes);
+    text::last(&line, n);
 }
 
 // The line `rec` of record k.
-fn rec_line(t: &mut [u8], out: &[u8], case: u64, k: usize) {
+fn rec_line(out: &[u8], case: u64, k: usize) {
     let at = (k % 65536) * 64;
-    let n = text::start(t, b"rec", &[case]);
-    listed(t, n, buffer::part(out, at, 64), record::record_at(out, at));
+    text::start(b"rec", case);
+    listed(buffer::part(out, at, 64), record::record_at(out, at));
 }
 
-pub fn rec_lines(t: &mut [u8], out: &[u8], case: u64, records: usize) {
+pub fn rec_lines(out: &[u8], case: u64, records: usize) {
     for k in 0..records {
-        rec_line(t, out, case, k);
+        rec_line(out, case, k);
     }
 }
 
 // The line `sum`.
-pub fn sum_line(t: &mut [u8], case: u64, frames: u64, refused: u64, l: Ledger) {
+pub fn sum_line(case: u64, frames: u64, refused: u64, l: Ledger) {
     let counted = l.missing();
     let s = Summary {
         frames,
@@ -45,10 +45,10 @@ pub fn sum_line(t: &mut [u8], case: u64, frames: u64, refused: u64, l: Ledger) {
         top: l.top(),
         missing: counted.count,
     };
-    let n = text::start(t, b"sum", &[case]);
-    let at = text::space(t, n);
-    let k = text::bytes_in(record::put_summary(t, at, s));
-    text::write_out(t, sums::add(at, k));
+    let mut line = [0u8; 512];
+    let n = text::bytes_in(report::put_summary(&mut line, 0, s));
+    text::start(b"sum", case);
+    text::last(&line, n);
 }
 
 // Walks the first `size` bytes, with the first `room` bytes of `out` lent.
@@ -61,7 +61,7 @@ fn walk_front(b: &[u8], size: usize, out: &mut [u8], room: usize) -> Walked {
 }
 
 // The line `walk`, and the lines of its records. All of `out` was 0xA5, and its second half still is.
-fn walk_lines(t: &mut [u8], out: &[u8], case: u64, size: usize, room: usize, w: Walked) {
+fn walk_lines(out: &[u8], case: u64, size: usize, room: usize, w: Walked) {
     let l = w.ledger;
     let answer = w.answer;
     let number = ledgers::answer_of(answer);
@@ -71,46 +71,49 @@ fn walk_lines(t: &mut [u8], out: &[u8], case: u64, size: usize, room: usize, w: 
         (w.records % 65536) * 64,
         room,
     );
-    let started = text::start(t, b"walk", &[case, size as u64, room as u64, number]);
-    let counts = [w.records as u64, w.frames as u64, w.refused as u64, changed];
-    let told = text::numbers(t, started, &counts);
-    ledgers::end(t, told, l);
+    text::start(b"walk", case);
+    text::three(size as u64, room as u64, number);
+    text::four(w.records as u64, w.frames as u64, w.refused as u64, changed);
+    ledgers::end(l);
     if number == 0 {
-        rec_lines(t, out, case, w.records);
-        sum_line(t, case, w.frames as u64, w.refused as u64, l);
+        rec_lines(out, case, w.records);
+        sum_line(case, w.frames as u64, w.refused as u64, l);
     }
 }
 
-fn walked(t: &mut [u8], b: &[u8], out: &mut [u8], case: u64, size: usize, room: usize) {
-    buffer::fill_from(out, 0, 0xA5);
-    let w = walk_front(b, size, out, room);
-    walk_lines(t, out, case, size, room, w);
+fn walked(b: &[u8], case: u64, size: usize, room: usize) {
+    let mut out = [0xA5u8; 36864];
+    let w = walk_front(b, size, &mut out, room);
+    walk_lines(&out, case, size, room, w);
 }
 
-pub fn hand_capture(t: &mut [u8], b: &mut [u8], out: &mut [u8], r: &[u8], case: u64) {
-    let size = hand::capture(b, r, case);
-    walked(t, b, out, case, size, buffer::ROOM);
+pub fn hand_capture(r: &[u8], case: u64) {
+    let mut b = [0u8; 8192];
+    let size = hand::capture(&mut b, r, case);
+    walked(&b, case, size, buffer::ROOM);
 }
 
 const ROOMS: [u64; 10] = [0, 1, 63, 64, 127, 128, 191, 192, 193, 256];
 
 // Capture 0 with little room; case 110 is capture 1 with none.
-pub fn little_room(t: &mut [u8], b: &mut [u8], out: &mut [u8], r: &[u8], case: u64) {
-    let size = hand::capture(b, r, if case == 110 { 1 } else { 0 });
+pub fn little_room(r: &[u8], case: u64) {
+    let mut b = [0u8; 8192];
+    let size = hand::capture(&mut b, r, if case == 110 { 1 } else { 0 });
     let room = sums::entry_of(&ROOMS, sums::minus(case, 100)) as usize;
-    walked(t, b, out, case, size, room);
+    walked(&b, case, size, room);
 }
 
-pub fn made_capture(t: &mut [u8], b: &mut [u8], out: &mut [u8], case: u64) {
+pub fn made_capture(case: u64) {
+    let mut b = [0u8; 8192];
     let mut x = 0;
     generator::seed(&mut x, 5, case);
-    let size = made::capture(b, &mut x);
+    let size = made::capture(&mut b, &mut x);
     let room = if generator::pick(&mut x, 5) == 0 {
         generator::place(&mut x, 1024)
     } else {
         buffer::ROOM
     };
-    walked(t, b, out, case, size, room);
+    walked(&b, case, size, room);
 }
 
 // The name of a kind, or four spaces.
@@ -144,38 +147,33 @@ fn any_record(x: &mut u64) -> Record {
 }
 
 // The line `record`.
-pub fn made_record(t: &mut [u8], out: &mut [u8], case: u64) {
+pub fn made_record(case: u64) {
+    let mut out = [0u8; 64];
     let mut x = 0;
     generator::seed(&mut x, 6, case);
     let r = any_record(&mut x);
-    record::put(out, 0, r);
-    let n = text::start(t, b"record", &[case]);
-    listed(t, n, buffer::part(out, 0, 64), r);
+    record::put(&mut out, 0, r);
+    text::start(b"record", case);
+    listed(&out, r);
 }
 
 // The items of a line `back` behind its case.
-fn back_items(t: &mut [u8], n: usize, r: Record) -> usize {
-    let mut name = [0u8; 4];
-    buffer::put(&mut name, 0, 4, r.msg_type as u64);
-    let placed = text::number(t, n, r.place);
-    let typed = text::hex(t, placed, &name);
-    let told = text::numbers(t, typed, &[r.answer as u64, r.seq.value(), r.tick.value()]);
-    let rest = [
-        ledgers::wide(r.channel.value()),
-        r.body_len as u64,
-        r.floor.value(),
-        r.top.value(),
-    ];
-    text::numbers(t, told, &rest)
+fn back_items(r: Record) {
+    text::number(r.place);
+    text::hex_number(r.msg_type as u64, 8);
+    text::three(r.answer as u64, r.seq.value(), r.tick.value());
+    text::two(ledgers::wide(r.channel.value()), r.body_len as u64);
+    text::two(r.floor.value(), r.top.value());
 }
 
 // The line `back`.
-pub fn read_back(t: &mut [u8], b: &mut [u8], case: u64) {
+pub fn read_back(case: u64) {
+    let mut b = [0u8; 128];
     let mut x = 0;
     generator::seed(&mut x, 6, case);
-    buffer::noise(b, 0, 128, &mut x);
-    let r = record::record_at(b, generator::place(&mut x, 65));
-    let started = text::start(t, b"back", &[case]);
-    let n = back_items(t, started, r);
-    text::end(t, n);
+    buffer::noise(&mut b, 0, 128, &mut x);
+    let r = record::record_at(&b, generator::place(&mut x, 65));
+    text::start(b"back", case);
+    back_items(r);
+    text::end();
 }

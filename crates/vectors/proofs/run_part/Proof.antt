@@ -1,16 +1,14 @@
--- `vectors::run_part` is safe and ends: each slice lent keeps its length, and what is left of the range falls.
-use mathlib.Core.Path.{_≡_}
+-- `vectors::run_part` is safe and ends: nothing is to be kept, and what is left of the range falls.
 use Prim.Native.Nat.{_-_}
-use lib.ListN.{length}
 use borrow.Author.Needs.{needs}
 use Rattle.vectors.proofs.run_part.Statement.{statement}
 use Rattle.vectors.proofs.run_part.Tie as tie
 
 abbrev Inv-loop : tie.InvT-loop
-Inv-loop part r b₀ out₀ t₀ first count i₀ b out t i = (length b ≡ length b₀) × (length out ≡ length out₀) × (length t ≡ length t₀)
+Inv-loop part r first count i₀ i = Unit
 
 abbrev μ-loop : tie.MeasureT-loop
-μ-loop part r b₀ out₀ t₀ first count i₀ b out t i = count - i
+μ-loop part r first count i₀ i = count - i
 
 pub run-part-spec : {M : Type 1} → statement M
 run-part-spec =
@@ -22,9 +20,6 @@ run-part-spec =
     (λ c. search needs)
     (λ c κs. search needs)
     (λ c κs. search needs)
-    (λ c. search needs)
-    (λ c. search needs)
-    (λ c. search needs)
     (λ c. search needs)
     (λ c. search needs)
     (λ c. search needs)

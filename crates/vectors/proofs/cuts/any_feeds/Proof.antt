@@ -1,16 +1,14 @@
--- `vectors::cuts::any_feeds` is safe and ends: each slice lent keeps its length, and what is left of the range falls.
-use mathlib.Core.Path.{_≡_}
+-- `vectors::cuts::any_feeds` is safe and ends: nothing is to be kept, and what is left of the range falls.
 use Prim.Native.Nat.{_-_}
-use lib.ListN.{length}
 use borrow.Author.Needs.{needs}
 use Rattle.vectors.proofs.cuts.any_feeds.Statement.{statement}
 use Rattle.vectors.proofs.cuts.any_feeds.Tie as tie
 
 abbrev Inv-loop : tie.InvT-loop
-Inv-loop t₀ b out₀ case size x₀ w₀ counter₀ t out x w counter = (length t ≡ length t₀) × (length out ≡ length out₀)
+Inv-loop b case size x₀ w₀ counter₀ x w counter = Unit
 
 abbrev μ-loop : tie.MeasureT-loop
-μ-loop t₀ b out₀ case size x₀ w₀ counter₀ t out x w counter = 24 - counter
+μ-loop b case size x₀ w₀ counter₀ x w counter = 24 - counter
 
 pub any-feeds-spec : {M : Type 1} → statement M
 any-feeds-spec =
@@ -22,8 +20,6 @@ any-feeds-spec =
     (λ c κs. search needs)
     (λ c. search needs)
     (λ c κs. search needs)
-    (λ c. search needs)
-    (λ c. search needs)
     (λ c. search needs)
     (λ c. search needs)
     (λ c. search needs)

@@ -1,16 +1,14 @@
--- `vectors::cuts::bytes` is safe and ends: each slice lent keeps its length, and what is left of the range falls.
-use mathlib.Core.Path.{_≡_}
+-- `vectors::cuts::bytes` is safe and ends: nothing is to be kept, and what is left of the range falls.
 use Prim.Native.Nat.{_-_}
-use lib.ListN.{length}
 use borrow.Author.Needs.{needs}
 use Rattle.vectors.proofs.cuts.bytes.Statement.{statement}
 use Rattle.vectors.proofs.cuts.bytes.Tie as tie
 
 abbrev Inv-loop : tie.InvT-loop
-Inv-loop t₀ b out₀ call size w₀ counter₀ t out w counter = (length t ≡ length t₀) × (length out ≡ length out₀)
+Inv-loop b call size w₀ counter₀ w counter = Unit
 
 abbrev μ-loop : tie.MeasureT-loop
-μ-loop t₀ b out₀ call size w₀ counter₀ t out w counter = size - counter
+μ-loop b call size w₀ counter₀ w counter = size - counter
 
 pub bytes-spec : {M : Type 1} → statement M
 bytes-spec =
@@ -20,8 +18,6 @@ bytes-spec =
     μ-loop
     (λ c. search needs)
     (λ c κs. search needs)
-    (λ c. search needs)
-    (λ c. search needs)
     (λ c. search needs)
     (λ c. search needs)
     (λ c. search needs)

@@ -1,16 +1,14 @@
--- `vectors::cuts::cut_at_each` is safe and ends: each slice lent keeps its length, and what is left of the range falls.
-use mathlib.Core.Path.{_≡_}
+-- `vectors::cuts::cut_at_each` is safe and ends: nothing is to be kept, and what is left of the range falls.
 use Prim.Native.Nat.{_-_}
-use lib.ListN.{length}
 use borrow.Author.Needs.{needs}
 use Rattle.vectors.proofs.cuts.cut_at_each.Statement.{statement}
 use Rattle.vectors.proofs.cuts.cut_at_each.Tie as tie
 
 abbrev Inv-loop : tie.InvT-loop
-Inv-loop t₀ b out₀ case size i₀ i-end t out i = (length t ≡ length t₀) × (length out ≡ length out₀)
+Inv-loop b case size i₀ i-end i = Unit
 
 abbrev μ-loop : tie.MeasureT-loop
-μ-loop t₀ b out₀ case size i₀ i-end t out i = i-end - i
+μ-loop b case size i₀ i-end i = i-end - i
 
 pub cut-at-each-spec : {M : Type 1} → statement M
 cut-at-each-spec =
@@ -21,8 +19,6 @@ cut-at-each-spec =
     (λ c κs. search needs)
     (λ c. search needs)
     (λ c κs. search needs)
-    (λ c. search needs)
-    (λ c. search needs)
     (λ c. search needs)
     (λ c. search needs)
     (λ c. search needs)

@@ -7,10 +7,10 @@ use Rattle.vectors.proofs.hand.fields.Statement.{statement}
 use Rattle.vectors.proofs.hand.fields.Tie as tie
 
 abbrev Inv-loop : tie.InvT-loop
-Inv-loop b₀ o i k₀ b k = length b ≡ length b₀
+Inv-loop b₀ o i like k₀ b k = length b ≡ length b₀
 
 abbrev μ-loop : tie.MeasureT-loop
-μ-loop b₀ o i k₀ b k = 54 - k
+μ-loop b₀ o i like k₀ b k = 54 - k
 
 pub fields-spec : {M : Type 1} → statement M
 fields-spec =
@@ -19,6 +19,7 @@ fields-spec =
     Inv-loop
     μ-loop
     (λ c. search needs)
+    (λ c κs. search needs)
     (λ c κs. search needs)
     (λ c. search needs)
     (λ c. search needs)

@@ -1,16 +1,14 @@
--- `vectors::ledgers::by_hand` is safe and ends: the slice lent keeps its length, and what is left of the range falls.
-use mathlib.Core.Path.{_≡_}
+-- `vectors::ledgers::by_hand` is safe and ends: nothing is to be kept, and what is left of the range falls.
 use Prim.Native.Nat.{_-_}
-use lib.ListN.{length}
 use borrow.Author.Needs.{needs}
 use Rattle.vectors.proofs.ledgers.by_hand.Statement.{statement}
 use Rattle.vectors.proofs.ledgers.by_hand.Tie as tie
 
 abbrev Inv-loop : tie.InvT-loop
-Inv-loop t₀ r l₀ i₀ i-end t l i = length t ≡ length t₀
+Inv-loop r l₀ i₀ i-end l i = Unit
 
 abbrev μ-loop : tie.MeasureT-loop
-μ-loop t₀ r l₀ i₀ i-end t l i = i-end - i
+μ-loop r l₀ i₀ i-end l i = i-end - i
 
 pub by-hand-spec : {M : Type 1} → statement M
 by-hand-spec =
@@ -22,7 +20,7 @@ by-hand-spec =
     (λ c κs. search needs)
     (λ c. search needs)
     (λ c κs. search needs)
-    (λ c. search needs)
+    (λ c κs. search needs)
     (λ c. search needs)
     (λ c. search needs)
     (λ c. search needs)

@@ -1,16 +1,14 @@
--- `vectors::readers::places` is safe and ends: the slice lent keeps its length, and what is left of the range falls.
-use mathlib.Core.Path.{_≡_}
+-- `vectors::readers::places` is safe and ends: nothing is to be kept, and what is left of the range falls.
 use Prim.Native.Nat.{_-_}
-use lib.ListN.{length}
 use borrow.Author.Needs.{needs}
 use Rattle.vectors.proofs.readers.places.Statement.{statement}
 use Rattle.vectors.proofs.readers.places.Tie as tie
 
 abbrev Inv-loop : tie.InvT-loop
-Inv-loop t₀ body r case i₀ i-end t i = length t ≡ length t₀
+Inv-loop body r case i₀ i-end i = Unit
 
 abbrev μ-loop : tie.MeasureT-loop
-μ-loop t₀ body r case i₀ i-end t i = i-end - i
+μ-loop body r case i₀ i-end i = i-end - i
 
 pub places-spec : {M : Type 1} → statement M
 places-spec =
@@ -22,7 +20,6 @@ places-spec =
     (λ c. search needs)
     (λ c κs. search needs)
     (λ c κs. search needs)
-    (λ c. search needs)
     (λ c. search needs)
     (λ c. search needs)
     (λ c. search needs)

@@ -1,16 +1,14 @@
--- `vectors::readers::steps` is safe and ends: the slice lent keeps its length, and what is left of the range falls.
-use mathlib.Core.Path.{_≡_}
+-- `vectors::readers::steps` is safe and ends: nothing is to be kept, and what is left of the range falls.
 use Prim.Native.Nat.{_-_}
-use lib.ListN.{length}
 use borrow.Author.Needs.{needs}
 use Rattle.vectors.proofs.readers.steps.Statement.{statement}
 use Rattle.vectors.proofs.readers.steps.Tie as tie
 
 abbrev Inv-loop : tie.InvT-loop
-Inv-loop t₀ body case place₀ counter₀ t place counter = length t ≡ length t₀
+Inv-loop body case place₀ counter₀ place counter = Unit
 
 abbrev μ-loop : tie.MeasureT-loop
-μ-loop t₀ body case place₀ counter₀ t place counter = 8 - counter
+μ-loop body case place₀ counter₀ place counter = 8 - counter
 
 pub steps-spec : {M : Type 1} → statement M
 steps-spec =
@@ -20,8 +18,6 @@ steps-spec =
     μ-loop
     (λ c. search needs)
     (λ c κs. search needs)
-    (λ c. search needs)
-    (λ c. search needs)
     (λ c. search needs)
     (λ c. search needs)
     (λ c. search needs)

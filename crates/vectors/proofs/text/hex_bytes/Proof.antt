@@ -1,16 +1,14 @@
--- `vectors::text::hex_bytes` is safe and ends: the slice lent keeps its length, and what is left of the range falls.
-use mathlib.Core.Path.{_≡_}
+-- `vectors::text::hex_bytes` is safe and ends: nothing is to be kept, and what is left of the range falls.
 use Prim.Native.Nat.{_-_}
-use lib.ListN.{length}
 use borrow.Author.Needs.{needs}
 use Rattle.vectors.proofs.text.hex_bytes.Statement.{statement}
 use Rattle.vectors.proofs.text.hex_bytes.Tie as tie
 
 abbrev Inv-loop : tie.InvT-loop
-Inv-loop t₀ n s at₀ i₀ i-end t at i = length t ≡ length t₀
+Inv-loop s i₀ i-end i = Unit
 
 abbrev μ-loop : tie.MeasureT-loop
-μ-loop t₀ n s at₀ i₀ i-end t at i = i-end - i
+μ-loop s i₀ i-end i = i-end - i
 
 pub hex-bytes-spec : {M : Type 1} → statement M
 hex-bytes-spec =
@@ -21,7 +19,6 @@ hex-bytes-spec =
     (λ c. search needs)
     (λ c κs. search needs)
     (λ c κs. search needs)
-    (λ c. search needs)
     (λ c. search needs)
     (λ c. search needs)
     (λ c. search needs)
