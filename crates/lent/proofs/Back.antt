@@ -44,14 +44,14 @@ flag-fore n h =
     ⊎-elim (λ (e : n ≡ 1). rw (eq-eqb n 1 e) (sym e)) (λ (ne : n ≡ 1 → ⊥). let z : 0 ≡ n = omega (arith, ne) in rw (ne-eqb n 1 ne) z) (same n 1)
 
 -- flags that pass leave the count as it is
-flags : (a b n : ℕ) → waitingIn a b n ≤ 8191 → (a ≤ 1) × ((b ≤ 1) × (waitingIn a b n ≡ n))
+pub flags : (a b n : ℕ) → waitingIn a b n ≤ 8191 → (a ≤ 1) × ((b ≤ 1) × (waitingIn a b n ≡ n))
 unfolding waitingIn
 flags a b n h =
     ⊎-elim (λ (t : leb a 1 && leb b 1 ≡ true). let p = both (leb a 1) (leb b 1) t in (leb-true a 1 (p .0), (leb-true b 1 (p .1), rw t)))
     (λ (f : leb a 1 && leb b 1 ≡ false). absurd (omega (arith, rw f at h)))
     (two (leb a 1 && leb b 1))
 
-flags-in : (k : Lent) → StreamRules (streamIn k) → waitingIn (getD (k .state) 1 0) (getD (k .state) 2 0) (getD (k .state) 3 0) ≤ 8191
+pub flags-in : (k : Lent) → StreamRules (streamIn k) → waitingIn (getD (k .state) 1 0) (getD (k .state) 2 0) (getD (k .state) 3 0) ≤ 8191
 unfolding streamIn
 flags-in k r = r .few
 

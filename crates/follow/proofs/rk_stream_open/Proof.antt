@@ -1,4 +1,4 @@
--- `rk_stream_open`: the stream that the crate `stream` opens is kept. Assumes nothing.
+-- `rk_stream_open`: the stream that `flow` opens is kept. Assumes nothing.
 use mathlib.Core.Path.{refl, ap, _∙_}
 use Rattle.lent.specs.Lent.{lentOf}
 use borrow.Author.Needs.{needs}
