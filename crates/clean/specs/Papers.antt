@@ -10,7 +10,7 @@ use Rattle.clean.specs.declared.Check.the-variants.{Clean, Changed}
 abbrev pub cleanPaper : Cleaned → Paper
 cleanPaper c = answer (paperOf (c .answer) .number) (c .bytes ∷ c .frames ∷ c .«after_damage» ∷ [])
 
--- 0, and the place where it is not clean
+-- the same of the code's answer to the check
 abbrev pub checkPaper : Check → Paper
 checkPaper Clean = answer 0 []
 checkPaper (Changed p) = answer 0 (p ∷ [])

@@ -165,7 +165,7 @@ pub fn fields_ok(kind: Kind, b: &[u8]) -> bool
 }
 
 // What stands behind the checksum, in the order in which it answers: the field rules, 6.
-// (The time is not judged yet; who calls hands it over, so that a rule on it changes nothing but this crate.)
+// (The time is not judged yet; who calls hands it over, so that a rule on it changes nothing but `rules` and this crate.)
 pub fn judge(kind: Kind, sending_time: u64, body: &[u8]) -> Verdict
     ensures { λ r. ⌜ verdictNumber r ≡ judgeOf kind «sending_time» (now (body .entry)) ⌝ }
 {

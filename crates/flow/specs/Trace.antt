@@ -1,5 +1,5 @@
 -- A row of calls on a stream just opened, refusals among them; and what its calls gave and took, told from the answers that the definitions
--- give. That the code gives these is `ran-number`.
+-- give. That the code gives these is `ran-number` of `stream`.
 use Prim.Native.Nat.{ℕ, _*_}
 use mathlib.Core.Path.{_≡_}
 use mathlib.Core.Bool.{Bool, false, _&&_}

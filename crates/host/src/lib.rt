@@ -1,5 +1,5 @@
 // What C and Rust may call on frames. Each function answers a number of document 01, 0 where all is well, and tells the rest through what
-// it is lent: a fixed row of numbers, which C declares as a struct of 64-bit numbers (include/rietknoest.h). A refusal writes nothing
+// it is lent: a fixed row of numbers, which C declares as a struct of 64-bit numbers (host/include/rietknoest.h). A refusal writes nothing
 // there, nor into a buffer.
 ghost use mathlib.Core.Path.{_≡_};
 ghost use mathlib.Core.List.{[], _∷_, _++_};

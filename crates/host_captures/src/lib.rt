@@ -1,6 +1,5 @@
-// What C and Rust may call on whole captures. Each function answers a number of document 01, 0 where all is well, and tells the rest
-// through what it is lent: a fixed row of numbers, which C declares as a struct of 64-bit numbers (include/rietknoest.h). A refusal writes
-// nothing there, nor into a buffer, nor into the nine words of a ledger (crate `words`).
+// What C and Rust may call on whole captures, answered and told as in `host`. A refusal writes nothing: neither what is told, nor into a buffer,
+// nor into the nine words of a ledger (crate `words`).
 ghost use mathlib.Core.Path.{_≡_};
 ghost use mathlib.Core.List.{[], _∷_};
 ghost use lib.ListN.{length};
@@ -51,8 +50,6 @@ fn told_bytes(w: Written, told: &mut u64) -> u32
         }
     }
 }
-
-// CAPTURES
 
 // Walks a capture: a record of 64 bytes for each reading, and channel 100's ledger. Told: how many records, frames, and readings
 // refused. Where the records have no room, 8, and nothing is written anywhere.

@@ -1,7 +1,5 @@
-// What C and Rust may call on a ledger. Each function answers a number of document 01, 0 where all is well, and tells the rest through what
-// it is lent: a fixed row of numbers, which C declares as a struct of 64-bit numbers (include/rietknoest.h). A refusal writes nothing
-// there; only 12 changes a ledger, and only its top. A ledger is nine numbers, those of the crate `words`. They are the host's to keep and
-// not to read: the calls tell all there is to know.
+// What C and Rust may call on a ledger, answered and told as in `host`. A ledger is nine numbers, those of the crate `words`. A refusal writes
+// nothing; only 12 changes a ledger, and only its top.
 ghost use mathlib.Core.Path.{_≡_};
 ghost use Rattle.book.specs.Calls.{Tick, Announce, Request, Reply, openNumber};
 ghost use Rattle.ledger.specs.Papers.{paperOf, replyPaper};

@@ -158,10 +158,15 @@ entries-answers =
     let step-from-one-answer = entries.step-from-one-answer in
     named
 
+-- private
+private-answers : Named
+private-answers =
+    let private-span-one-answer = private.private-span-one-answer in
+    named
+
 -- scrub
 scrub-answers : Named
 scrub-answers =
-    let private-span-one-answer = private.private-span-one-answer in
     let scrub-known-one-answer = scrub.scrub-known-one-answer in
     let scrub-one-answer = scrub.scrub-one-answer in
     named
@@ -200,6 +205,11 @@ record-answers : Named
 record-answers =
     let put-one-answer = «record».put-one-answer in
     let record-at-one-answer = «record».record-at-one-answer in
+    named
+
+-- report
+report-answers : Named
+report-answers =
     let put-line-one-answer = report.put-line-one-answer in
     let put-summary-one-answer = report.put-summary-one-answer in
     named
@@ -443,6 +453,10 @@ record-buffers : Named
 record-buffers =
     let put-one-buffer = «record».put-one-buffer in
     let put-refused-keeps = «record».put-refused-keeps in
+    named
+
+report-buffers : Named
+report-buffers =
     let put-line-one-buffer = report.put-line-one-buffer in
     let put-line-refused-keeps = report.put-line-refused-keeps in
     let put-summary-one-buffer = report.put-summary-one-buffer in

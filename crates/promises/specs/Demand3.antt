@@ -62,7 +62,7 @@ pub each-answer : (channel : ℕ) → channel ≤ 9999 → (calls : Calls) → A
 each-answer = Answered.answers
 
 -- The same through the host, on the nine words that rk_ledger_open wrote: `HostRan channel calls w h` says that the words w and the history h
--- come of such calls. What rk_ledger_told then tells are the numbers of h (`host-told` of `host`).
+-- come of such calls. What rk_ledger_told then tells are the numbers of h (`host-told` of `host_ledger`).
 pub through-the-host : (channel : ℕ) → channel ≤ 9999 → {calls : Calls} {w : List ℕ} {h : History} → HostRan channel calls w h → Demand3 h channel (bookIn w)
 through-the-host = Hosted.host-ran-demand-3
 

@@ -1,5 +1,5 @@
 -- Nothing private is seen: frames that agree in all but private fields and checksum are seen alike. Records and ledger calls are made of what is
--- seen, by the types of `recordBy : Book → Sight Seen → Record` and `callsBy : Seen → List Call`: so they are alike too.
+-- seen, by the types of `recordBy : Book → Sight Seen → Record` and `callsBy : Seen → List Call` of `trail`: so they are alike too.
 use Prim.Native.Nat.{ℕ, _+_, _≤_}
 use mathlib.Core.Path.{_≡_, sym, ap, _∙_}
 use mathlib.Core.List.{List}

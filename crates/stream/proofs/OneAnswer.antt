@@ -1,4 +1,4 @@
--- For each public function: two answers that its promise allows are equal; where it is lent a buffer, so are two later contents of it, and a
+-- For each public function: two answers that its promise allows are equal, so are two later contents of the buffer lent, and a
 -- refusal leaves it as it was. Assumes nothing.
 use mathlib.Core.Path.{sym, _∙_}
 use mathlib.Core.Bool.{true, false}

@@ -1,4 +1,4 @@
--- What the promises that the checker makes of `opened`, `feed` and `close` come to: such calls make a `Row`, and so CR 1 holds of what they hand
+-- What the promises that the checker makes of `feed` and `close` come to: such calls make a `Row`, and so CR 1 holds of what they hand
 -- back and write. Assumes nothing.
 use Prim.Native.Nat.{ℕ, _*_, _≤_}
 use mathlib.Core.Path.{_≡_, refl, sym, ap, ap₂, _∙_}

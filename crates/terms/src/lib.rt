@@ -59,7 +59,7 @@ impl ChannelNumber {
 
 // Why something is refused: a case for each row of document 01's table but 0, in its order. (Its rows "type" and "number"
 // are MsgType and Range here.)
-// (7 and 19 come with later requests.)
+// (7 comes with a later request; 19 and 29 are a stream's own, in `flow`.)
 pub enum Refusal {
     More,
     MsgType,

@@ -1,4 +1,4 @@
--- Document 01, "Fault records and the listing": the walk of a closed capture. What it sees is `sightsOf` of steps over the reading of frame;
+-- Document 01, "Fault records and the listing": the walk of a closed capture. What it sees is `sightsOf` of `steps` over what `seen` shows of a reading;
 -- LiteralLaws.antt says that this is the walk in the document's own words. Records, counts and ledger are made of what is seen.
 use Prim.Native.Nat.{ℕ, zero, _+_, _/_}
 use mathlib.Core.Bool.{Bool}

@@ -1,4 +1,4 @@
--- What an accepted frame's body tells the layers above: its counters, and a resend's status. `view-same` in scrub says that
+-- What an accepted frame's body tells the layers above: its counters, and a resend's status. `view-same` in `private` says that
 -- nothing of it is private. `field K i b` is field number i of the table.
 use Prim.Native.Nat.{ℕ}
 use mathlib.Core.Path.{_≡_, refl}
