@@ -11,9 +11,9 @@ use std::time::SystemTime;
 use common::*;
 
 /// What the script needs of a machine, but for rt and cargo.
-const TOOLS: [&str; 14] = [
-    "awk", "bash", "cat", "chmod", "dirname", "env", "find", "flock", "mkdir", "readlink", "sed",
-    "sort", "tac", "tee",
+const TOOLS: [&str; 16] = [
+    "awk", "bash", "cat", "chmod", "dirname", "env", "find", "flock", "grep", "mkdir", "readlink",
+    "sed", "sort", "tac", "tee", "wc",
 ];
 
 /// Notes its call, says what rt says of a crate, and makes the libraries.
@@ -43,8 +43,10 @@ fn put(path: PathBuf, text: &str, mode: u32) {
 
 fn project() -> Folder {
     let folder = Folder::new();
-    let script = fs::read_to_string(root().join("rietknoest")).unwrap();
-    put(folder.path("project/rietknoest"), &script, 0o755);
+    for ours in ["rietknoest", "tools/below"] {
+        let script = fs::read_to_string(root().join(ours)).unwrap();
+        put(folder.path("project").join(ours), &script, 0o755);
+    }
     put(folder.path("project/tools/archive"), ARCHIVE, 0o755);
     put(
         folder.path("project/crates.txt"),
