@@ -1,3 +1,4 @@
 pub mod Parts
 pub mod PassLaws
 pub mod OneAnswer
+pub mod RuledOut

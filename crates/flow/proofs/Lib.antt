@@ -4,3 +4,4 @@ pub mod Cuttings
 pub mod Given
 pub mod OneAnswer
 pub mod Promised
+pub mod RuledOut

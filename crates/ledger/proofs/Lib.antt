@@ -1,3 +1,4 @@
 pub mod OneAnswer
 pub mod Promised
 pub mod Seam
+pub mod RuledOut

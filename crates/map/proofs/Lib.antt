@@ -3,3 +3,4 @@ pub mod Laws
 pub mod OneAnswer
 pub mod Ones
 pub mod Words
+pub mod RuledOut

@@ -7,3 +7,4 @@ pub mod Says
 pub mod Widths
 pub mod Rules
 pub mod Meaning
+pub mod Bodies

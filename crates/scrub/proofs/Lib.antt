@@ -1,2 +1,3 @@
 mod Parts
 pub mod OneAnswer
+pub mod RuledOut

@@ -4,3 +4,4 @@ pub mod Counters
 pub mod Refusals
 pub mod OneAnswer
 pub mod OneBuffer
+pub mod RuledOut

@@ -1,3 +1,4 @@
 pub mod PassLaws
 pub mod OneAnswer
 pub mod Promised
+pub mod RuledOut

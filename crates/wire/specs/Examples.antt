@@ -10,7 +10,9 @@ use Rattle.terms.specs.Paper.{Paper, answer, refusal}
 use Rattle.octets.specs.Octets.{numeral, digitsOf, sum8, sumOf}
 use Rattle.rules.specs.Table.{kindOf, suits, measureOf}
 use Rattle.rules.specs.Fields.{p001Ok, fieldsOk, judgeOf}
+use Rattle.rules.specs.Bodies.{logonBody, resendBody, tickBody}
 use Rattle.wire.specs.Frame.{bodyLength, checked, readOf}
+use Rattle.wire.specs.Write.{message, frameOf}
 
 -- 53303033 0047FA7908DACB40 0000000000000001: A up to its BodyLength
 unfoldable pub startOfA : List ℕ
@@ -31,7 +33,7 @@ unfoldable pub headerM101 : ℕ → ℕ → List ℕ
 headerM101 high low = 0x4D ∷ 0x31 ∷ 0x30 ∷ 0x31 ∷ replicate 15 0 ++ (1 ∷ 0 ∷ 0 ∷ high ∷ low ∷ [])
 
 -- the last four bytes
-abbrev four : ℕ → ℕ → List ℕ
+abbrev pub four : ℕ → ℕ → List ℕ
 four c d = 0 ∷ 0 ∷ c ∷ d ∷ []
 
 pub sameList : List ℕ → List ℕ → Bool
@@ -65,3 +67,33 @@ examples = refl
 pub example-length : (28 + bodyLength (frameA (four 0 0) (four 0 0x8E)) ≡ 28) × (length (frameA (four 0 0) (four 0 0x8E)) ≡ 28)
 unfolding frameA startOfA numeral
 example-length = (refl, refl)
+
+-- FRAMES FOR THE TABLES of wrong answers
+
+-- A, with these two as its last bytes
+abbrev pub ending : ℕ → ℕ → List ℕ
+ending c d = frameA (four 0 0) (four c d)
+
+abbrev pub A : List ℕ
+A = ending 0 0x8E
+
+-- document 01's 69 bytes A, FF, B
+abbrev pub capture : List ℕ
+capture = A ++ (0xFF ∷ frameB)
+
+-- a frame with the right checksum, of 2026-01-21 09:30:00.000 and MsgSeqNum 1
+abbrev pub framed : ℕ → List ℕ → List ℕ
+framed type content = frameOf (message type 20260121093000000 1 content)
+
+-- S003; S001 with its CompIDs and HeartBtInt; P002 of numbers 3 to 5 with ResendStatus and RejectText; M201 with its extension
+abbrev pub heartbeat : List ℕ
+heartbeat = framed 0x53303033 []
+
+abbrev pub logon : ℕ → ℕ → ℕ → List ℕ
+logon sender target heart = framed 0x53303031 (logonBody sender target heart)
+
+abbrev pub resend : ℕ → ℕ → List ℕ
+resend status text = framed 0x50303032 (resendBody 3 5 status text)
+
+abbrev pub tick : List ℕ → List ℕ
+tick tail = framed 0x4D323031 (tickBody tail)

@@ -1,3 +1,4 @@
 pub mod Back
 pub mod OneAnswer
 pub mod Rows
+pub mod RuledOut

@@ -1,0 +1,58 @@
+-- For each public function: wrong answers that its promise rules out, as tables of what is given and what is then wrong. Assumes nothing.
+use Prim.Native.Nat.{ℕ}
+use mathlib.Core.Path.{refl}
+use mathlib.Core.Bool.{Bool, true, false}
+use mathlib.Core.List.{List, [], _∷_}
+use denote.Ref.{now}
+use Rattle.terms.specs.RuledOut.{Row, _never_, _only_, Kept, RulesOut, ruled, numbers, bools}
+use Rattle.octets.specs.Octets.{numeral, digitsOf}
+use Rattle.rules.specs.declared.Kind.{Kind}
+use Rattle.rules.specs.declared.Kind.the-variants.{S001, P001, P002, M102}
+use Rattle.rules.specs.Bodies.{channelBody, resendBody, snapshotBody}
+use Rattle.rules.specs.Fields.{s001Ok, p001Ok, p002Ok, m102ValuesOk, entrySize, entryOk, entriesOk, m102Ok, fieldsOk, judgeOf}
+use Rattle.rules.specs.Verdicts.{verdictNumber}
+use Rattle.fields.proofs.fields_ok.Reads as fields-ok
+use Rattle.fields.proofs.fields_ok.Kinds as fields-ok-kinds
+use Rattle.fields.proofs.entry_size.Reads as entry-size
+use Rattle.fields.proofs.entry_size.Kinds as entry-size-kinds
+use Rattle.fields.proofs.judge.Reads as judge
+use Rattle.fields.proofs.judge.Kinds as judge-kinds
+
+-- a type and a body
+abbrev pub fields-ok-wrong : List (Row (Kind × List ℕ) Bool)
+fields-ok-wrong =
+    (P001, channelBody 13 0x59) never false  -- everything refused
+    ∷ (P001, channelBody 12 0x59) never true  -- SecurityType not judged
+    ∷ (P001, channelBody 13 0x58) never true  -- EndOfChannel not judged
+    ∷ (P002, resendBody 7 6 0 0x20) never true  -- a request that ends below its start
+    ∷ (P002, resendBody 7 0 0 0x20) only true  -- without an end
+    ∷ (M102, snapshotBody 1 0x4D44303031 1 2) only true
+    ∷ (M102, snapshotBody 1 0x4D44303031 1 10000000000000) never true  -- the second entry not judged: its price has 14 digits
+    ∷ (M102, snapshotBody 1 0x4D44333031 1 2) never true  -- SecurityType 1 with MD301
+    ∷ []
+
+pub fields-ok-rules-out : RulesOut (Kept _ fields-ok-kinds.ps fields-ok-kinds.r fields-ok.Post) (λ c. (c .args .0, now (c .args .1 .0))) (λ c. c .result) fields-ok-wrong
+unfolding numeral digitsOf p001Ok p002Ok m102ValuesOk entrySize entryOk entriesOk m102Ok fieldsOk
+fields-ok-rules-out = ruled bools (λ (i : Kind × List ℕ). fieldsOk (i .0) (i .1)) (λ c p. p) _ refl
+
+abbrev pub judge-wrong : List (Row (Kind × (ℕ × List ℕ)) ℕ)
+judge-wrong =
+    (P001, (20260121093000000, channelBody 13 0x59)) only 0  -- not refused
+    ∷ (P001, (20260121093000000, channelBody 12 0x59)) never 5  -- 5 where 6 is due
+    ∷ (P001, (20260121093000000, channelBody 12 0x59)) never 0  -- accepted
+    ∷ []
+
+pub judge-rules-out : RulesOut (Kept _ judge-kinds.ps judge-kinds.r judge.Post) (λ c. (c .args .0, (c .args .1 .0, now (c .args .1 .1 .0)))) (λ c. verdictNumber (c .result)) judge-wrong
+unfolding numeral digitsOf p001Ok fieldsOk judgeOf
+judge-rules-out = ruled numbers (λ (i : Kind × (ℕ × List ℕ)). judgeOf (i .0) (i .1 .0) (i .1 .1)) (λ c p. p) _ refl
+
+-- the letters of a stream as one number, and a size
+abbrev pub entry-size-wrong : List (Row ℕ ℕ)
+entry-size-wrong =
+    0x4D44303031 only 10  -- not 19 for all, and not 11
+    ∷ 0x4D44303032 only 19
+    ∷ []
+
+pub entry-size-rules-out : RulesOut (Kept _ entry-size-kinds.ps entry-size-kinds.r entry-size.Post) (λ c. c .args .0) (λ c. c .result) entry-size-wrong
+unfolding entrySize
+entry-size-rules-out = ruled numbers entrySize (λ c p. p) _ refl

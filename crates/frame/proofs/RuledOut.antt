@@ -1,0 +1,102 @@
+-- For each public function: wrong answers that its promise rules out, as tables of what is given and what is then wrong. Assumes nothing.
+use Prim.Native.Nat.{ℕ}
+use mathlib.Core.Path.{refl}
+use mathlib.Core.List.{List, [], _∷_, _++_}
+use contract.Lifetimes.{Lfts}
+use base.Fml.{GName}
+use denote.Ref.{RefT, now}
+use lib.ListN.{length, drop, replicate}
+use Rattle.terms.specs.Paper.{Paper, answer, refusal}
+use Rattle.terms.specs.RuledOut.{Row, _never_, _only_, Kept, Allows, RulesOut, ruled, lists, papers, Left, left, lefts, left-is}
+use Rattle.octets.specs.Octets.{numeral, digitsOf, laid, sum8, sumOf}
+use Rattle.octets.specs.Papers.{writtenPaper}
+use Rattle.rules.specs.Table.{kindOf, suits, measureOf}
+use Rattle.rules.specs.Fields.{p001Ok, fieldsOk, judgeOf}
+use Rattle.wire.specs.Frame.{checked, readOf, bodyRead}
+use Rattle.wire.specs.Write.{Message, message, plainOf, frameOf, writeOf, leftOf}
+use Rattle.wire.specs.Search.{firstOf, searchOf}
+use Rattle.wire.specs.Examples.{startOfA, frameA, frameB, ending, A}
+use Rattle.terms.specs.Counters.{sessionOf}
+use Rattle.frame.specs.declared.Read.the-variants.{Frame}
+use Rattle.frame.specs.Papers.{readPaper, foundPaper}
+use Rattle.frame.proofs.read_at.Reads as read-at
+use Rattle.frame.proofs.read_at.Kinds as read-at-kinds
+use Rattle.frame.proofs.body_at.Reads as body-at
+use Rattle.frame.proofs.body_at.Kinds as body-at-kinds
+use Rattle.frame.proofs.write.Reads as write
+use Rattle.frame.proofs.write.Kinds as write-kinds
+use Rattle.frame.proofs.search.Reads as search-reads
+use Rattle.frame.proofs.search.Kinds as search-kinds
+
+-- what document 01's frame A, an S003, reads as; and the body of its frame B, a P001
+abbrev readA : Paper
+readA = answer 0 (0x53303033 ∷ 0x0047FA7908DACB40 ∷ 1 ∷ 0 ∷ [])
+
+abbrev bodyB : List ℕ
+bodyB = 0x0D ∷ 0x00 ∷ 0x64 ∷ 0 ∷ 0 ∷ 0 ∷ 0 ∷ 0 ∷ 0 ∷ 0 ∷ 3 ∷ 0x4E ∷ []
+
+-- READ_AT: bytes and a place
+abbrev pub read-at-wrong : List (Row (List ℕ × ℕ) Paper)
+read-at-wrong =
+    (A, 0) only readA  -- not refused: a reader that refuses everything is wrong here
+    ∷ (frameB, 0) never readA  -- one fixed message for every frame
+    ∷ (ending 1 0x8E, 0) never readA  -- only the low byte of CheckSum compared
+    ∷ (ending 0 0x8F, 0) never readA  -- CheckSum not compared
+    ∷ (0xFF ∷ A, 1) only readA  -- not read at the front, whatever the place
+    ∷ []
+
+pub read-at-rules-out : RulesOut (Kept _ read-at-kinds.ps read-at-kinds.r read-at.Post) (λ c. (now (c .args .0), c .args .1 .0)) (λ c. readPaper (c .result)) read-at-wrong
+unfolding frameA startOfA frameB checked readOf numeral sum8 sumOf kindOf suits measureOf p001Ok fieldsOk judgeOf
+read-at-rules-out = ruled papers (λ (i : List ℕ × ℕ). readOf (drop (i .1) (i .0))) (λ c p. p) _ refl
+
+-- BODY_AT: bytes and a place
+abbrev pub body-at-wrong : List (Row (List ℕ × ℕ) (List ℕ))
+body-at-wrong =
+    (frameB, 0) only bodyB  -- not empty, no byte early or short
+    ∷ (ending 0 0x8F, 0) only []  -- nothing of a frame that is refused
+    ∷ []
+
+pub body-at-rules-out : RulesOut (Kept _ body-at-kinds.ps body-at-kinds.r body-at.Post) (λ c. (now (c .args .0), c .args .1 .0)) (λ c. now (c .result)) body-at-wrong
+unfolding frameA startOfA frameB checked readOf bodyRead numeral sum8 sumOf kindOf suits measureOf p001Ok fieldsOk judgeOf
+body-at-rules-out = ruled lists (λ (i : List ℕ × ℕ). bodyRead (drop (i .1) (i .0))) (λ c p. p) _ refl
+
+-- SEARCH: bytes and the place to start from; the answer is a place, or none
+abbrev pub search-wrong : List (Row (List ℕ × ℕ) Paper)
+search-wrong =
+    (0xFF ∷ A, 0) never answer 0 []  -- a search that finds nothing
+    ∷ (0xFF ∷ A, 0) only answer 0 (1 ∷ [])  -- no later place, none that does not read
+    ∷ (A, 1) only answer 0 []  -- no place before the start
+    ∷ (A, 29) only refusal 9  -- beyond the end is no "none"
+    ∷ []
+
+pub search-rules-out : RulesOut (Kept _ search-kinds.ps search-kinds.r search-reads.Post) (λ c. (now (c .args .0), c .args .1 .0)) (λ c. foundPaper (c .result)) search-wrong
+unfolding frameA startOfA checked readOf firstOf searchOf numeral sum8 sumOf kindOf suits measureOf fieldsOk judgeOf
+search-rules-out = ruled papers (λ (i : List ℕ × ℕ). searchOf (i .0) (i .1)) (λ c p. p) _ refl
+
+-- WRITE: a message and a lent buffer; the answer, and the buffer then
+abbrev messageB : Message
+messageB = message 0x50303031 0x0047FA7908DACB40 2 bodyB
+
+abbrev pub write-wrong : List (Row (Message × List ℕ) Left)
+write-wrong =
+    (messageB, replicate 41 7) only left (answer 0 (40 ∷ [])) (frameB ++ (7 ∷ []))  -- not refused, all of B, and the byte behind it kept
+    ∷ (messageB, replicate 39 7) only left (refusal 8) (replicate 39 7)  -- nothing stored before 8
+    ∷ (message 0x50303031 0 2 [], replicate 40 7) only left (refusal 4) (replicate 40 7)  -- 4 is told before 8 is looked for
+    ∷ []
+
+pub write-rules-out : RulesOut (Kept _ write-kinds.ps write-kinds.r write.Post) (λ c. (message (c .args .0) (c .args .1 .0) (c .args .1 .1 .0 .0) (now (c .args .1 .1 .1 .0)), now (c .args .1 .1 .1 .1 .0))) (λ c. left (writtenPaper (c .result)) (now (c .exit .1 .1 .1 .1 .0))) write-wrong
+unfolding frameB checked plainOf frameOf writeOf leftOf numeral digitsOf laid sum8 sumOf kindOf suits measureOf p001Ok fieldsOk judgeOf
+write-rules-out =
+    ruled lefts (λ (i : Message × List ℕ). left (writeOf (i .0) (length (i .1))) (leftOf (i .0) (i .1))) (λ c p. left-is p) _ refl
+
+-- THERE ARE SUCH CALLS: A lent anywhere, under any name, is read at 0 as A, and the promise allows it. So no row above holds for want of calls.
+pub read-at-allows : (κs : Lfts 1) (at : ℕ × ℕ) (name : GName) → Allows {I = List ℕ × ℕ} (Kept _ read-at-kinds.ps read-at-kinds.r read-at.Post) (λ c. (now (c .args .0), c .args .1 .0)) (λ c. readPaper (c .result)) (A, 0) readA
+unfolding frameA startOfA checked readOf numeral sum8 sumOf kindOf suits measureOf fieldsOk judgeOf
+read-at-allows κs at name =
+    let bytes : RefT (List ℕ) = record { ptr = at; name = name; now = A } in
+    record {
+      call = record { lifetimes = κs; args = (bytes, (0, tt)); result = Frame 0x53303033 0x0047FA7908DACB40 (sessionOf 1) 0; exit = (bytes, (0, tt)) };
+      given = refl;
+      outcome = refl;
+      promised = refl;
+    }

@@ -1,0 +1,93 @@
+-- For each public function: wrong answers that its promise rules out, as tables of what is given and what is then wrong. Assumes nothing.
+use Prim.Native.Nat.{ℕ}
+use mathlib.Core.Path.{_≡_, refl, ap₂}
+use mathlib.Core.Bool.{Bool, true, false}
+use mathlib.Core.List.{List, [], _∷_, _++_}
+use denote.Ref.{now}
+use lib.ListN.{length, take, drop, replicate}
+use Rattle.terms.specs.Paper.{Paper, answer, pick}
+use Rattle.terms.specs.RuledOut.{Row, _never_, _only_, Kept, RulesOut, ruled, lists, papers, beside}
+use Rattle.octets.specs.Octets.{numeral, digitsOf, laid, sum8, sumOf}
+use Rattle.rules.specs.Table.{kindOf, suits, measureOf}
+use Rattle.rules.specs.Fields.{p001Ok, fieldsOk, judgeOf}
+use Rattle.wire.specs.Frame.{checked, readOf, bodyRead}
+use Rattle.wire.specs.Examples.{startOfA, frameA, frameB, A}
+use Rattle.view.specs.View.{viewOf}
+use Rattle.map.specs.Bits as Bits
+use Rattle.book.specs.State.{rangeRules, mapRules, soundOf}
+use Rattle.book.specs.Calls as Book
+use Rattle.ledger.specs.State.{bookOf, ledgerOf}
+use Rattle.steps.specs.Walk.{after, next, found, noted}
+use Rattle.steps.specs.Waits as Waits
+use Rattle.steps.specs.Cuts as Cuts
+use Rattle.steps.specs.Account as Account
+use Rattle.steps.specs.Frames.{joined, eachOf}
+use Rattle.record.specs.Record.{firstHalf, secondHalf, recordOf, blankOf}
+use Rattle.record.specs.Examples.{recordA, recordFF, recordB}
+use Rattle.seen.specs.Seen.{seenOf, saysOf}
+use Rattle.trail.specs.Offers.{callsBy, answered, offerOf}
+use Rattle.trail.specs.Walk.{madeOf, recordBy, bookBy, accepts, refuses}
+use Rattle.flow.specs.declared.Stream.{Stream}
+use Rattle.flow.specs.State as State
+use Rattle.flow.specs.State.{opened}
+use Rattle.flow.specs.Tally as Tally
+use Rattle.flow.specs.Calls as Calls
+use Rattle.flow.specs.Calls.{Feed, Close, fedPaper, answerTo, nextOf, leaves}
+use Rattle.stream.proofs.feed.Reads as feed
+use Rattle.stream.proofs.feed.Kinds as feed-kinds
+use Rattle.stream.proofs.close.Reads as close
+use Rattle.stream.proofs.close.Kinds as close-kinds
+
+-- what is seen of a stream: its place, the kept bytes, frames and refused; and of a call: the answer, the stream then, and the buffer then
+abbrev seen : Stream → List ℕ
+seen x = x .place ∷ x .len ∷ x .tally .frames ∷ x .tally .refused ∷ []
+
+abbrev Outcome : Type 0
+Outcome = Paper × (List ℕ × List ℕ)
+
+abbrev shown : Paper → Stream → List ℕ → Outcome
+shown p x d = (p, (seen x, d))
+
+-- each call promises its answer, its stream and its buffer
+both : {p q : Paper} {x y : Stream} {d e : List ℕ} → (p ≡ q) × ((x ≡ y) × (d ≡ e)) → shown p x d ≡ shown q y e
+both {p} {q} {x} {y} {d} {e} h = ap₂ (λ (a : Paper) (r : List ℕ × List ℕ). (a, r)) (h .0) (ap₂ (λ (z : Stream) (l : List ℕ). (seen z, l)) (h .1 .0) (h .1 .1))
+
+-- a stream, a cut, and a lent buffer
+abbrev pub feed-wrong : List (Row (Stream × (List ℕ × List ℕ)) Outcome)
+feed-wrong =
+    (opened, (A ++ take 20 frameB, replicate 65 7)) only (answer 0 (1 ∷ []), (28 ∷ 20 ∷ 1 ∷ 0 ∷ [], recordOf recordA ++ (7 ∷ [])))  -- what may still become a frame is not refused, and not lost
+    ∷ (opened, (A, replicate 63 7)) only (answer 8 (0 ∷ []), (0 ∷ 0 ∷ 0 ∷ 0 ∷ [], replicate 63 7))  -- nothing changes beside 8
+    ∷ []
+
+pub feed-rules-out : RulesOut (Kept _ feed-kinds.ps feed-kinds.r feed.Post) (λ c. (c .args .0, (now (c .args .1 .0), now (c .args .1 .1 .0)))) (λ c. shown (fedPaper (c .result)) (c .result .stream) (now (c .exit .1 .1 .0))) feed-wrong
+unfolding frameA startOfA frameB checked readOf bodyRead numeral digitsOf laid sum8 sumOf kindOf suits measureOf p001Ok fieldsOk judgeOf viewOf Bits.valueOf Bits.mapOf rangeRules mapRules soundOf Book.ownNumber Book.checkedOf Book.numberTo Book.raised Book.done Book.nextOf Book.fresh bookOf ledgerOf after next found noted joined eachOf Account.accountOf firstHalf secondHalf recordOf blankOf seenOf saysOf callsBy answered offerOf madeOf recordBy bookBy accepts refuses
+    opened State.headOf State.isSeeking State.meantBy State.valueOf State.allZero State.waitsRight State.soundOf Tally.tallyWith Tally.recordAt Tally.tallyAfter Tally.ledgerRight Tally.tallyRight Calls.givenOf Calls.behindOf Calls.numberFor Calls.answerFor Calls.nextFor Calls.leavesFor Cuts.feedOf Waits.waits Waits.ranOf
+feed-rules-out =
+    ruled (beside papers (beside lists lists)) (λ (i : Stream × (List ℕ × List ℕ)). shown (answerTo (i .0) (Feed (i .1 .0)) (length (i .1 .1))) (nextOf (i .0) (Feed (i .1 .0)) (length (i .1 .1))) (leaves (i .0) (Feed (i .1 .0)) (i .1 .1)))
+    (λ c p. both p)
+    _
+    refl
+
+-- the stream behind A and 20 bytes of B; and the same, closed
+abbrev waiting : Stream
+waiting = nextOf opened (Feed (A ++ take 20 frameB)) 64
+
+abbrev closed : Stream
+closed = nextOf waiting Close 64
+
+-- a stream and a lent buffer
+abbrev pub close-wrong : List (Row (Stream × List ℕ) Outcome)
+close-wrong =
+    (waiting, replicate 64 7) never (answer 0 (0 ∷ []), (48 ∷ 0 ∷ 1 ∷ 0 ∷ [], replicate 64 7))  -- what waits is dropped in silence
+    ∷ (waiting, replicate 64 7) only (answer 0 (1 ∷ []), (48 ∷ 0 ∷ 1 ∷ 1 ∷ [], recordOf (blankOf 28 1 0 0)))
+    ∷ (closed, replicate 64 7) only (answer 19 (0 ∷ []), (48 ∷ 0 ∷ 1 ∷ 1 ∷ [], replicate 64 7))  -- not closed a second time
+    ∷ []
+
+pub close-rules-out : RulesOut (Kept _ close-kinds.ps close-kinds.r close.Post) (λ c. (c .args .0, now (c .args .1 .0))) (λ c. shown (fedPaper (c .result)) (c .result .stream) (now (c .exit .1 .0))) close-wrong
+unfolding frameA startOfA frameB checked readOf bodyRead numeral digitsOf laid sum8 sumOf kindOf suits measureOf p001Ok fieldsOk judgeOf viewOf Bits.valueOf Bits.mapOf rangeRules mapRules soundOf Book.ownNumber Book.checkedOf Book.numberTo Book.raised Book.done Book.nextOf Book.fresh bookOf ledgerOf after next found noted joined eachOf Account.accountOf firstHalf secondHalf recordOf blankOf seenOf saysOf callsBy answered offerOf madeOf recordBy bookBy accepts refuses
+    opened State.headOf State.isSeeking State.meantBy State.valueOf State.allZero State.waitsRight State.soundOf Tally.tallyWith Tally.recordAt Tally.tallyAfter Tally.ledgerRight Tally.tallyRight Calls.givenOf Calls.behindOf Calls.numberFor Calls.answerFor Calls.nextFor Calls.leavesFor Cuts.feedOf Waits.waits Waits.ranOf
+close-rules-out =
+    ruled (beside papers (beside lists lists)) (λ (i : Stream × List ℕ). shown (answerTo (i .0) Close (length (i .1))) (nextOf (i .0) Close (length (i .1))) (leaves (i .0) Close (i .1)))
+    (λ c p. both p)
+    _
+    refl

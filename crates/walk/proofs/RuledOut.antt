@@ -1,0 +1,57 @@
+-- Wrong answers that the promise of `walk` rules out, as a table of what is given and what is then wrong. Assumes nothing.
+use Prim.Native.Nat.{ℕ}
+use mathlib.Core.Path.{_≡_, refl, ap, ap₂}
+use mathlib.Core.List.{List, [], _∷_, _++_}
+use denote.Ref.{now}
+use lib.ListN.{length, drop, replicate}
+use Rattle.terms.specs.Paper.{Paper, answer}
+use Rattle.terms.specs.RuledOut.{Row, _never_, _only_, Kept, RulesOut, ruled, lists, papers, beside}
+use Rattle.octets.specs.Octets.{numeral, digitsOf, laid, sum8, sumOf}
+use Rattle.rules.specs.Table.{kindOf, suits, measureOf}
+use Rattle.rules.specs.Fields.{p001Ok, fieldsOk, judgeOf}
+use Rattle.wire.specs.Frame.{checked, readOf, bodyRead}
+use Rattle.wire.specs.Examples.{startOfA, frameA, frameB, capture}
+use Rattle.view.specs.View.{viewOf}
+use Rattle.map.specs.Bits.{valueOf, mapOf}
+use Rattle.book.specs.State.{Asked, nothing, range, Book, rangeRules, mapRules, soundOf}
+use Rattle.book.specs.Calls.{ownNumber, checkedOf, numberTo, raised, done, nextOf, fresh}
+use Rattle.ledger.specs.State.{bookOf, ledgerOf}
+use Rattle.ledger.specs.declared.Ledger.{Ledger}
+use Rattle.steps.specs.Walk.{after, next, found, noted, sightsOf}
+use Rattle.steps.specs.Account as Account
+use Rattle.steps.specs.Frames.{joined, eachOf}
+use Rattle.record.specs.Record.{firstHalf, secondHalf, recordOf, blankOf}
+use Rattle.record.specs.Examples.{recordA, recordFF, recordB}
+use Rattle.seen.specs.Seen.{seenOf, saysOf}
+use Rattle.trail.specs.Offers.{callsBy, answered, offerOf}
+use Rattle.trail.specs.Walk.{madeOf, recordBy, bookBy, accepts, refuses, framesOf, refusedOf, fitsIn, walkAnswer, walkBook, walkLeaves}
+use Rattle.walk.specs.Papers.{walkPaper}
+use Rattle.walk.proofs.walk.Reads as walk
+use Rattle.walk.proofs.walk.Kinds as walk-kinds
+
+-- the answer with its three counts; channel, floor, top and held numbers of the ledger; and the lent buffer then
+abbrev Outcome : Type 0
+Outcome = Paper × (List ℕ × List ℕ)
+
+abbrev seen : Book → List ℕ
+seen b = b .channel ∷ b .floor ∷ b .top ∷ b .bits ∷ []
+
+abbrev shown : Paper → Ledger → List ℕ → Outcome
+shown p l d = (p, (seen (bookOf l), d))
+
+-- a capture (document 01's 69 bytes A, FF, B) and a lent buffer
+abbrev pub walk-wrong : List (Row (List ℕ × List ℕ) Outcome)
+walk-wrong =
+    (capture, replicate 193 7) only (answer 0 (3 ∷ 2 ∷ 1 ∷ []), (100 ∷ 0 ∷ 3 ∷ 0 ∷ [], recordOf recordA ++ (recordOf recordFF ++ (recordOf recordB ++ (7 ∷ [])))))
+    ∷ (capture, replicate 128 7) never (answer 0 (2 ∷ 2 ∷ 0 ∷ []), (100 ∷ 0 ∷ 3 ∷ 0 ∷ [], recordOf recordA ++ recordOf recordB))  -- the damage passed over in silence
+    ∷ (capture, replicate 128 7) never (answer 8 (0 ∷ 0 ∷ 0 ∷ []), (100 ∷ 0 ∷ 0 ∷ 0 ∷ [], recordOf recordA ++ recordOf recordFF))  -- two records laid, and then 8
+    ∷ (capture, replicate 128 7) only (answer 8 (0 ∷ 0 ∷ 0 ∷ []), (100 ∷ 0 ∷ 0 ∷ 0 ∷ [], replicate 128 7))
+    ∷ []
+
+pub walk-rules-out : RulesOut (Kept _ walk-kinds.ps walk-kinds.r walk.Post) (λ c. (now (c .args .0), now (c .args .1 .0))) (λ c. shown (walkPaper (c .result)) (c .result .ledger) (now (c .exit .1 .0))) walk-wrong
+unfolding frameA startOfA frameB checked readOf bodyRead numeral digitsOf laid sum8 sumOf kindOf suits measureOf p001Ok fieldsOk judgeOf viewOf valueOf mapOf rangeRules mapRules soundOf ownNumber checkedOf numberTo raised done nextOf fresh bookOf ledgerOf after next found noted sightsOf joined eachOf Account.accountOf Account.walkOf firstHalf secondHalf recordOf blankOf seenOf saysOf callsBy answered offerOf madeOf recordBy bookBy accepts refuses framesOf refusedOf fitsIn walkAnswer walkBook walkLeaves
+walk-rules-out =
+    ruled (beside papers (beside lists lists)) (λ (i : List ℕ × List ℕ). shown (walkAnswer (i .0) (length (i .1))) (ledgerOf (walkBook (i .0) (length (i .1)))) (walkLeaves (i .0) (i .1)))
+    (λ c p. ap₂ (λ (x : Paper) (y : List ℕ × List ℕ). (x, y)) (p .0) (ap₂ (λ (l : Ledger) (d : List ℕ). (seen (bookOf l), d)) (p .1 .0) (p .1 .1)))
+    _
+    refl
