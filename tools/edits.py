@@ -1,4 +1,4 @@
-"""Wrong programs as edits: the one reader of their form, for tools/refused and tools/apart.
+"""Wrong programs as edits: the one reader of their form, for tools/apart.
 
 A `file:` line holds for the `old:` and `new:` pairs after it; a line that begins otherwise says what the edit is."""
 
