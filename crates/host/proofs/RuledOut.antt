@@ -54,7 +54,7 @@ rk-read-wrong =
     (A, (0, replicate 9 7)) never told 5 (replicate 9 7)  -- everything refused
     ∷ (frameB, (0, replicate 9 7)) never told 0 (0x50303031 ∷ 0x0047FA7908DACB40 ∷ 2 ∷ 12 ∷ 3 ∷ 100 ∷ 0 ∷ 0 ∷ 0 ∷ [])  -- channel and tick number swapped
     ∷ (frameB, (0, replicate 9 7)) only told 0 (0x50303031 ∷ 0x0047FA7908DACB40 ∷ 2 ∷ 12 ∷ 100 ∷ 3 ∷ 0 ∷ 0 ∷ 0 ∷ [])
-    ∷ (resend 1 0x41, (0, replicate 9 7)) only told 0 (0x50303032 ∷ 7 ∷ 1 ∷ 52 ∷ 100 ∷ 3 ∷ 3 ∷ 5 ∷ 1 ∷ [])  -- nothing of its RejectText
+    ∷ (resend 1 0x41, (0, replicate 9 7)) only told 0 (0x50303032 ∷ 20260121093000000 ∷ 1 ∷ 52 ∷ 100 ∷ 3 ∷ 3 ∷ 5 ∷ 1 ∷ [])  -- nothing of its RejectText
     ∷ (0xFF ∷ resend 1 0x41, (0, replicate 9 7)) only told 2 (replicate 9 7)  -- nothing told of what is refused
     ∷ []
 
