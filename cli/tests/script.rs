@@ -16,7 +16,7 @@ const TOOLS: [&str; 16] = [
     "sed", "sort", "tac", "tee", "wc",
 ];
 
-/// Notes its call, says what rt says of a crate, and makes the libraries.
+/// Notes its call, says what rt says of a crate, and makes the library.
 const ARCHIVE: &str = "#!/usr/bin/env bash
 cd \"${0%/*}/..\"
 echo archive >>calls
@@ -24,7 +24,7 @@ echo 'fn terms::new: proved' >&2
 echo 'rt: terms proved (1 s)' >&2
 echo 'rt: rules proved (unchanged since it was last proved)' >&2
 [ ! -f broken ] || exit 1
-for name in host host_ledger host_captures follow; do echo >build/lib$name.a; done
+echo >build/librietknoest.a
 ";
 
 /// Notes its call, and makes a command that tells its folder and its words.
@@ -43,7 +43,7 @@ fn put(path: PathBuf, text: &str, mode: u32) {
 
 fn project() -> Folder {
     let folder = Folder::new();
-    for ours in ["rietknoest", "tools/below"] {
+    for ours in ["rietknoest", "tools/below", "tools/exports"] {
         let script = fs::read_to_string(root().join(ours)).unwrap();
         put(folder.path("project").join(ours), &script, 0o755);
     }
@@ -66,6 +66,10 @@ fn project() -> Folder {
     ];
     for file in files {
         put(folder.path("project").join(file), "", 0o644);
+    }
+    for exporting in ["host", "host_ledger", "host_captures", "follow"] {
+        let file = format!("project/crates/{exporting}/src/lib.rt");
+        put(folder.path(&file), "#[no_mangle]\n", 0o644);
     }
     fs::create_dir(folder.path("bin")).unwrap();
     let paths = std::env::var_os("PATH").unwrap();
@@ -98,7 +102,7 @@ fn calls(folder: &Folder) -> String {
 #[test]
 fn the_script() {
     it_builds_once_and_again_when_something_changed();
-    libraries_that_are_there_take_no_minutes();
+    a_library_that_is_there_takes_no_minutes();
     what_can_not_be_built_is_told();
 }
 
@@ -108,7 +112,7 @@ fn it_builds_once_and_again_when_something_changed() {
     let first = "rietknoest: first use: 6 crates are proved, a line for each, then the command is built
 rietknoest: that takes about five to ten minutes, once; what is proved stays proved if you break it off
 rietknoest: terms proved (1 s)
-rietknoest: the libraries are proved and built
+rietknoest: the library is proved and built
 rietknoest: built
 ";
     // words, folder and status are the command's
@@ -161,17 +165,11 @@ rietknoest: built
 }
 
 /// tools/archive was run before, by itself.
-fn libraries_that_are_there_take_no_minutes() {
+fn a_library_that_is_there_takes_no_minutes() {
     let folder = project();
-    for name in ["host", "host_ledger", "host_captures", "follow"] {
-        put(
-            folder.path(&format!("project/build/lib{name}.a")),
-            "",
-            0o644,
-        );
-    }
+    put(folder.path("project/build/librietknoest.a"), "", 0o644);
     let ran = run_script(&folder, &folder.path("project/rietknoest"), &[]);
-    let first = "rietknoest: first use: the libraries are there, ";
+    let first = "rietknoest: first use: the library is there, ";
     assert!(ran.error().starts_with(first) && !ran.error().contains("minutes"));
     assert_eq!((ran.status, ran.out()), (Some(1), "elsewhere: 0 \n"));
     assert_eq!(calls(&folder), "archive\ncargo\n");
@@ -201,7 +199,7 @@ fn what_can_not_be_built_is_told() {
     let ran = run_script(&folder, &script, &["list"]);
     assert!(ran
         .error()
-        .contains("\nrietknoest: the libraries were not built; "));
+        .contains("\nrietknoest: the library was not built; "));
     assert_eq!((ran.status, ran.out()), (Some(2), ""));
     fs::remove_file(folder.path("project/broken")).unwrap();
     let ran = run_script(&folder, &script, &["list"]);

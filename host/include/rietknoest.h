@@ -1,7 +1,6 @@
 /* The proved library for C11 and C++: frames of the exchange's market data gateway read, written, searched for and scrubbed, the gap
- * ledger of a tick channel, captures walked, listed and cleaned, whole or while they arrive. Link build/libhost.a for frames and entries,
- * build/libhost_ledger.a for the functions rk_ledger_, build/libhost_captures.a for rk_walk, rk_listing, rk_clean and rk_is_clean,
- * build/libfollow.a for the functions rk_stream_; tools/archive builds all four.
+ * ledger of a tick channel, captures walked, listed and cleaned, whole or while they arrive. Link librietknoest (.a or .so): tools/archive
+ * builds it, tools/install lays it where pkg-config finds it.
  *
  * Every function answers a number of the table below, 0 where all is well, and tells the rest through what it is lent. It keeps no
  * pointer, allocates nothing, has no state of its own, and may be called from several threads at once.
@@ -27,6 +26,10 @@ extern "C" {
 #endif
 
 RK_SIZE(size_t, 1);
+
+#define RK_VERSION_MAJOR 0
+#define RK_VERSION_MINOR 2
+#define RK_VERSION_PATCH 0
 
 /* WHAT EACH NUMBER SAYS */
 

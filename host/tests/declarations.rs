@@ -1,4 +1,4 @@
-//! The declarations: the header, the Rust wrapper and the archives say the same as the proved crates' sources, and a C program that calls
+//! The declarations: the header, the Rust wrapper and the library say the same as the proved crates' sources, and a C program that calls
 //! every function gets the wrapper's answers.
 
 mod made;
@@ -38,7 +38,7 @@ fn run(command: &mut Command, input: &[u8]) -> Vec<u8> {
     output.stdout
 }
 
-/// The crates that are built as archives, and how many functions each has for others.
+/// The crates of which the library is made, and how many functions each has for others.
 const EXPORTS: [(&str, usize); 4] = [
     ("host", 7),
     ("host_ledger", 6),
@@ -46,7 +46,7 @@ const EXPORTS: [(&str, usize); 4] = [
     ("follow", 3),
 ];
 
-/// Compiles a program against the header and the archives.
+/// Compiles a program against the header and the library.
 fn compiled(compiler: &str, standard: &str, source: &str) -> PathBuf {
     let name = Path::new(source).file_stem().expect("a name");
     let program = Path::new(env!("CARGO_TARGET_TMPDIR")).join(name);
@@ -56,7 +56,7 @@ fn compiled(compiler: &str, standard: &str, source: &str) -> PathBuf {
         .arg("-I")
         .arg(root().join("host/include"))
         .arg(root().join(source))
-        .args(EXPORTS.map(|(name, _)| root().join(format!("build/lib{name}.a"))))
+        .arg(root().join("build/librietknoest.a"))
         .arg("-o")
         .arg(&program);
     run(&mut command, b"");
@@ -226,19 +226,21 @@ fn everyone_declares_the_same_functions() {
         let functions = of_crate(name);
         assert_eq!(functions.len(), count);
         assert!(functions.values().all(|(_, answer)| answer == "u32"));
-        let names: BTreeSet<_> = functions.keys().cloned().collect();
-        assert_eq!(symbols(name), names, "the archive of {name}");
         exported.extend(functions);
     }
+    let names: BTreeSet<_> = exported.keys().cloned().collect();
+    assert_eq!(symbols(&["--extern-only"], "a"), names, "the archive");
+    assert_eq!(symbols(&["--dynamic"], "so"), names, "the shared library");
     assert_eq!(of_header(), exported, "the header");
     assert_eq!(of_wrapper(), exported, "the wrapper");
 }
 
-/// The functions that a crate's archive has for others.
-fn symbols(name: &str) -> BTreeSet<String> {
+/// The functions that the library has for others.
+fn symbols(which: &[&str], suffix: &str) -> BTreeSet<String> {
     let mut nm = Command::new("nm");
-    nm.args(["--extern-only", "--defined-only", "--format=posix"])
-        .arg(root().join(format!("build/lib{name}.a")));
+    nm.args(which)
+        .args(["--defined-only", "--format=posix"])
+        .arg(root().join(format!("build/librietknoest.{suffix}")));
     let symbols = String::from_utf8(run(&mut nm, b"")).expect("text");
     symbols
         .lines()
