@@ -14,7 +14,7 @@ use oracle::frame::Message;
 use oracle::ledger::{Ledger as Plain, Pending};
 use oracle::numbers::{Channel, Session, Tick};
 use oracle::record::{summary, Record, BLANK, SIZE};
-use oracle::stream::Stream as Plainly;
+use oracle::stream::{State, Stream as Plainly};
 use rietknoest_host as host;
 use rietknoest_host::{
     ChannelNumber, Entry, Fed, Frame, Ledger, Passed, Refusal, Request, SessionNumber, Span,
@@ -535,7 +535,7 @@ fn long_capture_case(d: &mut Dice) {
 
 // A CAPTURE WHILE IT ARRIVES
 
-fn stream_of(s: &Plainly) -> Stream {
+fn stream_of(s: &State) -> Stream {
     let (seeking, closed) = (s.seeking.into(), s.closed.into());
     let words = [s.place, seeking, closed, s.waiting, s.frames, s.refused];
     Stream::of_parts(words, Ledger::of_words(words_of(s.ledger)), s.store)
@@ -552,7 +552,7 @@ fn called(
         Some(cut) => s.feed(cut, records),
         None => s.close(records),
     };
-    let bytes = theirs.waiting.min(8_191) as usize + cut.map_or(0, <[u8]>::len);
+    let bytes = theirs.state().waiting.min(8_191) as usize + cut.map_or(0, <[u8]>::len);
     let mut roomy = vec![0; host::records_room(bytes)];
     let (_, needed) = call(theirs, &mut roomy);
     assert!(needed != Err(No::Room), "records_room is too small");
@@ -560,12 +560,13 @@ fn called(
     let mut records = lent(d, room);
     let mut laid = records.clone();
     let (next, answer) = call(theirs, &mut laid);
+    let state = next.state();
     let told = plain(answer).map(|n| Fed {
         records: n as u64,
-        frames: next.frames,
-        refused: next.refused,
-        place: next.place,
-        waiting: next.waiting,
+        frames: state.frames,
+        refused: state.refused,
+        place: state.place,
+        waiting: state.waiting,
     });
     let before = ours.clone();
     match cut {
@@ -575,7 +576,7 @@ fn called(
     same(&records, &laid, "a call's records");
     let given = told.ok().map(|fed| fed.records as usize * SIZE);
     let after = if given.is_some() {
-        stream_of(&next)
+        stream_of(&state)
     } else {
         before
     };
@@ -603,12 +604,12 @@ fn stream_case(d: &mut Dice) {
     let mut capture = made::capture(d, n, most);
     capture.truncate(long);
     let (mut ours, mut theirs) = (Stream::open(), Plainly::opened());
-    same(&ours, &stream_of(&theirs), "an open stream");
+    same(&ours, &stream_of(&theirs.state()), "an open stream");
     let mut given = Vec::new();
     let mut at = 0;
     let mut cleaned = Vec::new();
     let mut from = 0;
-    while !theirs.closed {
+    while !theirs.state().closed {
         let cut = made::cut(d, size, capture.len() - at);
         let cut = &capture[at..at + cut];
         let cut = (at < capture.len()).then_some(cut);
@@ -616,7 +617,7 @@ fn stream_case(d: &mut Dice) {
             given.extend(records);
             at += cut.map_or(0, <[u8]>::len);
             // as the command scrubs what arrives: the bytes that became decided, by themselves
-            let decided = at - theirs.waiting as usize;
+            let decided = at - theirs.state().waiting as usize;
             cleaned.extend(clean_of(&capture[from..decided]));
             from = decided;
         }
@@ -633,7 +634,8 @@ fn stream_case(d: &mut Dice) {
     records.truncate(walked.records * SIZE);
     same(given, records, "the records of a stream and of the walk");
     let counts = (walked.frames, walked.refused);
-    same((theirs.frames, theirs.refused), counts, "the counts");
+    let state = theirs.state();
+    same((state.frames, state.refused), counts, "the counts");
     same(ours.ledger, walked.ledger, "the ledger");
 }
 
@@ -663,7 +665,7 @@ fn stream_state_case(d: &mut Dice) {
         same(ours, before, "the stream");
         return;
     }
-    let mut theirs = Plainly {
+    let mut theirs = Plainly::of(State {
         place: words[0],
         seeking: words[1] == 1,
         closed: words[2] == 1,
@@ -672,7 +674,7 @@ fn stream_state_case(d: &mut Dice) {
         frames: words[4],
         refused: words[5],
         ledger: plain_ledger(ledger),
-    };
+    });
     called(d, &mut ours, &mut theirs, Some(cut));
     called(d, &mut ours, &mut theirs, Some(&[]));
     called(d, &mut ours, &mut theirs, None);

@@ -40,6 +40,12 @@ impl Record {
         }
     }
 
+    /// Whether it is the record of a refused reading: no type of the table is
+    /// four spaces.
+    pub fn is_refused(self) -> bool {
+        self.msg_type == BLANK
+    }
+
     /// "place 8, MsgType 4, answer 4, MsgSeqNum 8, tick number 8, channel 2,
     /// zero 2, BodyLength 4, floor 8, top 8, zero 8"
     pub fn bytes(self) -> [u8; SIZE] {
@@ -75,7 +81,7 @@ impl Record {
     /// "Columns: place, type (`----` where blank), answer, MsgSeqNum, channel,
     /// tick number, floor, top." The line ends in a newline (0.17).
     pub fn line(self) -> Vec<u8> {
-        let name = if self.msg_type == BLANK {
+        let name = if self.is_refused() {
             *b"----"
         } else {
             self.msg_type

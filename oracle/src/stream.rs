@@ -1,22 +1,25 @@
 //! CR 1: a capture read while it arrives.
 //!
 //! "Bytes come in cuts of arbitrary size, also of no bytes, and a closing call
-//! ends them." Every call takes the stream and gives back the next one. All
-//! fields are open, so that a state may be made by hand; each call checks it
-//! first.
+//! ends them." A stream here keeps every byte that it was given, and each call
+//! walks all of them anew by document 01: what a call gives is what the closed
+//! walk over the joined bytes has decided by now and had not before. So it has
+//! nothing in common with a program that keeps 8,191 bytes and goes on from
+//! where it stood, but for the state that such a program shows.
 
 use crate::answer::No;
-use crate::frame::read;
+use crate::frame::{read, search};
 use crate::ledger::Ledger;
 use crate::record::{lay, Record};
-use crate::walk::{offered, CHANNEL};
+use crate::walk::{readings, Reading, CHANNEL};
 
 /// "At most 8,191 bytes are kept between calls."
 pub const KEPT: usize = 8_191;
 
-/// What is kept between two calls.
+/// What is kept between two calls, as docs/STATES.md has it. All fields are
+/// open, so that a state may be made by hand.
 #[derive(Clone, Debug, PartialEq, Eq)]
-pub struct Stream {
+pub struct State {
     /// The place of the first byte that waits, or of the next byte to come.
     pub place: u64,
     /// Whether the last reading recorded was refused, so that the search goes
@@ -31,11 +34,11 @@ pub struct Stream {
     pub ledger: Ledger,
 }
 
-impl Stream {
-    /// A stream that no byte has come to.
-    pub fn opened() -> Stream {
+impl State {
+    /// The state to which no byte has come.
+    pub fn opened() -> State {
         let (ledger, _) = Ledger::open(CHANNEL);
-        Stream {
+        State {
             place: 0,
             seeking: false,
             closed: false,
@@ -70,72 +73,132 @@ impl Stream {
         let rests = kept.is_empty() || (!self.closed && read(kept) == Err(No::More));
         blank && counts && ledger && places && rests
     }
+}
+
+/// A stream: the state it started from, every byte since then, the bytes that
+/// waited in that state first, and whether it was closed. "Every call takes the
+/// stream and gives back the next one."
+#[derive(Clone, Debug, PartialEq, Eq)]
+pub struct Stream {
+    start: State,
+    joined: Vec<u8>,
+    closed: bool,
+}
+
+impl Stream {
+    /// A stream that no byte has come to.
+    pub fn opened() -> Stream {
+        Stream::of(State::opened())
+    }
+
+    /// A stream of a state, perhaps made by hand.
+    pub fn of(state: State) -> Stream {
+        let waiting = state.waiting.min(KEPT as u64) as usize;
+        Stream {
+            joined: state.store[..waiting].to_vec(),
+            closed: state.closed,
+            start: state,
+        }
+    }
+
+    /// The closed walk over the joined bytes, which begins with a search where
+    /// the stream started with one under way. Places count from the first of
+    /// the joined bytes.
+    fn walked(&self) -> Vec<Reading> {
+        let first = if self.start.seeking {
+            search(&self.joined, 0).ok().flatten()
+        } else {
+            Some(0)
+        };
+        let end = self.joined.len();
+        readings(&self.joined, first.unwrap_or(end), self.start.ledger)
+    }
+
+    /// How many of the joined bytes are decided. "A place that answers 1 waits
+    /// for more", whether the walk reads there or the search tries it; both pass
+    /// over places within accepted frames alone. "At the closing call what
+    /// remains is walked by document 01", and is decided so.
+    fn decided(&self, walked: &[Reading]) -> usize {
+        let end = self.joined.len();
+        if self.closed {
+            return end;
+        }
+        let mut tried = vec![true; end];
+        for reading in walked {
+            tried[reading.record.place as usize + 1..reading.end].fill(false);
+        }
+        let waits = |place: &usize| tried[*place] && read(&self.joined[*place..]) == Err(No::More);
+        (0..end).find(waits).unwrap_or(end)
+    }
+
+    /// The records of the readings decided so far, and the state that shows
+    /// what the calls come to. The stream started from a sound state.
+    fn told(&self) -> (Vec<Record>, State) {
+        let mut walked = self.walked();
+        let decided = self.decided(&walked);
+        walked.retain(|reading| reading.record.place < decided as u64);
+        let rest = &self.joined[decided..];
+        let refused = walked.iter().filter(|r| r.record.is_refused()).count();
+        let mut state = self.start.clone();
+        state.place += decided as u64;
+        state.closed = self.closed;
+        state.waiting = rest.len() as u64;
+        state.store = [0; KEPT];
+        state.store[..rest.len()].copy_from_slice(rest);
+        state.frames += (walked.len() - refused) as u64;
+        state.refused += refused as u64;
+        if let Some(last) = walked.last() {
+            state.seeking = last.record.is_refused();
+            state.ledger = last.ledger;
+        }
+        let record = |reading: Reading| Record {
+            place: self.start.place + reading.record.place,
+            ..reading.record
+        };
+        (walked.into_iter().map(record).collect(), state)
+    }
+
+    /// What the stream shows between two calls.
+    pub fn state(&self) -> State {
+        if self.start.sound() {
+            self.told().1
+        } else {
+            self.start.clone()
+        }
+    }
 
     /// 13, then 19, then 29, for a call that brings so many bytes.
-    fn check(&self, more: u64) -> Result<(), No> {
-        if !self.sound() {
+    fn check(&self, more: usize) -> Result<(), No> {
+        if !self.start.sound() {
             return Err(No::State);
         }
         if self.closed {
             return Err(No::Closed);
         }
         // The end of the joined bytes is a place too (1.1).
-        if more > u64::MAX - self.place - self.waiting {
+        let end = self.joined.len() as u64 + more as u64;
+        if end > u64::MAX - self.start.place {
             return Err(No::Places);
         }
         Ok(())
     }
 
-    /// The walk over the bytes that wait and the cut behind them, with as many
-    /// records as it makes.
-    fn walked(&self, cut: &[u8], closing: bool) -> (Stream, Vec<Record>) {
-        let mut next = self.clone();
-        let bytes = [&self.store[..self.waiting as usize], cut].concat();
-        let mut made = Vec::new();
-        let mut at = 0;
-        while at < bytes.len() {
-            let place = self.place + at as u64;
-            match read(&bytes[at..]) {
-                // "A place that answers 1 waits for more", whether the walk
-                // reads there or the search tries it; "at the closing call
-                // what remains is walked by document 01".
-                Err(No::More) if !closing => break,
-                Ok(message) => {
-                    let (record, ledger) = offered(place, &message, next.ledger);
-                    made.push(record);
-                    next.frames += 1;
-                    next.seeking = false;
-                    next.ledger = ledger;
-                    at += message.frame_length();
-                }
-                Err(no) => {
-                    // The search's trials are no readings (0.15).
-                    if !next.seeking {
-                        let (floor, top) = (next.ledger.floor, next.ledger.top);
-                        made.push(Record::refused(place, no.number(), floor, top));
-                        next.refused += 1;
-                        next.seeking = true;
-                    }
-                    at += 1;
-                }
-            }
-        }
-        let rest = &bytes[at..];
-        next.place += at as u64;
-        next.closed = closing;
-        next.waiting = rest.len() as u64;
-        next.store = [0; KEPT];
-        next.store[..rest.len()].copy_from_slice(rest);
-        (next, made)
-    }
-
     /// A call with its refusals in order: 13, 19, 29, 8; "nothing changes".
-    fn call(&self, cut: &[u8], closing: bool, buffer: &mut [u8]) -> (Stream, Result<usize, No>) {
-        if let Err(no) = self.check(cut.len() as u64) {
+    fn call(&self, cut: &[u8], closed: bool, buffer: &mut [u8]) -> (Stream, Result<usize, No>) {
+        if let Err(no) = self.check(cut.len()) {
             return (self.clone(), Err(no));
         }
-        let (next, made) = self.walked(cut, closing);
-        match lay(&made, buffer) {
+        let next = Stream {
+            start: self.start.clone(),
+            joined: [&self.joined, cut].concat(),
+            closed,
+        };
+        let (before, _) = self.told();
+        let (after, _) = next.told();
+        // What one call decided no later one takes back.
+        assert_eq!(after[..before.len()], before);
+        let made = &after[before.len()..];
+        match lay(made, buffer) {
             Ok(()) => (next, Ok(made.len())),
             Err(no) => (self.clone(), Err(no)),
         }

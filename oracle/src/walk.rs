@@ -65,35 +65,43 @@ pub fn offered(place: u64, message: &Message, ledger: Ledger) -> (Record, Ledger
     (record, ledger)
 }
 
-/// The walk itself, with as many records as it makes.
-pub fn records(capture: &[u8]) -> (Vec<Record>, Walked) {
-    let (mut ledger, _) = Ledger::open(CHANNEL);
+/// One reading of a walk: its record, the place behind the frame if one was
+/// read, else behind the place itself, and the ledger after it.
+pub struct Reading {
+    pub record: Record,
+    pub end: usize,
+    pub ledger: Ledger,
+}
+
+/// The readings of a walk over a capture, from a place of it on, with a ledger.
+pub fn readings(capture: &[u8], from: usize, ledger: Ledger) -> Vec<Reading> {
     let mut made = Vec::new();
-    let mut frames = 0;
-    let mut refused = 0;
-    let mut place = 0;
+    let mut ledger = ledger;
+    let mut place = from;
     // "It also stops at the capture's end, with no record for it."
     while place < capture.len() {
         // "At each place it reads."
         match read(&capture[place..]) {
             Ok(message) => {
                 let (record, next) = offered(place as u64, &message, ledger);
-                made.push(record);
                 ledger = next;
-                frames += 1;
                 // "and steps past the frame"
                 place += message.frame_length();
+                made.push(Reading {
+                    record,
+                    end: place,
+                    ledger,
+                });
             }
             Err(no) => {
                 // "Else it records the refusal and goes on at the place the
                 // search finds from the next byte on, or stops."
-                made.push(Record::refused(
-                    place as u64,
-                    no.number(),
-                    ledger.floor,
-                    ledger.top,
-                ));
-                refused += 1;
+                let (floor, top) = (ledger.floor, ledger.top);
+                made.push(Reading {
+                    record: Record::refused(place as u64, no.number(), floor, top),
+                    end: place + 1,
+                    ledger,
+                });
                 match search(capture, place as u64 + 1) {
                     Ok(Some(found)) => place = found,
                     _ => break,
@@ -101,11 +109,20 @@ pub fn records(capture: &[u8]) -> (Vec<Record>, Walked) {
             }
         }
     }
+    made
+}
+
+/// The walk itself, with as many records as it makes.
+pub fn records(capture: &[u8]) -> (Vec<Record>, Walked) {
+    let (opened, _) = Ledger::open(CHANNEL);
+    let readings = readings(capture, 0, opened);
+    let made: Vec<Record> = readings.iter().map(|r| r.record).collect();
+    let refused = made.iter().filter(|r| r.is_refused()).count();
     let walked = Walked {
         records: made.len() as u64,
-        frames,
-        refused,
-        ledger,
+        frames: (made.len() - refused) as u64,
+        refused: refused as u64,
+        ledger: readings.last().map_or(opened, |r| r.ledger),
     };
     (made, walked)
 }

@@ -10,7 +10,7 @@ use crate::bytes::put;
 use crate::ledger::{Ledger, Pending};
 use crate::numbers::{Channel, Tick};
 use crate::record::{summary, Record, SIZE};
-use crate::stream::{Stream, KEPT};
+use crate::stream::{State, Stream, KEPT};
 
 /// The room of most calls, and the size of the records' buffer.
 const ROOM: usize = 18_432;
@@ -78,7 +78,7 @@ impl<'a> Standing<'a> {
             Some(cut) => self.print.line("feed", self.case).number(cut.len() as u64),
             None => self.print.line("close", self.case),
         };
-        let s = &self.stream;
+        let s = self.stream.state();
         line.number(room as u64)
             .number(u64::from(number(&answer)))
             .number(answer.unwrap_or(0) as u64)
@@ -112,7 +112,7 @@ impl<'a> Standing<'a> {
     }
 
     fn print_sum(&mut self) {
-        let s = &self.stream;
+        let s = self.stream.state();
         let missing = s.ledger.missing().1.expect("calls keep the state rules");
         let (floor, top) = (s.ledger.floor, s.ledger.top);
         self.print
@@ -175,7 +175,10 @@ fn long_frames(maker: &mut Maker, print: &mut Print) {
 fn near_the_last_place(capture: &[u8], print: &mut Print) {
     print.input(300, capture);
     let mut standing = Standing::opened(print, 300, Records::Rec);
-    standing.stream.place = u64::MAX - 5;
+    standing.stream = Stream::of(State {
+        place: u64::MAX - 5,
+        ..State::opened()
+    });
     let mut done = 0;
     for n in [6, 2, 4, 3, 0, 1] {
         if standing.feed(&capture[done..done + n], ROOM) {
@@ -191,7 +194,7 @@ fn by_hand(print: &mut Print) {
         let r: Vec<u64> = row.iter().map(|item| item.get()).collect();
         let mut store = [0; KEPT];
         put(&mut store, r[4] as usize, r[5] as usize, r[6]);
-        let stream = Stream {
+        let state = State {
             place: r[0],
             seeking: r[1] == 1,
             closed: r[2] == 1,
@@ -209,7 +212,7 @@ fn by_hand(print: &mut Print) {
         };
         for cut in [Some(&[0x20][..]), Some(&[]), None] {
             let mut standing = Standing::opened(print, 400 + i as u64, Records::At);
-            standing.stream = stream.clone();
+            standing.stream = Stream::of(state.clone());
             standing.call(cut, ROOM);
         }
     }

@@ -6,16 +6,48 @@ use oracle::answer::No;
 use oracle::ledger::Pending;
 use oracle::numbers::{Channel, Tick};
 use oracle::record::{Record, SIZE};
-use oracle::stream::{Stream, KEPT};
+use oracle::stream::{State, Stream, KEPT};
 use oracle::walk::{records, walk};
+use std::ops::Deref;
+
+/// A stream beside the state that it shows.
+#[derive(Clone)]
+struct Shown {
+    stream: Stream,
+    state: State,
+}
+
+impl Deref for Shown {
+    type Target = State;
+
+    fn deref(&self) -> &State {
+        &self.state
+    }
+}
+
+fn shown(stream: Stream) -> Shown {
+    let state = stream.state();
+    Shown { stream, state }
+}
+
+fn opened() -> Shown {
+    shown(Stream::opened())
+}
+
+/// The stream of that state, changed.
+fn changed(state: &State, change: impl Fn(&mut State)) -> Shown {
+    let mut state = state.clone();
+    change(&mut state);
+    shown(Stream::of(state))
+}
 
 /// A call with that room: the stream after it, the records given, the answer.
 /// Bytes behind the records must stand as they stood.
-fn call(stream: &Stream, cut: Option<&[u8]>, room: usize) -> (Stream, Vec<Record>, Result<(), No>) {
+fn call(s: &Shown, cut: Option<&[u8]>, room: usize) -> (Shown, Vec<Record>, Result<(), No>) {
     let mut buffer = vec![0xA5; room];
     let (next, answer) = match cut {
-        Some(cut) => stream.feed(cut, &mut buffer),
-        None => stream.close(&mut buffer),
+        Some(cut) => s.stream.feed(cut, &mut buffer),
+        None => s.stream.close(&mut buffer),
     };
     let given = answer.unwrap_or(0);
     assert!(buffer[SIZE * given..].iter().all(|b| *b == 0xA5));
@@ -24,21 +56,21 @@ fn call(stream: &Stream, cut: Option<&[u8]>, room: usize) -> (Stream, Vec<Record
         .map(|chunk| Record::of(chunk.try_into().unwrap()))
         .collect();
     if answer.is_err() {
-        assert_eq!(next, *stream);
+        assert_eq!(next, s.stream);
     }
-    (next, made, answer.map(|_| ()))
+    (shown(next), made, answer.map(|_| ()))
 }
 
 const ROOM: usize = 1 << 16;
 
-fn feed(stream: &Stream, cut: &[u8]) -> (Stream, Vec<Record>) {
+fn feed(stream: &Shown, cut: &[u8]) -> (Shown, Vec<Record>) {
     let (next, made, answer) = call(stream, Some(cut), ROOM);
     assert_eq!(answer, Ok(()));
     assert!(next.sound() && !next.closed);
     (next, made)
 }
 
-fn close(stream: &Stream) -> (Stream, Vec<Record>) {
+fn close(stream: &Shown) -> (Shown, Vec<Record>) {
     let (next, made, answer) = call(stream, None, ROOM);
     assert_eq!(answer, Ok(()));
     assert!(next.sound() && next.closed && next.waiting == 0);
@@ -49,7 +81,7 @@ fn close(stream: &Stream) -> (Stream, Vec<Record>) {
 /// counts and ledger must be those of the closed walk over the joined bytes.
 fn same_as_closed(cuts: &[&[u8]]) {
     let capture = cuts.concat();
-    let mut stream = Stream::opened();
+    let mut stream = opened();
     let mut made = Vec::new();
     for cut in cuts {
         let (next, given) = feed(&stream, cut);
@@ -135,7 +167,7 @@ fn there_is_no_limit_of_65536_bytes() {
 fn a_record_is_given_in_the_call_that_decides_its_reading() {
     let capture = [a(), vec![0xFF], b()].concat();
     let places = |made: Vec<Record>| made.iter().map(|r| r.place).collect::<Vec<_>>();
-    let (s, made) = feed(&Stream::opened(), &capture[..27]);
+    let (s, made) = feed(&opened(), &capture[..27]);
     assert_eq!((s.place, s.waiting, places(made)), (0, 27, vec![]));
     let (s, made) = feed(&s, &capture[27..28]);
     assert_eq!((s.place, s.waiting, places(made)), (28, 0, vec![0]));
@@ -162,7 +194,7 @@ fn the_search_waits_too() {
     let mut outer = frame(b"M101", &[&whole[..24], &a()].concat());
     let end = outer.len() as u64;
     outer[end as usize - 1] ^= 1;
-    let (s, made) = feed(&Stream::opened(), &outer);
+    let (s, made) = feed(&opened(), &outer);
     assert_eq!(made, [Record::refused(0, 5, Tick(0), Tick(0))]);
     assert_eq!((s.place, s.waiting, s.seeking), (24, end - 24, true));
     let (s, made) = close(&s);
@@ -175,7 +207,7 @@ fn the_search_waits_too() {
 #[test]
 fn the_most_that_waits() {
     let longest = frame(b"M101", &[0x20; 8_164]);
-    let (s, made) = feed(&Stream::opened(), &longest[..KEPT]);
+    let (s, made) = feed(&opened(), &longest[..KEPT]);
     assert_eq!((s.waiting, made.len()), (8_191, 0));
     let (s, made) = feed(&s, &longest[KEPT..]);
     assert_eq!((s.place, s.waiting, made.len()), (8_192, 0, 1));
@@ -185,7 +217,7 @@ fn the_most_that_waits() {
 #[test]
 fn records_need_room() {
     let capture = [a(), vec![0xFF], b()].concat();
-    let s = Stream::opened();
+    let s = opened();
     for room in 0..=260 {
         let (next, made, answer) = call(&s, Some(&capture), room);
         if room < 192 {
@@ -213,7 +245,7 @@ fn calls_refused_leave_no_trace() {
     let mut refused = 0;
     for _ in 0..400 {
         let capture = dice.capture();
-        let (mut s, mut made, mut done) = (Stream::opened(), Vec::new(), 0);
+        let (mut s, mut made, mut done) = (opened(), Vec::new(), 0);
         while done < capture.len() || !s.closed {
             let n = (dice.roll(200) as usize).min(capture.len() - done);
             let cut = &capture[done..done + n];
@@ -241,12 +273,9 @@ fn calls_refused_leave_no_trace() {
 
 #[test]
 fn any_call_after_the_closing_one_is_19() {
-    let (s, _) = close(&feed(&Stream::opened(), &a()).0);
+    let (s, _) = close(&feed(&opened(), &a()).0);
     // Before 29 and before 8.
-    let last = Stream {
-        place: u64::MAX,
-        ..s.clone()
-    };
+    let last = changed(&s, |s| s.place = u64::MAX);
     for s in [s, last] {
         for cut in [Some(&a()[..]), Some(&[]), None] {
             assert_eq!(call(&s, cut, 0).2, Err(No::Closed));
@@ -256,10 +285,7 @@ fn any_call_after_the_closing_one_is_19() {
 
 #[test]
 fn places_stay_within_64_bits() {
-    let s = Stream {
-        place: u64::MAX - 30,
-        ..Stream::opened()
-    };
+    let s = changed(&opened(), |s| s.place = u64::MAX - 30);
     let (s, _) = feed(&s, &a()[..4]);
     assert_eq!(call(&s, Some(&[0x20; 27]), ROOM).2, Err(No::Places));
     // 29 before 8.
@@ -273,11 +299,11 @@ fn places_stay_within_64_bits() {
 }
 
 /// A change made to a stream by hand.
-type Change = fn(&mut Stream);
+type Change = fn(&mut State);
 
 #[test]
 fn each_state_rule() {
-    let sound = feed(&Stream::opened(), &[&a()[..], &b()[..30]].concat()).0;
+    let sound = feed(&opened(), &[&a()[..], &b()[..30]].concat()).0;
     assert_eq!((sound.place, sound.waiting), (28, 30));
     let broken: [(&str, Change); 12] = [
         ("few", |s| s.waiting = 8_192),
@@ -298,16 +324,12 @@ fn each_state_rule() {
         }),
     ];
     for (rule, break_it) in broken {
-        let mut s = sound.clone();
-        break_it(&mut s);
+        let s = changed(&sound, break_it);
         assert!(!s.sound(), "{rule}");
         for cut in [Some(&[0x20; 40][..]), Some(&[]), None] {
             // Before 19, 29 and 8.
             for closed in [s.closed, true] {
-                let s = Stream {
-                    closed,
-                    ..s.clone()
-                };
+                let s = changed(&s, |s| s.closed = closed);
                 assert_eq!(call(&s, cut, 0).2, Err(No::State), "{rule}");
             }
         }
@@ -326,8 +348,7 @@ fn each_state_rule() {
         },
     ];
     for keep in kept {
-        let mut s = sound.clone();
-        keep(&mut s);
+        let s = changed(&sound, keep);
         assert!(s.sound());
         feed(&s, &[]);
         close(&s);
@@ -337,10 +358,10 @@ fn each_state_rule() {
 #[test]
 fn fewer_than_24_bytes_wait_whatever_they_are() {
     for n in 1..24 {
-        let (s, made) = feed(&Stream::opened(), &vec![b'X'; n]);
+        let (s, made) = feed(&opened(), &vec![b'X'; n]);
         assert_eq!((s.place, s.waiting, made.len()), (0, n as u64, 0));
     }
-    let (s, made) = feed(&Stream::opened(), &[b'X'; 24]);
+    let (s, made) = feed(&opened(), &[b'X'; 24]);
     assert_eq!((s.place, s.waiting, made.len()), (1, 23, 1));
 }
 
@@ -355,6 +376,6 @@ fn the_walk_with_its_buffer_agrees() {
         let given = fed.unwrap();
         let (s, closed) = s.close(&mut buffer[SIZE * given..]);
         assert_eq!((given + closed.unwrap()) as u64, walked.records);
-        assert_eq!((buffer, s.ledger), (lent, walked.ledger));
+        assert_eq!((buffer, s.state().ledger), (lent, walked.ledger));
     }
 }
