@@ -5,7 +5,7 @@ use mathlib.Core.List.{List, [], _∷_, _++_}
 use contract.Lifetimes.{Lfts}
 use base.Fml.{GName}
 use denote.Ref.{RefT, now}
-use lib.ListN.{length, drop, replicate}
+use lib.ListN.{length, take, drop, replicate}
 use Rattle.terms.specs.Paper.{Paper, answer, refusal}
 use Rattle.terms.specs.RuledOut.{Row, _never_, _only_, Kept, Allows, RulesOut, ruled, lists, papers, Left, left, lefts, left-is}
 use Rattle.octets.specs.Octets.{numeral, digitsOf, laid, sum8, sumOf}
@@ -42,6 +42,7 @@ read-at-wrong =
     ∷ (frameB, 0) never readA  -- one fixed message for every frame
     ∷ (ending 1 0x8E, 0) never readA  -- only the low byte of CheckSum compared
     ∷ (ending 0 0x8F, 0) never readA  -- CheckSum not compared
+    ∷ (take 24 frameB ++ (12 ∷ drop 25 frameB), 0) only refusal 5  -- 6 before 5: SecurityType 12, with the sum of 13
     ∷ (0xFF ∷ A, 1) only readA  -- not read at the front, whatever the place
     ∷ []
 

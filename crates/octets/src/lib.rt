@@ -70,26 +70,28 @@ pub fn u8_at(s: &[u8], at: usize) -> u8
     number_at(s, at, 1) as u8
 }
 
-// The number in two bytes from a place on, high byte first; bytes past the end count as 0. The next three are alike.
+// The number in two bytes from a place on, high byte first; bytes past the end count as 0.
 pub fn u16_at(s: &[u8], at: usize) -> u16
     ensures { λ r. ⌜ r ≡ be 2 at (now (s .entry)) ⌝ }
 {
     number_at(s, at, 2) as u16
 }
 
+// The same in four bytes.
 pub fn u32_at(s: &[u8], at: usize) -> u32
     ensures { λ r. ⌜ r ≡ be 4 at (now (s .entry)) ⌝ }
 {
     number_at(s, at, 4) as u32
 }
 
-// Five bytes: the letters of an MDStreamID as one number.
+// The same in five bytes: the letters of an MDStreamID as one number.
 pub fn u40_at(s: &[u8], at: usize) -> u64
     ensures { λ r. ⌜ r ≡ be 5 at (now (s .entry)) ⌝ }
 {
     number_at(s, at, 5)
 }
 
+// The same in eight bytes.
 pub fn u64_at(s: &[u8], at: usize) -> u64
     ensures { λ r. ⌜ r ≡ be 8 at (now (s .entry)) ⌝ }
 {

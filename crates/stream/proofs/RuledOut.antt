@@ -52,11 +52,34 @@ shown p x d = (p, (seen x, d))
 both : {p q : Paper} {x y : Stream} {d e : List ℕ} → (p ≡ q) × ((x ≡ y) × (d ≡ e)) → shown p x d ≡ shown q y e
 both {p} {q} {x} {y} {d} {e} h = ap₂ (λ (a : Paper) (r : List ℕ × List ℕ). (a, r)) (h .0) (ap₂ (λ (z : Stream) (l : List ℕ). (seen z, l)) (h .1 .0) (h .1 .1))
 
+-- streams behind a cut: 20 bytes of A; 29 bytes that are no frame; A and 20 bytes of B; and this one closed
+abbrev begun : Stream
+begun = nextOf opened (Feed (take 20 A)) 0
+
+abbrev damaged : Stream
+damaged = nextOf opened (Feed (replicate 29 0xFF)) 64
+
+abbrev waiting : Stream
+waiting = nextOf opened (Feed (A ++ take 20 frameB)) 64
+
+abbrev closed : Stream
+closed = nextOf waiting Close 64
+
+-- the stream just opened, but at this place, and with this many kept bytes
+abbrev moved : ℕ → ℕ → Stream
+moved place len = record { place = place; seeking = opened .seeking; closed = opened .closed; len = len; kept = opened .kept; tally = opened .tally }
+
 -- a stream, a cut, and a lent buffer
 abbrev pub feed-wrong : List (Row (Stream × (List ℕ × List ℕ)) Outcome)
 feed-wrong =
     (opened, (A ++ take 20 frameB, replicate 65 7)) only (answer 0 (1 ∷ []), (28 ∷ 20 ∷ 1 ∷ 0 ∷ [], recordOf recordA ++ (7 ∷ [])))  -- what may still become a frame is not refused, and not lost
-    ∷ (opened, (A, replicate 63 7)) only (answer 8 (0 ∷ []), (0 ∷ 0 ∷ 0 ∷ 0 ∷ [], replicate 63 7))  -- nothing changes beside 8
+    ∷ (begun, (drop 20 A, replicate 64 7)) only (answer 0 (1 ∷ []), (28 ∷ 0 ∷ 1 ∷ 0 ∷ [], recordOf recordA))  -- no byte lost at a cut
+    ∷ (begun, ([], replicate 64 7)) only (answer 0 (0 ∷ []), (0 ∷ 20 ∷ 0 ∷ 0 ∷ [], replicate 64 7))  -- an empty cut is not the end
+    ∷ (damaged, (frameB, replicate 64 7)) only (answer 0 (1 ∷ []), (69 ∷ 0 ∷ 1 ∷ 1 ∷ [], recordOf recordB))  -- damage recorded before a cut is not recorded again behind it
+    ∷ (opened, (A, replicate 63 7)) only (answer 8 (0 ∷ []), (0 ∷ 0 ∷ 0 ∷ 0 ∷ [], replicate 63 7))  -- nothing changes beside 8, and no part of the cut is taken
+    ∷ (closed, (A, replicate 64 7)) only (answer 19 (0 ∷ []), (48 ∷ 0 ∷ 1 ∷ 1 ∷ [], replicate 64 7))  -- no cut taken behind the closing call
+    ∷ (moved 18446744073709551600 0, (take 16 A, replicate 64 7)) only (answer 29 (0 ∷ []), (18446744073709551600 ∷ 0 ∷ 0 ∷ 0 ∷ [], replicate 64 7))  -- a place past 64 bits
+    ∷ (moved 0 8192, (A, replicate 64 7)) only (answer 13 (0 ∷ []), (0 ∷ 8192 ∷ 0 ∷ 0 ∷ [], replicate 64 7))  -- 8,192 kept bytes pass as sound
     ∷ []
 
 pub feed-rules-out : RulesOut (Kept _ feed-kinds.ps feed-kinds.r feed.Post) (λ c. (c .args .0, (now (c .args .1 .0), now (c .args .1 .1 .0)))) (λ c. shown (fedPaper (c .result)) (c .result .stream) (now (c .exit .1 .1 .0))) feed-wrong
@@ -67,13 +90,6 @@ feed-rules-out =
     (λ c p. both p)
     _
     refl
-
--- the stream behind A and 20 bytes of B; and the same, closed
-abbrev waiting : Stream
-waiting = nextOf opened (Feed (A ++ take 20 frameB)) 64
-
-abbrev closed : Stream
-closed = nextOf waiting Close 64
 
 -- a stream and a lent buffer
 abbrev pub close-wrong : List (Row (Stream × List ℕ) Outcome)

@@ -14,6 +14,7 @@ impl SessionNumber {
         SessionNumber(n)
     }
 
+    // Its number.
     pub fn value(self) -> u64
         ensures { λ r. ⌜ r ≡ self .0 ⌝ }
     {
@@ -32,6 +33,7 @@ impl TickNumber {
         TickNumber(n)
     }
 
+    // Its number.
     pub fn value(self) -> u64
         ensures { λ r. ⌜ r ≡ self .0 ⌝ }
     {
@@ -50,6 +52,7 @@ impl ChannelNumber {
         ChannelNumber(n)
     }
 
+    // Its number.
     pub fn value(self) -> u16
         ensures { λ r. ⌜ r ≡ self .0 ⌝ }
     {

@@ -10,7 +10,7 @@ use Rattle.octets.specs.Octets.{numeral, digitsOf, laid, sum8, sumOf}
 use Rattle.rules.specs.Table.{kindOf, suits, measureOf}
 use Rattle.rules.specs.Fields.{p001Ok, fieldsOk, judgeOf}
 use Rattle.wire.specs.Frame.{checked, readOf, bodyRead}
-use Rattle.wire.specs.Examples.{startOfA, frameA, frameB, capture}
+use Rattle.wire.specs.Examples.{startOfA, frameA, frameB, four, capture}
 use Rattle.view.specs.View.{viewOf}
 use Rattle.map.specs.Bits.{valueOf, mapOf}
 use Rattle.book.specs.State.{Asked, nothing, range, Book, rangeRules, mapRules, soundOf}
@@ -39,13 +39,19 @@ seen b = b .channel ∷ b .floor ∷ b .top ∷ b .bits ∷ []
 abbrev shown : Paper → Ledger → List ℕ → Outcome
 shown p l d = (p, (seen (bookOf l), d))
 
--- a capture (document 01's 69 bytes A, FF, B) and a lent buffer
+-- A with 41 for its BodyLength, FF, B: 69 bytes, as that length says
+abbrev damaged : List ℕ
+damaged = frameA (four 0 41) (four 0 0x8E) ++ (0xFF ∷ frameB)
+
+-- a capture (document 01's 69 bytes A, FF, B, or the damaged one) and a lent buffer
 abbrev pub walk-wrong : List (Row (List ℕ × List ℕ) Outcome)
 walk-wrong =
     (capture, replicate 193 7) only (answer 0 (3 ∷ 2 ∷ 1 ∷ []), (100 ∷ 0 ∷ 3 ∷ 0 ∷ [], recordOf recordA ++ (recordOf recordFF ++ (recordOf recordB ++ (7 ∷ [])))))
     ∷ (capture, replicate 128 7) never (answer 0 (2 ∷ 2 ∷ 0 ∷ []), (100 ∷ 0 ∷ 3 ∷ 0 ∷ [], recordOf recordA ++ recordOf recordB))  -- the damage passed over in silence
     ∷ (capture, replicate 128 7) never (answer 8 (0 ∷ 0 ∷ 0 ∷ []), (100 ∷ 0 ∷ 0 ∷ 0 ∷ [], recordOf recordA ++ recordOf recordFF))  -- two records laid, and then 8
     ∷ (capture, replicate 128 7) only (answer 8 (0 ∷ 0 ∷ 0 ∷ []), (100 ∷ 0 ∷ 0 ∷ 0 ∷ [], replicate 128 7))
+    ∷ (damaged, replicate 128 7) never (answer 0 (1 ∷ 0 ∷ 1 ∷ []), (100 ∷ 0 ∷ 0 ∷ 0 ∷ [], recordOf (blankOf 0 4 0 0) ++ replicate 64 7))  -- stepped by a damaged BodyLength, over B
+    ∷ (damaged, replicate 128 7) only (answer 0 (2 ∷ 1 ∷ 1 ∷ []), (100 ∷ 0 ∷ 3 ∷ 0 ∷ [], recordOf (blankOf 0 4 0 0) ++ recordOf recordB))
     ∷ []
 
 pub walk-rules-out : RulesOut (Kept _ walk-kinds.ps walk-kinds.r walk.Post) (λ c. (now (c .args .0), now (c .args .1 .0))) (λ c. shown (walkPaper (c .result)) (c .result .ledger) (now (c .exit .1 .0))) walk-wrong

@@ -49,7 +49,7 @@ pub fn ledger_in(state: &[u64; 9]) -> Ledger
     }
 }
 
-// 0 where nothing is pending, and so is the last number.
+// The first number of a pending request; 0 where nothing is pending.
 pub fn first_asked(pending: Pending) -> u64
     ensures { λ r. ⌜ r ≡ firstAsked pending ⌝ }
 {
@@ -59,6 +59,7 @@ pub fn first_asked(pending: Pending) -> u64
     }
 }
 
+// The last number of a pending request; 0 where nothing is pending.
 pub fn last_asked(pending: Pending) -> u64
     ensures { λ r. ⌜ r ≡ lastAsked pending ⌝ }
 {
