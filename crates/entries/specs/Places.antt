@@ -13,7 +13,7 @@ use Rattle.terms.specs.Cases.{two, less, clash}
 use Rattle.octets.specs.Octets.{be}
 use Rattle.rules.specs.Rules.{EntrySize, short, long}
 use Rattle.rules.specs.Fields.{entrySize}
-use Rattle.rules.specs.Says.{Says, says-lt, says-le, says-eq, says-and, says-or, says-as}
+use Rattle.terms.specs.Says.{Says, says-lt, says-le, says-eq, says-and, says-or, says-as}
 use Rattle.rules.specs.Meaning.{size-is, size-one, denied}
 use Rattle.entries.specs.Reader.{sizeIn, placed, stands}
 use Rattle.entries.specs.Given.{Stands}

@@ -6,6 +6,7 @@ use mathlib.Core.List.{List, [], _∷_}
 use denote.Ref.{now}
 use Rattle.terms.specs.RuledOut.{Row, _never_, _only_, Kept, RulesOut, ruled, numbers, bools}
 use Rattle.octets.specs.Octets.{numeral, digitsOf}
+use Rattle.calendar.specs.Calendar.{leap, daysIn, realParts, realTime}
 use Rattle.rules.specs.declared.Kind.{Kind}
 use Rattle.rules.specs.declared.Kind.the-variants.{S001, P001, P002, M102}
 use Rattle.rules.specs.Bodies.{channelBody, resendBody, snapshotBody}
@@ -35,15 +36,19 @@ pub fields-ok-rules-out : RulesOut (Kept _ fields-ok-kinds.ps fields-ok-kinds.r 
 unfolding numeral digitsOf p001Ok p002Ok m102ValuesOk entrySize entryOk entriesOk m102Ok fieldsOk
 fields-ok-rules-out = ruled bools (λ (i : Kind × List ℕ). fieldsOk (i .0) (i .1)) (λ c p. p) _ refl
 
+-- a type, a time and a body; 21 January 2026, 09:30, is real, month 13 is not
 abbrev pub judge-wrong : List (Row (Kind × (ℕ × List ℕ)) ℕ)
 judge-wrong =
     (P001, (20260121093000000, channelBody 13 0x59)) only 0  -- not refused
     ∷ (P001, (20260121093000000, channelBody 12 0x59)) never 5  -- 5 where 6 is due
     ∷ (P001, (20260121093000000, channelBody 12 0x59)) never 0  -- accepted
+    ∷ (P001, (20261301093000000, channelBody 13 0x59)) never 0  -- the time not judged
+    ∷ (P001, (20261301093000000, channelBody 13 0x59)) only 7
+    ∷ (P001, (20261301093000000, channelBody 12 0x59)) never 6  -- 6 answered before 7
     ∷ []
 
 pub judge-rules-out : RulesOut (Kept _ judge-kinds.ps judge-kinds.r judge.Post) (λ c. (c .args .0, (c .args .1 .0, now (c .args .1 .1 .0)))) (λ c. verdictNumber (c .result)) judge-wrong
-unfolding numeral digitsOf p001Ok fieldsOk judgeOf
+unfolding numeral digitsOf p001Ok fieldsOk realTime realParts daysIn leap judgeOf
 judge-rules-out = ruled numbers (λ (i : Kind × (ℕ × List ℕ)). judgeOf (i .0) (i .1 .0) (i .1 .1)) (λ c p. p) _ refl
 
 -- the letters of a stream as one number, and a size

@@ -164,11 +164,13 @@ pub fn fields_ok(kind: Kind, b: &[u8]) -> bool
     }
 }
 
-// What stands behind the checksum, in the order in which it answers: the field rules, 6.
-// (The time is not judged yet; who calls hands it over, so that a rule on it changes nothing but `rules` and this crate.)
+// What stands behind the checksum, in the order in which it answers: the time, 7; the field rules, 6.
 pub fn judge(kind: Kind, sending_time: u64, body: &[u8]) -> Verdict
     ensures { λ r. ⌜ verdictNumber r ≡ judgeOf kind «sending_time» (now (body .entry)) ⌝ }
 {
+    if !calendar::is_real(sending_time) {
+        return Verdict::Refused(Refusal::Time);
+    }
     if !fields_ok(kind, body) {
         return Verdict::Refused(Refusal::Field);
     }

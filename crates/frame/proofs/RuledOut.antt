@@ -10,12 +10,14 @@ use Rattle.terms.specs.Paper.{Paper, answer, refusal}
 use Rattle.terms.specs.RuledOut.{Row, _never_, _only_, Kept, Allows, RulesOut, ruled, lists, papers, Left, left, lefts, left-is}
 use Rattle.octets.specs.Octets.{numeral, digitsOf, laid, sum8, sumOf}
 use Rattle.octets.specs.Papers.{writtenPaper}
+use Rattle.calendar.specs.Calendar.{leap, daysIn, realParts, realTime}
 use Rattle.rules.specs.Table.{kindOf, suits, measureOf}
+use Rattle.rules.specs.Bodies.{channelBody}
 use Rattle.rules.specs.Fields.{p001Ok, fieldsOk, judgeOf}
 use Rattle.wire.specs.Frame.{checked, readOf, bodyRead}
 use Rattle.wire.specs.Write.{Message, message, plainOf, frameOf, writeOf, leftOf}
 use Rattle.wire.specs.Search.{firstOf, searchOf}
-use Rattle.wire.specs.Examples.{startOfA, frameA, frameB, ending, A}
+use Rattle.wire.specs.Examples.{startOfA, frameA, frameB, ending, A, timed, framed}
 use Rattle.terms.specs.Counters.{sessionOf}
 use Rattle.frame.specs.declared.Read.the-variants.{Frame}
 use Rattle.frame.specs.Papers.{readPaper, foundPaper}
@@ -35,6 +37,10 @@ readA = answer 0 (0x53303033 ∷ 0x0047FA7908DACB40 ∷ 1 ∷ 0 ∷ [])
 abbrev bodyB : List ℕ
 bodyB = 0x0D ∷ 0x00 ∷ 0x64 ∷ 0 ∷ 0 ∷ 0 ∷ 0 ∷ 0 ∷ 0 ∷ 0 ∷ 3 ∷ 0x4E ∷ []
 
+-- a moment of the thirteenth month
+abbrev month13 : ℕ
+month13 = 20261301093000000
+
 -- READ_AT: bytes and a place
 abbrev pub read-at-wrong : List (Row (List ℕ × ℕ) Paper)
 read-at-wrong =
@@ -44,10 +50,15 @@ read-at-wrong =
     ∷ (ending 0 0x8F, 0) never readA  -- CheckSum not compared
     ∷ (take 24 frameB ++ (12 ∷ drop 25 frameB), 0) only refusal 5  -- 6 before 5: SecurityType 12, with the sum of 13
     ∷ (0xFF ∷ A, 1) only readA  -- not read at the front, whatever the place
+    ∷ (timed month13 0x53303033 [], 0) only refusal 7  -- month 13 taken
+    ∷ (timed 20260431093000000 0x53303033 [], 0) only refusal 7  -- day 31 taken in April
+    ∷ (take 27 (timed month13 0x53303033 []) ++ (0 ∷ []), 0) only refusal 5  -- 7 answered before 5
+    ∷ (timed month13 0x50303031 (channelBody 12 0x59), 0) only refusal 7  -- 6 answered before 7
+    ∷ (framed 0x50303031 (channelBody 12 0x59), 0) only refusal 6  -- 7 for every frame that is refused behind its sum
     ∷ []
 
 pub read-at-rules-out : RulesOut (Kept _ read-at-kinds.ps read-at-kinds.r read-at.Post) (λ c. (now (c .args .0), c .args .1 .0)) (λ c. readPaper (c .result)) read-at-wrong
-unfolding frameA startOfA frameB checked readOf numeral sum8 sumOf kindOf suits measureOf p001Ok fieldsOk judgeOf
+unfolding frameA startOfA frameB checked plainOf frameOf readOf numeral digitsOf sum8 sumOf kindOf suits measureOf p001Ok fieldsOk realTime realParts daysIn leap judgeOf
 read-at-rules-out = ruled papers (λ (i : List ℕ × ℕ). readOf (drop (i .1) (i .0))) (λ c p. p) _ refl
 
 -- BODY_AT: bytes and a place
@@ -58,7 +69,7 @@ body-at-wrong =
     ∷ []
 
 pub body-at-rules-out : RulesOut (Kept _ body-at-kinds.ps body-at-kinds.r body-at.Post) (λ c. (now (c .args .0), c .args .1 .0)) (λ c. now (c .result)) body-at-wrong
-unfolding frameA startOfA frameB checked readOf bodyRead numeral sum8 sumOf kindOf suits measureOf p001Ok fieldsOk judgeOf
+unfolding frameA startOfA frameB checked readOf bodyRead numeral sum8 sumOf kindOf suits measureOf p001Ok fieldsOk realTime realParts daysIn leap judgeOf
 body-at-rules-out = ruled lists (λ (i : List ℕ × ℕ). bodyRead (drop (i .1) (i .0))) (λ c p. p) _ refl
 
 -- SEARCH: bytes and the place to start from; the answer is a place, or none
@@ -71,7 +82,7 @@ search-wrong =
     ∷ []
 
 pub search-rules-out : RulesOut (Kept _ search-kinds.ps search-kinds.r search-reads.Post) (λ c. (now (c .args .0), c .args .1 .0)) (λ c. foundPaper (c .result)) search-wrong
-unfolding frameA startOfA checked readOf firstOf searchOf numeral sum8 sumOf kindOf suits measureOf fieldsOk judgeOf
+unfolding frameA startOfA checked readOf firstOf searchOf numeral sum8 sumOf kindOf suits measureOf fieldsOk realTime realParts daysIn leap judgeOf
 search-rules-out = ruled papers (λ (i : List ℕ × ℕ). searchOf (i .0) (i .1)) (λ c p. p) _ refl
 
 -- WRITE: a message and a lent buffer; the answer, and the buffer then
@@ -82,17 +93,20 @@ abbrev pub write-wrong : List (Row (Message × List ℕ) Left)
 write-wrong =
     (messageB, replicate 41 7) only left (answer 0 (40 ∷ [])) (frameB ++ (7 ∷ []))  -- not refused, all of B, and the byte behind it kept
     ∷ (messageB, replicate 39 7) only left (refusal 8) (replicate 39 7)  -- nothing stored before 8
-    ∷ (message 0x50303031 0 2 [], replicate 40 7) only left (refusal 4) (replicate 40 7)  -- 4 is told before 8 is looked for
+    ∷ (message 0x50303031 0 2 [], replicate 40 7) only left (refusal 4) (replicate 40 7)  -- 4 is told before 7, and before 8 is looked for
+    ∷ (message 0x50303031 month13 2 bodyB, replicate 40 7) only left (refusal 7) (replicate 40 7)  -- a writer that does not look at the time
+    ∷ (message 0x50303031 month13 2 (channelBody 12 0x59), []) only left (refusal 7) []  -- 6 or 8 told before 7
+    ∷ (message 0x50303031 0x0047FA7908DACB40 2 (channelBody 12 0x59), []) only left (refusal 6) []  -- 8 told before 6
     ∷ []
 
 pub write-rules-out : RulesOut (Kept _ write-kinds.ps write-kinds.r write.Post) (λ c. (message (c .args .0) (c .args .1 .0) (c .args .1 .1 .0 .0) (now (c .args .1 .1 .1 .0)), now (c .args .1 .1 .1 .1 .0))) (λ c. left (writtenPaper (c .result)) (now (c .exit .1 .1 .1 .1 .0))) write-wrong
-unfolding frameB checked plainOf frameOf writeOf leftOf numeral digitsOf laid sum8 sumOf kindOf suits measureOf p001Ok fieldsOk judgeOf
+unfolding frameB checked plainOf frameOf writeOf leftOf numeral digitsOf laid sum8 sumOf kindOf suits measureOf p001Ok fieldsOk realTime realParts daysIn leap judgeOf
 write-rules-out =
     ruled lefts (λ (i : Message × List ℕ). left (writeOf (i .0) (length (i .1))) (leftOf (i .0) (i .1))) (λ c p. left-is p) _ refl
 
 -- THERE ARE SUCH CALLS: A lent anywhere, under any name, is read at 0 as A, and the promise allows it. So no row above holds for want of calls.
 pub read-at-allows : (κs : Lfts 1) (at : ℕ × ℕ) (name : GName) → Allows {I = List ℕ × ℕ} (Kept _ read-at-kinds.ps read-at-kinds.r read-at.Post) (λ c. (now (c .args .0), c .args .1 .0)) (λ c. readPaper (c .result)) (A, 0) readA
-unfolding frameA startOfA checked readOf numeral sum8 sumOf kindOf suits measureOf fieldsOk judgeOf
+unfolding frameA startOfA checked readOf numeral sum8 sumOf kindOf suits measureOf fieldsOk realTime realParts daysIn leap judgeOf
 read-at-allows κs at name =
     let bytes : RefT (List ℕ) = record { ptr = at; name = name; now = A } in
     record {

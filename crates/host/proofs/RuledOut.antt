@@ -8,6 +8,7 @@ use lib.ListN.{length, drop, replicate}
 use Rattle.terms.specs.Paper.{Paper}
 use Rattle.terms.specs.RuledOut.{Row, _never_, _only_, Kept, RulesOut, ruled, numbers, lists, beside}
 use Rattle.octets.specs.Octets.{numeral, digitsOf, laid, sum8, sumOf}
+use Rattle.calendar.specs.Calendar.{leap, daysIn, realParts, realTime}
 use Rattle.rules.specs.Table.{kindOf, suits, measureOf}
 use Rattle.rules.specs.Fields.{p001Ok, p002Ok, m102ValuesOk, entrySize, entryOk, entriesOk, m102Ok, fieldsOk, judgeOf}
 use Rattle.rules.specs.Bodies.{resendBody, snapshotBody}
@@ -59,7 +60,7 @@ rk-read-wrong =
     ∷ []
 
 pub rk-read-rules-out : RulesOut (Kept _ rk-read-kinds.ps rk-read-kinds.r rk-read.Post) (λ c. (now (c .args .0), (c .args .1 .0, now (c .args .1 .1 .0)))) (λ c. told (c .result) (now (c .exit .1 .1 .0))) rk-read-wrong
-unfolding frameA startOfA frameB plainOf frameOf checked readOf bodyRead numeral digitsOf sum8 sumOf kindOf suits measureOf p001Ok p002Ok fieldsOk judgeOf viewOf toldBy readTold
+unfolding frameA startOfA frameB plainOf frameOf checked readOf bodyRead numeral digitsOf sum8 sumOf kindOf suits measureOf p001Ok p002Ok fieldsOk realTime realParts daysIn leap judgeOf viewOf toldBy readTold
 rk-read-rules-out = ruled (beside numbers lists) (λ (i : List ℕ × (ℕ × List ℕ)). tells (readTold (drop (i .1 .0) (i .0))) (i .1 .1)) (λ c p. said p) _ refl
 
 -- RK_SEARCH: bytes, the place to start from, and the told row before
@@ -71,7 +72,7 @@ rk-search-wrong =
     ∷ []
 
 pub rk-search-rules-out : RulesOut (Kept _ rk-search-kinds.ps rk-search-kinds.r rk-search.Post) (λ c. (now (c .args .0), (c .args .1 .0, now (c .args .1 .1 .0)))) (λ c. told (c .result) (now (c .exit .1 .1 .0))) rk-search-wrong
-unfolding frameA startOfA checked readOf firstOf searchOf numeral sum8 sumOf kindOf suits measureOf fieldsOk judgeOf toldBy searchTold
+unfolding frameA startOfA checked readOf firstOf searchOf numeral sum8 sumOf kindOf suits measureOf fieldsOk realTime realParts daysIn leap judgeOf toldBy searchTold
 rk-search-rules-out = ruled (beside numbers lists) (λ (i : List ℕ × (ℕ × List ℕ)). tells (searchTold (i .0) (i .1 .0)) (i .1 .1)) (λ c p. said p) _ refl
 
 -- RK_PRIVATE: a MsgType, a body, the number of a span, and the told row before
@@ -131,17 +132,21 @@ rk-scrub-wrong =
     ∷ []
 
 pub rk-scrub-rules-out : RulesOut (Kept _ rk-scrub-kinds.ps rk-scrub-kinds.r rk-scrub.Post) (λ c. (now (c .args .1 .0), now (c .args .0))) (λ c. left (told (c .result) (now (c .exit .1 .0) ∷ [])) (now (c .exit .0))) rk-scrub-wrong
-unfolding plainOf frameOf checked readOf numeral digitsOf laid sum8 sumOf kindOf suits measureOf p002Ok fieldsOk judgeOf painted summed scrubAnswer scrubbed toldBy
+unfolding plainOf frameOf checked readOf numeral digitsOf laid sum8 sumOf kindOf suits measureOf p002Ok fieldsOk realTime realParts daysIn leap judgeOf painted summed scrubAnswer scrubbed toldBy
 rk-scrub-rules-out = ruled (beside (beside numbers lists) lists) (λ (i : ℕ × List ℕ). left (tells (scrubAnswer (i .1)) (i .0 ∷ [])) (scrubbed (i .1))) (λ c p. ap₂ left (said (p .0)) (p .1)) _ refl
 
 -- RK_WRITE: a message, the told number before, and the buffer lent
+abbrev timely : Message
+timely = message 0x53303033 20260121093000000 1 []
+
 abbrev pub rk-write-wrong : List (Row (Message × (ℕ × List ℕ)) Answers)
 rk-write-wrong =
-    (message 0x53303033 2 1 [], (7, replicate 28 7)) never left (told 0 (28 ∷ [])) (frameOf (message 0x53303033 1 2 []))  -- SendingTime written as MsgSeqNum and MsgSeqNum as SendingTime
-    ∷ (message 0x53303033 2 1 [], (7, replicate 28 7)) only left (told 0 (28 ∷ [])) (frameOf (message 0x53303033 2 1 []))
-    ∷ (message 0x53303033 2 1 [], (7, replicate 27 7)) only left (told 8 (7 ∷ [])) (replicate 27 7)  -- 8 tells nothing and changes nothing
+    (timely, (7, replicate 28 7)) never left (told 0 (28 ∷ [])) (frameOf (message 0x53303033 1 20260121093000000 []))  -- SendingTime written as MsgSeqNum and MsgSeqNum as SendingTime
+    ∷ (timely, (7, replicate 28 7)) only left (told 0 (28 ∷ [])) (frameOf timely)
+    ∷ (timely, (7, replicate 27 7)) only left (told 8 (7 ∷ [])) (replicate 27 7)  -- 8 tells nothing and changes nothing
+    ∷ (message 0x53303033 20261301093000000 1 [], (7, replicate 28 7)) only left (told 7 (7 ∷ [])) (replicate 28 7)  -- month 13 written
     ∷ []
 
 pub rk-write-rules-out : RulesOut (Kept _ rk-write-kinds.ps rk-write-kinds.r rk-write.Post) (λ c. (message (c .args .0) (c .args .1 .0) (c .args .1 .1 .0) (now (c .args .1 .1 .1 .0)), (now (c .args .1 .1 .1 .1 .1 .0), now (c .args .1 .1 .1 .1 .0)))) (λ c. left (told (c .result) (now (c .exit .1 .1 .1 .1 .1 .0) ∷ [])) (now (c .exit .1 .1 .1 .1 .0))) rk-write-wrong
-unfolding plainOf frameOf checked writeOf leftOf numeral digitsOf laid sum8 sumOf kindOf suits measureOf fieldsOk judgeOf toldBy
+unfolding plainOf frameOf checked writeOf leftOf numeral digitsOf laid sum8 sumOf kindOf suits measureOf fieldsOk realTime realParts daysIn leap judgeOf toldBy
 rk-write-rules-out = ruled (beside (beside numbers lists) lists) (λ (i : Message × (ℕ × List ℕ)). left (tells (writeOf (i .0) (length (i .1 .1))) (i .1 .0 ∷ [])) (leftOf (i .0) (i .1 .1))) (λ c p. ap₂ left (said (p .0)) (p .1)) _ refl

@@ -27,9 +27,9 @@ use Rattle.record.specs.Fields.{Fits}
 use Rattle.trail.specs.Literal.{typeIn, lengthIn, tickIn, channelIn, answerIn, ledgerIn, ledgerAfter, frameRecord, stopped, goOn, walkFrom, literalWalk}
 use Rattle.lines.specs.Laws.{AllFit, all-none, all-more}
 
--- ANSWERS: a reading's is at most 6, the ledger's at most 18
+-- ANSWERS: a reading's is at most 7, the ledger's at most 18
 
-reading-few : (n : ℕ) (s : List ℕ) → Reads n s → n ≤ 6
+reading-few : (n : ℕ) (s : List ℕ) → Reads n s → n ≤ 7
 reading-few zero s h = omega arith
 reading-few (suc zero) s h = omega arith
 reading-few (suc (suc zero)) s h = omega arith
@@ -37,7 +37,8 @@ reading-few (suc (suc (suc zero))) s h = omega arith
 reading-few (suc (suc (suc (suc zero)))) s h = omega arith
 reading-few (suc (suc (suc (suc (suc zero))))) s h = omega arith
 reading-few (suc (suc (suc (suc (suc (suc zero)))))) s h = omega arith
-reading-few (suc (suc (suc (suc (suc (suc (suc n))))))) s h = absurd h
+reading-few (suc (suc (suc (suc (suc (suc (suc zero))))))) s h = omega arith
+reading-few (suc (suc (suc (suc (suc (suc (suc (suc n)))))))) s h = absurd h
 
 few : (t : Bool) (a b : ℕ) → a ≤ 18 → b ≤ 18 → pick t a b ≤ 18
 few true a b h k = h
@@ -102,7 +103,7 @@ frame-fits place calls f h b s =
       top = rw (s .ledger) (top-fits (s .later));
     }
 
-refusal-fits : (place number : ℕ) (calls : Calls) → place < 256 ^ 8 → number ≤ 6 → Fits (blankOf place number (after 100 calls .floor) (after 100 calls .top))
+refusal-fits : (place number : ℕ) (calls : Calls) → place < 256 ^ 8 → number ≤ 7 → Fits (blankOf place number (after 100 calls .floor) (after 100 calls .top))
 unfolding blankOf
 refusal-fits place number calls h n =
     record {

@@ -4,6 +4,7 @@ use mathlib.Core.Path.{_≡_, refl}
 use mathlib.Core.List.{List, [], _∷_, _++_}
 use lib.Count.{ones}
 use Rattle.octets.specs.Octets.{numeral, digitsOf, sum8, sumOf}
+use Rattle.calendar.specs.Calendar.{leap, daysIn, realParts, realTime}
 use Rattle.rules.specs.Table.{kindOf, suits, measureOf}
 use Rattle.rules.specs.Fields.{p001Ok, fieldsOk, judgeOf}
 use Rattle.wire.specs.Frame.{checked, readOf}
@@ -26,7 +27,7 @@ capture = frameA (0 ∷ 0 ∷ 0 ∷ 0 ∷ []) (0 ∷ 0 ∷ 0 ∷ 0x8E ∷ []) ++
 
 -- three readings, two of them frames; the announcement raises the top to 3
 walked : literalWalk capture ≡ record { records = recordA ∷ recordFF ∷ recordB ∷ []; frames = 2; refused = 1; ledger = record { channel = 100; floor = 0; top = 3; bits = 0; pending = nothing } }
-unfolding capture literalWalk walkFrom frameA startOfA frameB checked readOf firstOf searchOf numeral digitsOf sum8 sumOf kindOf suits measureOf p001Ok fieldsOk judgeOf rangeRules mapRules soundOf ownNumber checkedOf numberTo raised done nextOf fresh blankOf
+unfolding capture literalWalk walkFrom frameA startOfA frameB checked readOf firstOf searchOf numeral digitsOf sum8 sumOf kindOf suits measureOf p001Ok fieldsOk realTime realParts daysIn leap judgeOf rangeRules mapRules soundOf ownNumber checkedOf numberTo raised done nextOf fresh blankOf
 walked = refl
 
 -- "the whole output is:"

@@ -11,7 +11,7 @@ use Rattle.terms.specs.Counters.{tickOf}
 use Rattle.terms.specs.Paper.{Paper}
 use Rattle.terms.specs.Refusals.{numberOf}
 use Rattle.terms.specs.declared.Refusal.{Refusal}
-use Rattle.terms.specs.declared.Refusal.the-variants.{More, MsgType, Long, Length, Sum, Field, Room, Place, Range, Repeat, Far, State, Busy, Whole, Unasked, Status, Channel, Entries}
+use Rattle.terms.specs.declared.Refusal.the-variants.{More, MsgType, Long, Length, Sum, Field, Time, Room, Place, Range, Repeat, Far, State, Busy, Whole, Unasked, Status, Channel, Entries}
 use Rattle.octets.specs.declared.Written.{Written}
 use Rattle.octets.specs.declared.Written.the-variants as written
 use Rattle.octets.specs.Papers.{writtenPaper}
@@ -55,6 +55,7 @@ use Rattle.book.specs.Words.{answered}
 use Rattle.ledger.proofs.Promised.{refused-gives-back, far-raises-top}
 use Rattle.terms.proofs.OneAnswer as terms
 use Rattle.octets.proofs.OneAnswer as octets
+use Rattle.calendar.proofs.OneAnswer as calendar
 use Rattle.digits.proofs.OneAnswer as digits
 use Rattle.rules.proofs.OneAnswer as rules
 use Rattle.fields.proofs.OneAnswer as fields
@@ -112,6 +113,12 @@ octets-answers =
     let fill-one-answer = octets.fill-one-answer in
     let put-one-answer = octets.put-one-answer in
     let lay-one-answer = octets.lay-one-answer in
+    named
+
+-- calendar
+calendar-answers : Named
+calendar-answers =
+    let is-real-one-answer = calendar.is-real-one-answer in
     named
 
 -- digits
@@ -322,9 +329,9 @@ follow-answers =
 
 -- "AND REFUSES WHAT IT CAN'T USE WITH A NUMBER FROM DOCUMENT 01"
 
--- the numbers of document 01's table: 1 to 6, 8 to 18, 20
+-- the numbers of document 01's table, 1 to 6, 8 to 18 and 20, and 7 of document 02, CR 6
 unfoldable pub inTable : ℕ → Bool
-inTable n = (leb 1 n && leb n 6) || (leb 8 n && leb n 18) || eqb n 20
+inTable n = (leb 1 n && leb n 18) || eqb n 20
 
 pub refusal-in-table : (w : Refusal) → inTable (numberOf w) ≡ true
 unfolding inTable
@@ -334,6 +341,7 @@ refusal-in-table Long = refl
 refusal-in-table Length = refl
 refusal-in-table Sum = refl
 refusal-in-table Field = refl
+refusal-in-table Time = refl
 refusal-in-table Room = refl
 refusal-in-table Place = refl
 refusal-in-table Range = refl
@@ -397,7 +405,8 @@ reads-numbered (suc (suc (suc zero))) s h = refused refl
 reads-numbered (suc (suc (suc (suc zero)))) s h = refused refl
 reads-numbered (suc (suc (suc (suc (suc zero))))) s h = refused refl
 reads-numbered (suc (suc (suc (suc (suc (suc zero)))))) s h = refused refl
-reads-numbered (suc (suc (suc (suc (suc (suc (suc n))))))) s h = absurd h
+reads-numbered (suc (suc (suc (suc (suc (suc (suc zero))))))) s h = refused refl
+reads-numbered (suc (suc (suc (suc (suc (suc (suc (suc n)))))))) s h = absurd h
 
 pub seen-numbered : (s : List ℕ) → Numbered (seenOf s .answer)
 seen-numbered s = rw (seen-answer s) (reads-numbered (readOf s .number) s (read-given (readOf s .number) s .0 refl))

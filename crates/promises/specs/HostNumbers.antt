@@ -15,6 +15,7 @@ use Rattle.octets.specs.Papers.{roomFor}
 use Rattle.rules.specs.declared.Kind.{Kind}
 use Rattle.rules.specs.declared.Kind.the-variants.{M102}
 use Rattle.rules.specs.Table.{kindOf, known, suits, measureOf}
+use Rattle.calendar.specs.Calendar.{realTime}
 use Rattle.rules.specs.Fields.{fieldsOk, judgeOf}
 use Rattle.wire.specs.Frame.{checked, readOf, reads, bodyLength}
 use Rattle.wire.specs.GivenRead.{read-given}
@@ -110,7 +111,7 @@ measured k n =
 
 judged : (k : Kind) (time : ℕ) (b : List ℕ) → Numbered (judgeOf k time b)
 unfolding judgeOf inTable
-judged k time b = picked (fieldsOk k b) 0 6 (done refl) (refused refl)
+judged k time b = picked (realTime time) (pick (fieldsOk k b) 0 6) 7 (picked (fieldsOk k b) 0 6 (done refl) (refused refl)) (refused refl)
 
 room : (at n len : ℕ) → Numbered (roomFor at n len .number)
 unfolding roomFor inTable

@@ -3,6 +3,7 @@ pub mod Demand1
 pub mod HostNumbers
 pub mod Demand2
 pub mod HostFrames
+pub mod RealTimes
 pub mod Demand3
 pub mod Cuttings
 pub mod Marked

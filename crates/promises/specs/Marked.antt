@@ -10,6 +10,7 @@ use lib.Pow.{pow-lt}
 use lib.Dec.{eqb}
 use Rattle.terms.specs.Paper.{Paper, answer, refusal, pick}
 use Rattle.octets.specs.Octets.{numeral, digitsOf, sum8, sumOf}
+use Rattle.calendar.specs.Calendar.{leap, daysIn, realParts, realTime}
 use Rattle.rules.specs.Table.{kindOf, suits, measureOf}
 use Rattle.rules.specs.Fields.{fieldsOk, judgeOf}
 use Rattle.wire.specs.Frame.{bodyLength, checked, readOf}
@@ -145,7 +146,7 @@ unfolding numberTo ownNumber checkedOf soundOf mapRules rangeRules has passes ta
 missing-1 = record { answered = refl; then = refl }
 
 pub marked : AllHold table
-unfolding table startOfA frameA headerM101 checked readOf numeral digitsOf sum8 sumOf kindOf suits measureOf fieldsOk judgeOf
+unfolding table startOfA frameA headerM101 checked readOf numeral digitsOf sum8 sumOf kindOf suits measureOf fieldsOk realTime realParts daysIn leap judgeOf
 marked =
     (h-also (h-reading refl refl)
     (h-also (h-reading refl refl)

@@ -6,6 +6,7 @@ use lib.ListN.{length}
 use lib.Dec.{ltb, leb, eqb}
 use Rattle.terms.specs.Paper.{pick}
 use Rattle.octets.specs.Octets.{be}
+use Rattle.calendar.specs.Calendar.{realTime}
 use Rattle.rules.specs.declared.Kind.{Kind}
 use Rattle.rules.specs.declared.Kind.the-variants.{S001, S002, S003, P001, P002, M101, M102, M201, Unknown}
 
@@ -81,6 +82,6 @@ fieldsOk M102 b = m102Ok b
 fieldsOk M201 b = m201Ok b
 fieldsOk Unknown b = false
 
--- what is said behind the checksum: 6 where a field rule is broken. (The time is not judged yet.)
+-- what is said behind the checksum: 7 where the time is not real, then 6 where a field rule is broken
 unfoldable pub judgeOf : Kind → ℕ → List ℕ → ℕ
-judgeOf k time b = pick (fieldsOk k b) 0 6
+judgeOf k time b = pick (realTime time) (pick (fieldsOk k b) 0 6) 7

@@ -3,7 +3,6 @@ pub mod Table
 pub mod Fields
 pub mod Sizes
 pub mod Outcomes
-pub mod Says
 pub mod Widths
 pub mod Rules
 pub mod Meaning

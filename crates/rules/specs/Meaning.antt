@@ -17,7 +17,7 @@ use Rattle.rules.specs.declared.Kind.the-variants.{S001, S002, S003, P00
 use Rattle.rules.specs.Table.{kindOf, known, suits}
 use Rattle.rules.specs.Fields.{s001Ok, s002Ok, p001Ok, p002Ok, m201Ok, pairOk, m102ValuesOk, entrySize, entryOk, entriesOk, m102Ok, fieldsOk}
 use Rattle.rules.specs.Rules.{TypeRule, LengthRule, S001Rules, S002Rules, P001Rules, P002Rules, Pair, pair-1, pair-2, pair-3-MD101, pair-3-MD102, pair-12, pair-13, pair-14, EntrySize, short, long, EntryRules, M102Rules, M201Rules, FieldRules}
-use Rattle.rules.specs.Says.{Says, says-lt, says-le, says-eq, says-and, says-or, says-as}
+use Rattle.terms.specs.Says.{Says, says-lt, says-le, says-eq, says-and, says-or, says-as}
 
 -- LENGTHS
 

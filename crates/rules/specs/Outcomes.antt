@@ -7,6 +7,7 @@ use mathlib.Core.List.{List}
 use native.Mathlib.Omega.{arith}
 use borrow.Author.Tests.{lt-ltb, le-ltb}
 use Rattle.terms.specs.Cases.{two, less}
+use Rattle.calendar.specs.Calendar.{realTime}
 use Rattle.rules.specs.declared.Kind.{Kind}
 use Rattle.rules.specs.Table.{known, suits, measureOf}
 use Rattle.rules.specs.Fields.{fieldsOk, judgeOf}
@@ -48,28 +49,39 @@ measured k n =
     (two (known k))
 
 module _ (k : Kind) (time : ℕ) (b : List ℕ) where
-  pub judge-field : fieldsOk k b ≡ false → judgeOf k time b ≡ 6
+  pub judge-time : realTime time ≡ false → judgeOf k time b ≡ 7
   unfolding judgeOf
-  judge-field f = simp f
+  judge-time r = simp r
 
-  pub judge-fine : fieldsOk k b ≡ true → judgeOf k time b ≡ 0
-  unfolding judgeOf
-  judge-fine f = simp f
+  module _ (r : realTime time ≡ true) where
+    pub judge-field : fieldsOk k b ≡ false → judgeOf k time b ≡ 6
+    unfolding judgeOf
+    judge-field f = simp (r, f)
+
+    pub judge-fine : fieldsOk k b ≡ true → judgeOf k time b ≡ 0
+    unfolding judgeOf
+    judge-fine f = simp (r, f)
 
 -- which facts stand behind a number m of judgeOf k time b
 pub data Judged (k : Kind) (time : ℕ) (b : List ℕ) (m : ℕ) : Type 0 where
-  j-field : m ≡ 6 → fieldsOk k b ≡ false → Judged k time b m
-  j-fine : m ≡ 0 → fieldsOk k b ≡ true → Judged k time b m
+  j-time : m ≡ 7 → realTime time ≡ false → Judged k time b m
+  j-field : m ≡ 6 → realTime time ≡ true → fieldsOk k b ≡ false → Judged k time b m
+  j-fine : m ≡ 0 → realTime time ≡ true → fieldsOk k b ≡ true → Judged k time b m
 
 pub judged : (k : Kind) (time : ℕ) (b : List ℕ) → Judged k time b (judgeOf k time b)
 judged k time b =
-    ⊎-elim (λ f. j-fine (judge-fine k time b f) f) (λ f. j-field (judge-field k time b f) f) (two (fieldsOk k b))
+    ⊎-elim (λ r.
+    ⊎-elim (λ f. j-fine (judge-fine k time b r f) r f) (λ f. j-field (judge-field k time b r f) r f)
+    (two (fieldsOk k b)))
+    (λ r. j-time (judge-time k time b r) r)
+    (two (realTime time))
 
 -- THE LAWS THAT LAYERS ABOVE USE: no check here asks for more bytes
 
 not-1 : (k : Kind) (time : ℕ) (b : List ℕ) (m : ℕ) → Judged k time b m → m ≡ 1 → ⊥
-not-1 k time b m (j-field e f) h = omega arith
-not-1 k time b m (j-fine e f) h = omega arith
+not-1 k time b m (j-time e r) h = omega arith
+not-1 k time b m (j-field e r f) h = omega arith
+not-1 k time b m (j-fine e r f) h = omega arith
 
 pub judge-not-more : (k : Kind) (time : ℕ) (b : List ℕ) → judgeOf k time b ≡ 1 → ⊥
 judge-not-more k time b e = not-1 k time b (judgeOf k time b) (judged k time b) e

@@ -8,6 +8,7 @@ use Rattle.terms.specs.Paper.{Paper, answer, refusal}
 use Rattle.terms.specs.RuledOut.{Row, _never_, _only_, Kept, RulesOut, ruled, Left, left, lefts, left-is}
 use Rattle.octets.specs.Octets.{numeral, digitsOf, laid, sum8, sumOf}
 use Rattle.octets.specs.Papers.{writtenPaper}
+use Rattle.calendar.specs.Calendar.{leap, daysIn, realParts, realTime}
 use Rattle.rules.specs.declared.Kind.{Kind}
 use Rattle.rules.specs.declared.Kind.the-variants.{S001, S003, M101, M201}
 use Rattle.rules.specs.Table.{kindOf, suits, measureOf}
@@ -43,7 +44,7 @@ scrub-wrong =
     ∷ []
 
 pub scrub-rules-out : RulesOut (Kept _ scrub-kinds.ps scrub-kinds.r scrub.Post) (λ c. now (c .args .0)) (λ c. left (writtenPaper (c .result)) (now (c .exit .0))) scrub-wrong
-unfolding plainOf frameOf scrubAnswer scrubbed painted summed checked readOf numeral digitsOf laid sum8 sumOf kindOf suits measureOf s001Ok p002Ok m201Ok fieldsOk judgeOf
+unfolding plainOf frameOf scrubAnswer scrubbed painted summed checked readOf numeral digitsOf laid sum8 sumOf kindOf suits measureOf s001Ok p002Ok m201Ok fieldsOk realTime realParts daysIn leap judgeOf
 scrub-rules-out = ruled lefts (λ (s : List ℕ). left (scrubAnswer s) (scrubbed s)) (λ c p. left-is p) _ refl
 
 -- SCRUB_KNOWN: a type, the length of a body, and the lent bytes

@@ -6,6 +6,7 @@ use denote.Ref.{now}
 use lib.ListN.{drop, replicate}
 use Rattle.terms.specs.RuledOut.{Row, _never_, _only_, Kept, RulesOut, ruled, lists}
 use Rattle.octets.specs.Octets.{numeral, digitsOf, sum8, sumOf}
+use Rattle.calendar.specs.Calendar.{leap, daysIn, realParts, realTime}
 use Rattle.rules.specs.Table.{kindOf, suits, measureOf}
 use Rattle.rules.specs.Fields.{p002Ok, fieldsOk, judgeOf}
 use Rattle.wire.specs.Frame.{checked, readOf, bodyRead}
@@ -30,5 +31,5 @@ see-wrong =
     ∷ []
 
 pub see-rules-out : RulesOut (Kept _ see-kinds.ps see-kinds.r see.Post) (λ c. (now (c .args .0), c .args .1 .0)) (λ c. shown (c .result)) see-wrong
-unfolding plainOf frameOf checked readOf bodyRead numeral digitsOf sum8 sumOf kindOf suits measureOf p002Ok fieldsOk judgeOf viewOf seenOf
+unfolding plainOf frameOf checked readOf bodyRead numeral digitsOf sum8 sumOf kindOf suits measureOf p002Ok fieldsOk realTime realParts daysIn leap judgeOf viewOf seenOf
 see-rules-out = ruled lists (λ (i : List ℕ × ℕ). shown (seenOf (drop (i .1) (i .0)))) (λ c p. ap shown p) _ refl

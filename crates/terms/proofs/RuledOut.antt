@@ -8,7 +8,7 @@ use Rattle.terms.specs.declared.SessionNumber.{SessionNumber}
 use Rattle.terms.specs.declared.TickNumber.{TickNumber}
 use Rattle.terms.specs.declared.ChannelNumber.{ChannelNumber}
 use Rattle.terms.specs.declared.Refusal.{Refusal}
-use Rattle.terms.specs.declared.Refusal.the-variants.{Sum, Field, Entries}
+use Rattle.terms.specs.declared.Refusal.the-variants.{Sum, Field, Time, Entries}
 use Rattle.terms.proofs.SessionNumber.new.Reads as session-new
 use Rattle.terms.proofs.SessionNumber.new.Kinds as session-new-kinds
 use Rattle.terms.proofs.SessionNumber.value.Reads as session-value
@@ -55,6 +55,7 @@ abbrev pub Refusal-number-wrong : List (Row Refusal ℕ)
 Refusal-number-wrong =
     Sum only 5  -- not counted from 0
     ∷ Field never 5  -- two refusals with one number
+    ∷ Time only 7  -- not 6 or 8, which are others'
     ∷ Entries never 18  -- counted on, without the gaps of the table
     ∷ []
 

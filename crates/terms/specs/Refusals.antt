@@ -7,7 +7,7 @@ use lib.Dec.{eqb}
 use borrow.Author.Tests.{eqb-false}
 use Rattle.terms.specs.Paper.{Paper, refusal, pick}
 use Rattle.terms.specs.declared.Refusal.{Refusal}
-use Rattle.terms.specs.declared.Refusal.the-variants.{More, MsgType, Long, Length, Sum, Field, Room, Place, Range, Repeat, Far, State, Busy, Whole, Unasked, Status, Channel, Entries}
+use Rattle.terms.specs.declared.Refusal.the-variants.{More, MsgType, Long, Length, Sum, Field, Time, Room, Place, Range, Repeat, Far, State, Busy, Whole, Unasked, Status, Channel, Entries}
 
 abbrev pub numberOf : Refusal → ℕ
 numberOf More = 1  -- more
@@ -16,6 +16,7 @@ numberOf Long = 3  -- long
 numberOf Length = 4  -- length
 numberOf Sum = 5  -- sum
 numberOf Field = 6  -- field
+numberOf Time = 7  -- time, of document 02, CR 6
 numberOf Room = 8  -- room
 numberOf Place = 9  -- place
 numberOf Range = 10  -- number
@@ -38,6 +39,7 @@ refusalOf n =
     (pick (eqb n 4) Length
     (pick (eqb n 5) Sum
     (pick (eqb n 6) Field
+    (pick (eqb n 7) Time
     (pick (eqb n 8) Room
     (pick (eqb n 9) Place
     (pick (eqb n 10) Range
@@ -49,7 +51,7 @@ refusalOf n =
     (pick (eqb n 16) Unasked
     (pick (eqb n 17) Status
     (pick (eqb n 18) Channel
-    Entries))))))))))))))))
+    Entries)))))))))))))))))
 
 pub refusal-back : (w : Refusal) → refusalOf (numberOf w) ≡ w
 unfolding refusalOf
@@ -59,6 +61,7 @@ refusal-back Long = refl
 refusal-back Length = refl
 refusal-back Sum = refl
 refusal-back Field = refl
+refusal-back Time = refl
 refusal-back Room = refl
 refusal-back Place = refl
 refusal-back Range = refl
@@ -84,6 +87,7 @@ refusal-not-0 Long = refl
 refusal-not-0 Length = refl
 refusal-not-0 Sum = refl
 refusal-not-0 Field = refl
+refusal-not-0 Time = refl
 refusal-not-0 Room = refl
 refusal-not-0 Place = refl
 refusal-not-0 Range = refl

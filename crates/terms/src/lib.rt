@@ -62,7 +62,7 @@ impl ChannelNumber {
 
 // Why something is refused: a case for each row of document 01's table but 0, in its order. (Its rows "type" and "number"
 // are MsgType and Range here.)
-// (7 comes with a later request; 19 and 29 are a stream's own, in `flow`.)
+// (19 and 29 are a stream's own, in `flow`.)
 pub enum Refusal {
     More,
     MsgType,
@@ -70,6 +70,7 @@ pub enum Refusal {
     Length,
     Sum,
     Field,
+    Time,
     Room,
     Place,
     Range,
@@ -96,6 +97,7 @@ impl Refusal {
             Refusal::Length => 4,
             Refusal::Sum => 5,
             Refusal::Field => 6,
+            Refusal::Time => 7,
             Refusal::Room => 8,
             Refusal::Place => 9,
             Refusal::Range => 10,

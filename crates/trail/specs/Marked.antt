@@ -6,6 +6,7 @@ use mathlib.Core.List.{List, [], _∷_}
 use lib.Count.{ones}
 use Rattle.terms.specs.Paper.{answer}
 use Rattle.octets.specs.Octets.{numeral, sum8, sumOf}
+use Rattle.calendar.specs.Calendar.{leap, daysIn, realParts, realTime}
 use Rattle.rules.specs.Table.{kindOf, suits, measureOf}
 use Rattle.rules.specs.Fields.{p001Ok, fieldsOk, judgeOf}
 use Rattle.wire.specs.Frame.{checked, readOf}
@@ -28,7 +29,7 @@ abbrev pub markedBook : Book
 markedBook = record { channel = 100; floor = 0; top = 3; bits = 0; pending = nothing }
 
 pub marked-walk : literalWalk marked ≡ record { records = recordA ∷ recordFF ∷ recordB ∷ []; frames = 2; refused = 1; ledger = markedBook }
-unfolding literalWalk walkFrom marked readOf checked measureOf kindOf suits judgeOf fieldsOk p001Ok numeral sum8 sumOf searchOf firstOf nextOf numberTo checkedOf ownNumber soundOf mapRules rangeRules done raised fresh
+unfolding literalWalk walkFrom marked readOf checked measureOf kindOf suits realTime realParts daysIn leap judgeOf fieldsOk p001Ok numeral sum8 sumOf searchOf firstOf nextOf numberTo checkedOf ownNumber soundOf mapRules rangeRules done raised fresh
 marked-walk = refl
 
 pub marked-missing : answerTo markedBook Missing ≡ answer 0 (3 ∷ [])

@@ -4,6 +4,7 @@ use mathlib.Core.Path.{_≡_, refl}
 use mathlib.Core.List.{List, [], _∷_, _++_}
 use lib.ListN.{replicate}
 use Rattle.octets.specs.Octets.{numeral, digitsOf, sum8, sumOf, laid}
+use Rattle.calendar.specs.Calendar.{leap, daysIn, realParts, realTime}
 use Rattle.rules.specs.Table.{kindOf, suits, measureOf}
 use Rattle.rules.specs.Fields.{m201Ok, fieldsOk, judgeOf}
 use Rattle.wire.specs.Frame.{checked, readOf, bodyRead}
@@ -32,15 +33,15 @@ frameOf first tail sum = first ∷ fixedPart ++ (tail ++ (0 ∷ 0 ∷ 0 ∷ sum 
 
 -- whole, it is kept with its tail painted, and nothing was found behind damage
 pub inside-whole : cleanOf (frameOf 0x4D heartbeat 0xE9) ≡ frameOf 0x4D (replicate 28 0x20) 0x4D
-unfolding fixedPart frameA startOfA cleanOf framesIn foundIn foundBy accepts sightsOf noted found next after seenOf saysOf readOf checked bodyRead viewOf numeral digitsOf sum8 sumOf laid painted summed scrubbed joined eachOf kindOf suits measureOf m201Ok fieldsOk judgeOf
+unfolding fixedPart frameA startOfA cleanOf framesIn foundIn foundBy accepts sightsOf noted found next after seenOf saysOf readOf checked bodyRead viewOf numeral digitsOf sum8 sumOf laid painted summed scrubbed joined eachOf kindOf suits measureOf m201Ok fieldsOk realTime realParts daysIn leap judgeOf
 inside-whole = refl
 
 -- with its first byte damaged it is refused, and the search finds the heartbeat in what was its private tail: that is kept
 pub inside-damaged : cleanOf (frameOf 0x4E heartbeat 0xE9) ≡ heartbeat
-unfolding fixedPart frameA startOfA cleanOf framesIn foundIn foundBy accepts sightsOf noted found next after seenOf saysOf readOf checked bodyRead viewOf numeral digitsOf sum8 sumOf laid painted summed scrubbed joined eachOf kindOf suits measureOf m201Ok fieldsOk judgeOf
+unfolding fixedPart frameA startOfA cleanOf framesIn foundIn foundBy accepts sightsOf noted found next after seenOf saysOf readOf checked bodyRead viewOf numeral digitsOf sum8 sumOf laid painted summed scrubbed joined eachOf kindOf suits measureOf m201Ok fieldsOk realTime realParts daysIn leap judgeOf
 inside-damaged = refl
 
 -- and the count says so
 pub inside-counted : foundOf (frameOf 0x4E heartbeat 0xE9) ≡ 1
-unfolding fixedPart frameA startOfA cleanOf framesIn foundIn foundBy accepts sightsOf noted found next after seenOf saysOf readOf checked bodyRead viewOf numeral digitsOf sum8 sumOf laid painted summed scrubbed joined eachOf kindOf suits measureOf m201Ok fieldsOk judgeOf
+unfolding fixedPart frameA startOfA cleanOf framesIn foundIn foundBy accepts sightsOf noted found next after seenOf saysOf readOf checked bodyRead viewOf numeral digitsOf sum8 sumOf laid painted summed scrubbed joined eachOf kindOf suits measureOf m201Ok fieldsOk realTime realParts daysIn leap judgeOf
 inside-counted = refl

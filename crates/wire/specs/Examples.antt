@@ -8,6 +8,7 @@ use lib.ListN.{replicate, length}
 use lib.Dec.{eqb}
 use Rattle.terms.specs.Paper.{Paper, answer, refusal}
 use Rattle.octets.specs.Octets.{numeral, digitsOf, sum8, sumOf}
+use Rattle.calendar.specs.Calendar.{leap, daysIn, realParts, realTime}
 use Rattle.rules.specs.Table.{kindOf, suits, measureOf}
 use Rattle.rules.specs.Fields.{p001Ok, fieldsOk, judgeOf}
 use Rattle.rules.specs.Bodies.{logonBody, resendBody, tickBody}
@@ -60,7 +61,7 @@ table =
     ∷ []
 
 pub examples : right table ≡ true
-unfolding right table sameList frameA startOfA frameB headerM101 checked readOf numeral digitsOf sum8 sumOf kindOf suits measureOf p001Ok fieldsOk judgeOf
+unfolding right table sameList frameA startOfA frameB headerM101 checked readOf numeral digitsOf sum8 sumOf kindOf suits measureOf p001Ok fieldsOk realTime realParts daysIn leap judgeOf
 examples = refl
 
 -- 3. [..] 28 bytes: all of A, and what reading says of its length
@@ -81,9 +82,12 @@ A = ending 0 0x8E
 abbrev pub capture : List ℕ
 capture = A ++ (0xFF ∷ frameB)
 
--- a frame with the right checksum, of 2026-01-21 09:30:00.000 and MsgSeqNum 1
+-- a frame with the right checksum, of this time and MsgSeqNum 1; of 2026-01-21 09:30:00.000
+abbrev pub timed : ℕ → ℕ → List ℕ → List ℕ
+timed time type content = frameOf (message type time 1 content)
+
 abbrev pub framed : ℕ → List ℕ → List ℕ
-framed type content = frameOf (message type 20260121093000000 1 content)
+framed = timed 20260121093000000
 
 -- S003; S001 with its CompIDs and HeartBtInt; P002 of numbers 3 to 5 with ResendStatus and RejectText; M201 with its extension
 abbrev pub heartbeat : List ℕ

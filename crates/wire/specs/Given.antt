@@ -6,6 +6,7 @@ use mathlib.Core.Logic.{_⊎_}
 use mathlib.Core.List.{List}
 use lib.ListN.{length, take, drop}
 use Rattle.octets.specs.Octets.{be, sumOf}
+use Rattle.calendar.specs.Calendar.{RealTime}
 use Rattle.rules.specs.declared.Kind.{Kind}
 use Rattle.rules.specs.Rules.{TypeRule, LengthRule, FieldRules}
 use Rattle.wire.specs.Write.{Message}
@@ -41,9 +42,14 @@ pub record Summed (k : Kind) (s : List ℕ) : Type 0 where
   pub before : There k s
   pub sum : be 4 (24 + be 4 20 s) s ≡ sumOf (take (24 + be 4 20 s) s) % 256
 
+-- 7, between 5 and 6: SendingTime is a real time (document 02, CR 6)
+pub record Timed (k : Kind) (s : List ℕ) : Type 0 where
+  pub before : Summed k s
+  pub time : RealTime (be 8 4 s)
+
 -- 6: the field rules. This is a frame that meets IS120 0.62 as document 01 sets it out.
 pub record Meets (k : Kind) (s : List ℕ) : Type 0 where
-  pub before : Summed k s
+  pub before : Timed k s
   pub fields : FieldRules k (take (be 4 20 s) (drop 24 s))
 
 -- each number: the checks before it pass, and its own fails
@@ -66,7 +72,10 @@ abbrev pub Reads5 : List ℕ → Type 0
 Reads5 s = (k : Kind) × (There k s × (be 4 (24 + be 4 20 s) s ≡ sumOf (take (24 + be 4 20 s) s) % 256 → ⊥))
 
 abbrev pub Reads6 : List ℕ → Type 0
-Reads6 s = (k : Kind) × (Summed k s × (FieldRules k (take (be 4 20 s) (drop 24 s)) → ⊥))
+Reads6 s = (k : Kind) × (Timed k s × (FieldRules k (take (be 4 20 s) (drop 24 s)) → ⊥))
+
+abbrev pub Reads7 : List ℕ → Type 0
+Reads7 s = (k : Kind) × (Summed k s × (RealTime (be 8 4 s) → ⊥))
 
 -- the condition of each number; no other is given
 abbrev pub Reads : ℕ → List ℕ → Type 0
@@ -77,9 +86,10 @@ Reads (suc (suc (suc zero))) s = Reads3 s
 Reads (suc (suc (suc (suc zero)))) s = Reads4 s
 Reads (suc (suc (suc (suc (suc zero))))) s = Reads5 s
 Reads (suc (suc (suc (suc (suc (suc zero)))))) s = Reads6 s
-Reads (suc (suc (suc (suc (suc (suc (suc n))))))) s = ⊥
+Reads (suc (suc (suc (suc (suc (suc (suc zero))))))) s = Reads7 s
+Reads (suc (suc (suc (suc (suc (suc (suc (suc n)))))))) s = ⊥
 
--- WRITING a message into so much room: 2, 3, 4, 6, 8
+-- WRITING a message into so much room: 2, 3, 4, 7, 6, 8
 
 pub record WTyped (k : Kind) (m : Message) : Type 0 where
   pub type : TypeRule k (m .type)
@@ -92,8 +102,12 @@ pub record WSuited (k : Kind) (m : Message) : Type 0 where
   pub before : WShort k m
   pub suits : LengthRule k (length (m .content))
 
-pub record WMeets (k : Kind) (m : Message) : Type 0 where
+pub record WTimed (k : Kind) (m : Message) : Type 0 where
   pub before : WSuited k m
+  pub time : RealTime (m .time)
+
+pub record WMeets (k : Kind) (m : Message) : Type 0 where
+  pub before : WTimed k m
   pub fields : FieldRules k (m .content)
 
 abbrev pub Writes0 : Message → ℕ → Type 0
@@ -109,7 +123,10 @@ abbrev pub Writes4 : Message → ℕ → Type 0
 Writes4 m room = (k : Kind) × (WShort k m × (LengthRule k (length (m .content)) → ⊥))
 
 abbrev pub Writes6 : Message → ℕ → Type 0
-Writes6 m room = (k : Kind) × (WSuited k m × (FieldRules k (m .content) → ⊥))
+Writes6 m room = (k : Kind) × (WTimed k m × (FieldRules k (m .content) → ⊥))
+
+abbrev pub Writes7 : Message → ℕ → Type 0
+Writes7 m room = (k : Kind) × (WSuited k m × (RealTime (m .time) → ⊥))
 
 abbrev pub Writes8 : Message → ℕ → Type 0
 Writes8 m room = (k : Kind) × (WMeets k m × (room < 24 + length (m .content) + 4))
@@ -122,6 +139,6 @@ Writes (suc (suc (suc zero))) m room = Writes3 m room
 Writes (suc (suc (suc (suc zero)))) m room = Writes4 m room
 Writes (suc (suc (suc (suc (suc zero))))) m room = ⊥
 Writes (suc (suc (suc (suc (suc (suc zero)))))) m room = Writes6 m room
-Writes (suc (suc (suc (suc (suc (suc (suc zero))))))) m room = ⊥
+Writes (suc (suc (suc (suc (suc (suc (suc zero))))))) m room = Writes7 m room
 Writes (suc (suc (suc (suc (suc (suc (suc (suc zero)))))))) m room = Writes8 m room
 Writes (suc (suc (suc (suc (suc (suc (suc (suc (suc n))))))))) m room = ⊥

@@ -1,4 +1,4 @@
--- given-0 to given-6 of reading. For any bytes the condition of the number given holds (`told`), and each condition leads to its number.
+-- given-0 to given-7 of reading. For any bytes the condition of the number given holds (`told`), and each condition leads to its number.
 use Prim.Native.Nat.{ℕ, zero, suc, _+_, _<_, _≤_, _%_}
 use mathlib.Core.Path.{_≡_, _∙_}
 use mathlib.Core.Bool.{true}
@@ -8,15 +8,17 @@ use native.Mathlib.Omega.{arith}
 use lib.ListN.{length, take, drop}
 use Rattle.terms.specs.Paper.{Paper, one-number}
 use Rattle.octets.specs.Octets.{be, sumOf, sum8}
+use Rattle.calendar.specs.Calendar.{RealTime, realTime}
+use Rattle.calendar.specs.Times.{time-says}
 use Rattle.rules.specs.declared.Kind.{Kind}
 use Rattle.rules.specs.Table.{kindOf, known, suits}
 use Rattle.rules.specs.Rules.{LengthRule, FieldRules}
-use Rattle.rules.specs.Outcomes.{measure-type, measure-long, measure-length, measure-fine, judge-field, judge-fine, Measured, m-type, m-long, m-length, m-fine, measured, Judged, j-field, j-fine, judged}
+use Rattle.rules.specs.Outcomes.{measure-type, measure-long, measure-length, measure-fine, judge-time, judge-field, judge-fine, Measured, m-type, m-long, m-length, m-fine, measured, Judged, j-time, j-field, j-fine, judged}
 use Rattle.rules.specs.Meaning.{length-says, fields-say, type-is, type-known, type-says, rowed, denied, unsaid}
 use Rattle.wire.specs.Frame.{msgType, sendingTime, bodyLength, body, plain, checkSum, readOf, Whole}
 use Rattle.wire.specs.Measures.{fits}
 use Rattle.wire.specs.Outcomes.{measure, judgement, Reading, r-short, r-measure, r-cut, r-sum, r-judged, r-frame, reading, read-short, read-measured, read-cut, read-sum, read-judgement, good-reads}
-use Rattle.wire.specs.Given.{Typed, Short, Suited, There, Summed, Meets, Reads0, Reads1, Reads2, Reads3, Reads4, Reads5, Reads6, Reads}
+use Rattle.wire.specs.Given.{Typed, Short, Suited, There, Summed, Timed, Meets, Reads0, Reads1, Reads2, Reads3, Reads4, Reads5, Reads6, Reads7, Reads}
 
 -- FROM THE CONDITION TO THE NUMBER
 
@@ -50,12 +52,18 @@ module _ (k : Kind) (s : List ℕ) where
   unfolding sum8
   from-5 t n = one-number (read-sum s (whole t) n)
 
-  from-6 : Summed k s → (FieldRules k (take (be 4 20 s) (drop 24 s)) → ⊥) → readOf s .number ≡ 6
+  from-7 : Summed k s → (RealTime (be 8 4 s) → ⊥) → readOf s .number ≡ 7
+  unfolding sum8
+  from-7 t n =
+      one-number
+      (read-judgement s (whole (t .before)) (t .sum) 7 (judge-time _ _ _ (denied (time-says (sendingTime s)) n)) (λ e. omega arith))
+
+  from-6 : Timed k s → (FieldRules k (take (be 4 20 s) (drop 24 s)) → ⊥) → readOf s .number ≡ 6
   unfolding sum8
   from-6 t n =
       one-number
-      (read-judgement s (whole (t .before)) (t .sum) 6
-      (judge-field _ _ _ (rw (kind (t .before .before .before .before)) (denied (fields-say k (body s)) n)))
+      (read-judgement s (whole (t .before .before)) (t .before .sum) 6
+      (judge-field _ _ _ (time-says (sendingTime s) .1 (t .time)) (rw (kind (t .before .before .before .before .before)) (denied (fields-say k (body s)) n)))
       (λ e. omega arith))
 
   from-0 : Meets k s → readOf s .number ≡ 0
@@ -64,9 +72,9 @@ module _ (k : Kind) (s : List ℕ) where
       one-number
       (good-reads s
       (record {
-        whole = whole (t .before .before);
-        sum = t .before .sum;
-        fine = judge-fine _ _ _ (rw (kind (t .before .before .before .before .before)) (fields-say k (body s) .1 (t .fields)));
+        whole = whole (t .before .before .before);
+        sum = t .before .before .sum;
+        fine = judge-fine _ _ _ (time-says (sendingTime s) .1 (t .before .time)) (rw (kind (t .before .before .before .before .before .before)) (fields-say k (body s) .1 (t .fields)));
       }))
 
 from-1 : (s : List ℕ) → Reads1 s → readOf s .number ≡ 1
@@ -97,6 +105,9 @@ summed : (s : List ℕ) → Whole s → checkSum s ≡ sum8 (plain s) → Summed
 unfolding sum8
 summed s w e = record { before = there s w; sum = e }
 
+timed : (s : List ℕ) → Whole s → checkSum s ≡ sum8 (plain s) → realTime (sendingTime s) ≡ true → Timed (kindOf (msgType s)) s
+timed s w e r = record { before = summed s w e; time = time-says _ .0 r }
+
 told-measure : (s : List ℕ) (n m : ℕ) → 24 ≤ length s → Measured (kindOf (msgType s)) (bodyLength s) m → n ≡ m → (m ≡ 0 → ⊥) → Reads n s
 told-measure s n m h (m-type e a) p ne = rw (p ∙ e) (record { header = h }, λ k t. unsaid (type-says (msgType s)) a (k, t))
 told-measure s n m h (m-long e a b) p ne = rw (p ∙ e) (kindOf (msgType s), (typed s h a, b))
@@ -104,12 +115,14 @@ told-measure s n m h (m-length e a b c) p ne = rw (p ∙ e) (kindOf (msgType s),
 told-measure s n m h (m-fine e a b c) p ne = absurd (ne e)
 
 told-judged : (s : List ℕ) (n m : ℕ) → Whole s → checkSum s ≡ sum8 (plain s) → Judged (kindOf (msgType s)) (sendingTime s) (body s) m → n ≡ m → (m ≡ 0 → ⊥) → Reads n s
-told-judged s n m w g (j-field e f) p ne = rw (p ∙ e) (kindOf (msgType s), (summed s w g, unsaid (fields-say _ _) f))
-told-judged s n m w g (j-fine e f) p ne = absurd (ne e)
+told-judged s n m w g (j-time e r) p ne = rw (p ∙ e) (kindOf (msgType s), (summed s w g, unsaid (time-says _) r))
+told-judged s n m w g (j-field e r f) p ne = rw (p ∙ e) (kindOf (msgType s), (timed s w g r, unsaid (fields-say _ _) f))
+told-judged s n m w g (j-fine e r f) p ne = absurd (ne e)
 
-fields-of : (s : List ℕ) (m : ℕ) → Judged (kindOf (msgType s)) (sendingTime s) (body s) m → m ≡ 0 → FieldRules (kindOf (msgType s)) (body s)
-fields-of s m (j-field e f) z = absurd (omega arith)
-fields-of s m (j-fine e f) z = fields-say _ _ .0 f
+met : (s : List ℕ) (m : ℕ) → Whole s → checkSum s ≡ sum8 (plain s) → Judged (kindOf (msgType s)) (sendingTime s) (body s) m → m ≡ 0 → Meets (kindOf (msgType s)) s
+met s m w g (j-time e r) z = absurd (omega arith)
+met s m w g (j-field e r f) z = absurd (omega arith)
+met s m w g (j-fine e r f) z = record { before = timed s w g r; fields = fields-say _ _ .0 f }
 
 told-of : (s : List ℕ) (p : Paper) → Reading s p → Reads (p .number) s
 unfolding sum8
@@ -119,7 +132,7 @@ told-of s p (r-cut e h m l) = rw (one-number e) (inr (kindOf (msgType s), (suite
 told-of s p (r-sum e w n) = rw (one-number e) (kindOf (msgType s), (there s w, n))
 told-of s p (r-judged e w f n) = told-judged s _ (judgement s) w f (judged _ _ _) (one-number e) n
 told-of s p (r-frame e g) =
-    rw (one-number e) (kindOf (msgType s), record { before = summed s (g .whole) (g .sum); fields = fields-of s (judgement s) (judged _ _ _) (g .fine) })
+    rw (one-number e) (kindOf (msgType s), met s (judgement s) (g .whole) (g .sum) (judged _ _ _) (g .fine))
 
 told : (s : List ℕ) → Reads (readOf s .number) s
 told s = told-of s (readOf s) (reading s)
@@ -132,7 +145,8 @@ from-any (suc (suc (suc zero))) s h = from-3 (h .0) s (h .1 .0) (h .1 .1)
 from-any (suc (suc (suc (suc zero)))) s h = from-4 (h .0) s (h .1 .0) (h .1 .1)
 from-any (suc (suc (suc (suc (suc zero))))) s h = from-5 (h .0) s (h .1 .0) (h .1 .1)
 from-any (suc (suc (suc (suc (suc (suc zero)))))) s h = from-6 (h .0) s (h .1 .0) (h .1 .1)
-from-any (suc (suc (suc (suc (suc (suc (suc n))))))) s h = absurd h
+from-any (suc (suc (suc (suc (suc (suc (suc zero))))))) s h = from-7 (h .0) s (h .1 .0) (h .1 .1)
+from-any (suc (suc (suc (suc (suc (suc (suc (suc n)))))))) s h = absurd h
 
 -- READING ANSWERS A NUMBER EXACTLY WHEN ITS CONDITION HOLDS, for every number and all bytes
 pub read-given : (n : ℕ) (s : List ℕ) → (readOf s .number ≡ n) ↔ Reads n s
@@ -159,3 +173,6 @@ read-given-5 = read-given 5
 
 pub read-given-6 : (s : List ℕ) → (readOf s .number ≡ 6) ↔ Reads6 s
 read-given-6 = read-given 6
+
+pub read-given-7 : (s : List ℕ) → (readOf s .number ≡ 7) ↔ Reads7 s
+read-given-7 = read-given 7

@@ -1,11 +1,12 @@
 -- A test says a fact: it holds exactly when the fact does. Tests are put together as the facts are.
 use Prim.Native.Nat.{ℕ, _<_, _≤_}
 use mathlib.Core.Path.{_≡_, refl}
-use mathlib.Core.Bool.{Bool, true, false, _&&_, _||_}
+use mathlib.Core.Bool.{Bool, true, false, not, _&&_, _||_}
 use mathlib.Core.Logic.{_⊎_, inl, inr, ⊎-elim, _↔_}
 use native.Mathlib.Omega.{arith}
 use lib.Dec.{ltb, leb, eqb}
-use borrow.Author.Tests.{ltb-true, leb-true, eqb-true, lt-ltb, le-leb, eq-eqb}
+use borrow.Author.Tests.{ltb-true, leb-true, eqb-true, lt-ltb, le-leb, eq-eqb, not-true}
+use Rattle.terms.specs.Cases.{clash}
 
 abbrev pub Says : Bool → Type 0 → Type 0
 Says b P = (b ≡ true) ↔ P
@@ -26,6 +27,10 @@ and-both false b h = let z : _≡_ {A = ℕ} 0 1 = cc in absurd (omega arith)
 and-made : (a b : Bool) → a ≡ true → b ≡ true → (a && b) ≡ true
 and-made a b p q = rw (p, q)
 
+not-made : (a : Bool) → (a ≡ true → ⊥) → not a ≡ true
+not-made true n = absurd (n refl)
+not-made false n = refl
+
 or-either : (a b : Bool) → (a || b) ≡ true → (a ≡ true) ⊎ (b ≡ true)
 or-either true b h = inl refl
 or-either false b h = inr h
@@ -36,6 +41,10 @@ or-left a b p = rw p
 or-right : (a b : Bool) → b ≡ true → (a || b) ≡ true
 or-right true b q = refl
 or-right false b q = q
+
+-- the test fails exactly when the fact does
+pub says-not : {a : Bool} {P : Type 0} → Says a P → Says (not a) (P → ⊥)
+says-not {a} {P} p = (λ (h : not a ≡ true) (x : P). clash (p .1 x) (not-true a h), λ (n : P → ⊥). not-made a (λ (h : a ≡ true). n (p .0 h)))
 
 module _ {a b : Bool} {P Q : Type 0} where
   pub says-and : Says a P → Says b Q → Says (a && b) (P × Q)
