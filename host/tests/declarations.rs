@@ -1,9 +1,8 @@
 //! The declarations: the header, the Rust wrapper and the library say the same as the proved crates' sources, and a C program that calls
 //! every function gets the wrapper's answers.
 
-mod made;
-
-use made::{about, Dice, Ticks, ALL};
+use oracle::cases::NUMBERS;
+use oracle::made::{self, about, Dice, Ticks};
 use rietknoest_host as host;
 use rietknoest_host::{ChannelNumber, Fed, Ledger, Refusal, SessionNumber, Stream, TickNumber};
 use std::collections::{BTreeMap, BTreeSet};
@@ -441,7 +440,7 @@ fn ledgers(s: &mut Script, d: &mut Dice) {
     }
     for _ in 0..12 {
         let words = ledger.to_words();
-        let other = d.next() as u16;
+        let other = d.draw() as u16;
         let own = words[0] as u16;
         let channel = d.of(&[own, own, own, own, other]);
         let (near, edge) = (words[1].wrapping_add(d.below(262)), d.edge());
@@ -627,10 +626,12 @@ fn c_gets_the_answers_that_rust_gets() {
         captures(&mut s, d);
         streams(&mut s, d);
     }
-    for (call, numbers) in ALL {
+    // spans have lines of their own, and `damaged` is no call
+    let aside = ["private", "damaged"];
+    for (call, numbers) in NUMBERS {
         for n in numbers {
             let given = s.given.contains(&(call, *n));
-            assert!(given || call.contains(' '), "{call} never gave {n}");
+            assert!(given || aside.contains(&call), "{call} never gave {n}");
         }
     }
     let program = compiled("cc", "-std=c11", "host/tests/calls.c");

@@ -28,11 +28,17 @@ pub struct Ledger {
     pub channel: Channel,
     pub floor: Tick,
     pub top: Tick,
-    /// Place i is bit i % 64, low bit first, of word i / 64, and stands for
-    /// floor + 1 + i (0.9).
-    pub map: [u64; 4],
+    /// Whether floor + 1, floor + 2 .. floor + 256 are held.
+    pub held: Places,
     pub pending: Pending,
 }
+
+/// One place for each number from floor + 1 to floor + 256, in this order.
+pub type Places = [bool; PLACES as usize];
+
+/// A ledger as nine numbers (docs/STATES.md): channel, floor, top, the four
+/// words of the map, first and last number of the pending request.
+pub type Words = [u64; 9];
 
 /// A run of numbers from the first to the last.
 #[derive(Clone, Copy, Debug, PartialEq, Eq)]
@@ -41,22 +47,23 @@ pub struct Range {
     pub last: Tick,
 }
 
-/// The map as its 256 places.
-fn places(map: [u64; 4]) -> Vec<bool> {
-    (0..PLACES)
-        .map(|i| (map[(i / 64) as usize] >> (i % 64)) % 2 == 1)
-        .collect()
-}
-
-/// The places as the map.
-fn words(places: &[bool]) -> [u64; 4] {
-    let mut map = [0u64; 4];
-    for (i, held) in places.iter().enumerate() {
-        if *held {
-            map[i / 64] |= 1 << (i % 64);
-        }
+/// The places as the four words of a map. Place i is bit i % 64, low bit first,
+/// of word i / 64, and stands for floor + 1 + i (0.9).
+pub fn map_of(held: &Places) -> [u64; 4] {
+    let mut map = [0; 4];
+    for (i, held) in held.iter().enumerate() {
+        map[i / 64] |= u64::from(*held) << (i % 64);
     }
     map
+}
+
+/// The places of such words.
+pub fn places_of(map: [u64; 4]) -> Places {
+    let mut held = [false; PLACES as usize];
+    for (i, held) in held.iter_mut().enumerate() {
+        *held = (map[i / 64] >> (i % 64)) % 2 == 1;
+    }
+    held
 }
 
 impl Ledger {
@@ -66,7 +73,7 @@ impl Ledger {
             channel,
             floor: Tick(0),
             top: Tick(0),
-            map: [0; 4],
+            held: [false; PLACES as usize],
             pending: Pending::Nothing,
         }
     }
@@ -80,6 +87,39 @@ impl Ledger {
         (Ledger::fresh(channel), Ok(()))
     }
 
+    /// The ledger in nine words: "0 and 0 where nothing is pending".
+    pub fn words(self) -> Words {
+        let (first, last) = match self.pending {
+            Pending::Nothing => (0, 0),
+            Pending::Asked { first, last } => (first.0, last.0),
+        };
+        let map = map_of(&self.held);
+        let mut words = [0; 9];
+        words[..3].copy_from_slice(&[u64::from(self.channel.0), self.floor.0, self.top.0]);
+        words[3..7].copy_from_slice(&map);
+        words[7..].copy_from_slice(&[first, last]);
+        words
+    }
+
+    /// The ledger that nine words stand for. "A channel above two bytes stands
+    /// for 65,535, which breaks" the rules.
+    pub fn of_words(w: Words) -> Ledger {
+        let pending = match (w[7], w[8]) {
+            (0, 0) => Pending::Nothing,
+            (first, last) => Pending::Asked {
+                first: Tick(first),
+                last: Tick(last),
+            },
+        };
+        Ledger {
+            channel: Channel(u16::try_from(w[0]).unwrap_or(u16::MAX)),
+            floor: Tick(w[1]),
+            top: Tick(w[2]),
+            held: places_of([w[3], w[4], w[5], w[6]]),
+            pending,
+        }
+    }
+
     /// The state rules.
     pub fn sound(self) -> bool {
         // "channel at most 9,999; floor not above top, top at most 18 digits"
@@ -87,7 +127,7 @@ impl Ledger {
             return false;
         }
         // "floor + 1 and all above top not held"
-        for (i, held) in places(self.map).iter().enumerate() {
+        for (i, held) in self.held.iter().enumerate() {
             let n = self.floor.0 + 1 + i as u64;
             if *held && (i == 0 || n > self.top.0) {
                 return false;
@@ -122,7 +162,7 @@ impl Ledger {
     /// or held.
     fn received(self, n: u64) -> bool {
         n <= self.floor.0
-            || (n - self.floor.0 <= PLACES && places(self.map)[(n - self.floor.0 - 1) as usize])
+            || (n - self.floor.0 <= PLACES && self.held[(n - self.floor.0 - 1) as usize])
     }
 
     /// "Tick: marked received; the floor moves to just below the first number
@@ -147,13 +187,13 @@ impl Ledger {
         if n > self.floor.0 + PLACES {
             return (Ledger { top, ..self }, Err(No::Far));
         }
-        let mut held = places(self.map);
+        let mut held = self.held;
         held[(n - self.floor.0 - 1) as usize] = true;
         // The floor passes the leading run of received numbers; the places
         // behind it move down and become free again.
         let run = held.iter().take_while(|h| **h).count();
-        held.drain(..run);
-        held.resize(PLACES as usize, false);
+        held[..run].fill(false);
+        held.rotate_left(run);
         let floor = Tick(self.floor.0 + run as u64);
         let passed = if run == 0 {
             None
@@ -167,7 +207,7 @@ impl Ledger {
             Ledger {
                 floor,
                 top,
-                map: words(&held),
+                held,
                 ..self
             },
             Ok(passed),
@@ -255,7 +295,7 @@ impl Ledger {
         if !self.sound() {
             return (self, Err(No::State));
         }
-        let held = places(self.map).iter().filter(|h| **h).count() as u64;
+        let held = self.held.iter().filter(|h| **h).count() as u64;
         (self, Ok(self.top.0 - self.floor.0 - held))
     }
 
@@ -264,9 +304,6 @@ impl Ledger {
         if !self.sound() {
             return (self, Err(No::State));
         }
-        (
-            self,
-            Ok(places(self.map).iter().filter(|h| **h).count() as u64),
-        )
+        (self, Ok(self.held.iter().filter(|h| **h).count() as u64))
     }
 }

@@ -1,5 +1,5 @@
 //! The second, independent program: document 01 written down plainly, and CR 1
-//! of document 02.
+//! of document 02; and the cases that it and the library answer (`cases`).
 //!
 //! Nothing here was taken from the proved crates. Each module follows the
 //! section of document 01 that it is named after, and quotes its rules; what
@@ -7,15 +7,18 @@
 //! 1.1 to 1.6), cited by number.
 
 pub mod answer;
+pub mod answers;
 pub mod bytes;
+pub mod cases;
+pub mod clean;
 pub mod entries;
 pub mod frame;
 pub mod ledger;
 pub mod listing;
+pub mod made;
 pub mod numbers;
 pub mod record;
 pub mod rules;
 pub mod scrub;
 pub mod stream;
-pub mod vectors;
 pub mod walk;

@@ -2,17 +2,16 @@ use std::io::{self, Read, Write};
 use std::process::ExitCode;
 
 const USAGE: &str = "usage: oracle list < CAPTURE   prints the capture's listing
-       oracle vectors          prints the vectors of docs/VECTORS.md
-       oracle inputs           the vectors, with the bytes that each case uses
-       oracle rows             the rows of docs/VECTORS.md as plain numbers";
+       oracle cases            prints the cases made by hand, and the answers";
 
 fn main() -> ExitCode {
     let command = std::env::args().nth(1).unwrap_or_default();
     let done = match command.as_str() {
         "list" => list(),
-        "vectors" => print(&oracle::vectors::vectors(false)),
-        "inputs" => print(&oracle::vectors::vectors(true)),
-        "rows" => print(&oracle::vectors::rows()),
+        "cases" => {
+            let text = oracle::cases::by_hand(&oracle::answers::Oracle);
+            print(text.as_bytes())
+        }
         _ => {
             eprintln!("{USAGE}");
             return ExitCode::from(2);

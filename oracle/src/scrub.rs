@@ -5,6 +5,40 @@ use crate::bytes::{put, sum};
 use crate::frame::{read, CHECK_SUM, HEADER};
 use crate::rules::Kind;
 
+/// A private part of a body: where it starts, its length, and the byte that
+/// replaces each of its bytes.
+#[derive(Clone, Copy, Debug, PartialEq, Eq)]
+pub struct Span {
+    pub place: u64,
+    pub len: u64,
+    pub fill: u8,
+}
+
+/// A part painted with spaces.
+fn text(place: usize, len: usize) -> Span {
+    Span {
+        place: place as u64,
+        len: len as u64,
+        fill: 0x20,
+    }
+}
+
+/// The private parts of a body.
+pub fn private(kind: Kind, body: &[u8]) -> Vec<Span> {
+    match kind {
+        // "both CompIDs of S001"
+        Kind::S001 => vec![text(0, 32), text(32, 32)],
+        // "Text of S002"
+        Kind::S002 => vec![text(4, 256)],
+        // "RejectText of P002"
+        Kind::P002 => vec![text(20, 32)],
+        // "everything after the 45 fixed bytes of an M201 body becomes spaces"
+        Kind::M201 if body.len() > 45 => vec![text(45, body.len() - 45)],
+        // M101, M102, S003 and P001 have nothing private (0.19).
+        Kind::M201 | Kind::M101 | Kind::M102 | Kind::S003 | Kind::P001 => vec![],
+    }
+}
+
 /// "It reads the frame at the front of a lent buffer; a refusal is passed on.
 /// Otherwise, in that buffer, spaces (0x20) replace" the private fields, and
 /// "CheckSum is set anew". Answers the frame's length. The buffer may be longer
@@ -13,20 +47,11 @@ pub fn scrub(buffer: &mut [u8]) -> Result<usize, No> {
     let message = read(buffer)?;
     let length = message.body.len();
     let kind = Kind::of(message.msg_type).expect("a frame that reads has a type of the table");
-    let private = match kind {
-        // "both CompIDs of S001"
-        Kind::S001 => 0..64,
-        // "Text of S002"
-        Kind::S002 => 4..260,
-        // "RejectText of P002"
-        Kind::P002 => 20..52,
-        // "everything after the 45 fixed bytes of an M201 body becomes spaces"
-        Kind::M201 => 45..length,
-        // M101, M102, S003 and P001 have nothing private (0.19).
-        Kind::M101 | Kind::M102 | Kind::S003 | Kind::P001 => 0..0,
-    };
     let end = HEADER + length;
-    buffer[HEADER..end][private].fill(0x20);
+    for span in private(kind, &message.body) {
+        let place = HEADER + span.place as usize;
+        buffer[place..place + span.len as usize].fill(span.fill);
+    }
     let check_sum = u64::from(sum(&buffer[..end]));
     put(buffer, end, CHECK_SUM, check_sum);
     Ok(end + CHECK_SUM)

@@ -23,7 +23,7 @@ pub struct Walked {
 /// The channel and the tick number of a frame that reads: "The tick number is
 /// that of M201, ApplLastSeqNum for P001, ApplBegSeqNum for P002, else 0.
 /// Channel is 0 for types without one."
-fn numbers_of(message: &Message) -> (Channel, Tick) {
+pub fn numbers_of(message: &Message) -> (Channel, Tick) {
     let body = &message.body;
     let field = |at: usize, width: usize| bytes::number(&body[at..at + width]);
     match Kind::of(message.msg_type) {

@@ -47,8 +47,9 @@ fn list_takes_65536_bytes_and_no_more() {
 }
 
 #[test]
-fn vectors_prints_the_vectors() {
-    assert_eq!(run("vectors", &[]), (true, oracle::vectors::vectors(false)));
+fn cases_prints_the_cases_made_by_hand() {
+    let text = oracle::cases::by_hand(&oracle::answers::Oracle);
+    assert_eq!(run("cases", &[]), (true, text.into_bytes()));
 }
 
 #[test]

@@ -5,7 +5,7 @@ use crate::samples::*;
 /// Reading and writing must answer alike: 0 or 6.
 fn judged(msg_type: &[u8; 4], body: &[u8], sound: bool) {
     let number = if sound { 0 } else { 6 };
-    assert_eq!(reads(&frame(msg_type, body)), number, "read {body:?}");
+    assert_eq!(reads(&framed(msg_type, body)), number, "read {body:?}");
     assert_eq!(
         writes(&message(msg_type, body), 8_192),
         number,
@@ -181,14 +181,14 @@ fn m102_whole_entries() {
 
 #[test]
 fn m201_security_type_and_exec_type() {
-    only(b"M201", &m201(42, 53), 0, &[13]);
-    only(b"M201", &m201(42, 53), 28, b"04F");
+    only(b"M201", &trade(42), 0, &[13]);
+    only(b"M201", &trade(42), 28, b"04F");
 }
 
 #[test]
 fn m201_widths() {
     for tail in [0, 53, 139] {
-        let body = m201(42, tail);
+        let body = m201(42, b"MD217", b'F', tail);
         bounded(b"M201", &body, 1, 2, 4, 0);
         bounded(b"M201", &body, 3, 8, 18, 1);
         bounded(b"M201", &body, 24, 4, 9, 0);
@@ -210,7 +210,7 @@ fn m101_is_not_judged() {
 fn header_numbers_are_carried_without_judgement() {
     for (at, width) in [(4, 8), (12, 8)] {
         for value in [0, 1, 999_999_999_999_999_999, u64::MAX] {
-            let mut bytes = frame(b"P001", &p001());
+            let mut bytes = framed(b"P001", &p001());
             oracle::bytes::put(&mut bytes, at, width, value);
             let end = bytes.len() - 4;
             let check = u64::from(oracle::bytes::sum(&bytes[..end]));

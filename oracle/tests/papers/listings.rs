@@ -22,7 +22,7 @@ fn text(capture: &[u8]) -> String {
 
 /// A tick's frame, with the session number that the samples carry.
 fn tick(n: u64) -> Vec<u8> {
-    frame(b"M201", &m201(n, 53))
+    framed(b"M201", &trade(n))
 }
 
 #[test]
@@ -72,7 +72,7 @@ fn captures_of_65536_bytes_of_every_kind() {
 
     let mut headers = Vec::new();
     while headers.len() < 65_536 {
-        let mut header = frame(b"M101", &[])[..24].to_vec();
+        let mut header = framed(b"M101", &[])[..24].to_vec();
         put(&mut header, 20, 4, 8_164);
         headers.extend(header);
     }
@@ -83,14 +83,14 @@ fn captures_of_65536_bytes_of_every_kind() {
 #[test]
 fn the_walk_offers_ticks_and_announcements_only() {
     let mut capture = tick(2);
-    capture.extend(frame(b"P002", &p002()));
+    capture.extend(framed(b"P002", &p002()));
     capture.extend(tick(1));
     capture.extend(tick(2));
     capture.extend(tick(400));
-    capture.extend(frame(b"M201", &with(&m201(9, 53), 1, 2, 101)));
-    capture.extend(frame(b"P001", &with(&p001(), 1, 2, 99)));
-    capture.extend(frame(b"P001", &with(&p001(), 3, 8, 500)));
-    capture.extend(frame(b"S001", &s001()));
+    capture.extend(framed(b"M201", &with(&trade(9), 1, 2, 101)));
+    capture.extend(framed(b"P001", &with(&p001(), 1, 2, 99)));
+    capture.extend(framed(b"P001", &with(&p001(), 3, 8, 500)));
+    capture.extend(framed(b"S001", &s001()));
     assert_eq!(
         text(&capture),
         "0 M201 0 7 100 2 0 2\n\
@@ -110,10 +110,10 @@ fn the_walk_offers_ticks_and_announcements_only() {
 fn each_refusal_is_recorded_blank() {
     let mut sum = tick(1);
     sum[30] ^= 1;
-    let field = frame(b"P001", &with(&p001(), 0, 1, 12));
-    let length = frame(b"S003", &[0]);
+    let field = framed(b"P001", &with(&p001(), 0, 1, 12));
+    let length = framed(b"S003", &[0]);
     let long = {
-        let mut bytes = frame(b"M101", &[]);
+        let mut bytes = framed(b"M101", &[]);
         put(&mut bytes, 20, 4, 8_165);
         bytes
     };
@@ -141,7 +141,7 @@ fn the_search_goes_on_from_the_next_byte() {
     let mut body = vec![1, 2, 3];
     body.extend(a());
     body.extend(b());
-    let mut outer = frame(b"M101", &body);
+    let mut outer = framed(b"M101", &body);
     assert_eq!(records(&outer).0.len(), 1);
     outer[5] ^= 0x40;
     let places: Vec<u64> = records(&outer).0.iter().map(|r| r.place).collect();

@@ -58,7 +58,7 @@ fn example_6_a_with_body_length_1() {
 #[test]
 fn example_7_m101_at_the_limit() {
     let header = |length| {
-        let mut bytes = frame(b"M101", &[])[..24].to_vec();
+        let mut bytes = framed(b"M101", &[])[..24].to_vec();
         oracle::bytes::put(&mut bytes, 20, 4, length);
         bytes
     };
@@ -106,17 +106,17 @@ fn example_12_broken_off_before_the_first_held() {
 
 #[test]
 fn by_program_425_and_426_long_entries() {
-    let most = frame(b"M102", &m102(13, b"MD210", 425));
+    let most = framed(b"M102", &m102(13, b"MD210", 425));
     assert_eq!(most.len(), 28 + 8_148);
     assert_eq!(reads(&most), 0);
     let over = m102(13, b"MD210", 426);
     assert_eq!(over.len(), 8_167);
-    assert_eq!(reads(&frame(b"M102", &over)), 3);
+    assert_eq!(reads(&framed(b"M102", &over)), 3);
     assert_eq!(writes(&message(b"M102", &over), 9_000), 3);
 }
 
 #[test]
 fn by_program_resend_5_to_4_and_5_to_0() {
-    assert_eq!(reads(&frame(b"P002", &with(&p002(), 11, 8, 4))), 6);
-    assert_eq!(reads(&frame(b"P002", &with(&p002(), 11, 8, 0))), 0);
+    assert_eq!(reads(&framed(b"P002", &with(&p002(), 11, 8, 4))), 6);
+    assert_eq!(reads(&framed(b"P002", &with(&p002(), 11, 8, 0))), 0);
 }

@@ -3,7 +3,7 @@
 use crate::samples::*;
 use oracle::answer::No;
 use oracle::frame::{read, search, write, Message};
-use oracle::ledger::{Ledger, Pending};
+use oracle::ledger::{places_of, Ledger, Pending};
 use oracle::numbers::{Channel, Session, Tick, MOST};
 use oracle::record::Record;
 use oracle::scrub::scrub;
@@ -41,7 +41,12 @@ impl Dice {
             7 => (b"M102", m102(1, b"MD001", self.roll(5) as u16)),
             _ => (
                 b"M201",
-                m201(1 + self.roll(40), [0, 53, 139, 7][self.0 as usize % 4]),
+                m201(
+                    1 + self.roll(40),
+                    b"MD217",
+                    b'F',
+                    [0, 53, 139, 7][self.0 as usize % 4],
+                ),
             ),
         };
         if self.roll(3) == 0 && !body.is_empty() {
@@ -56,7 +61,7 @@ impl Dice {
         let mut capture = Vec::new();
         for _ in 0..self.roll(12) {
             let (msg_type, body) = self.body();
-            let mut piece = frame(msg_type, &body);
+            let mut piece = framed(msg_type, &body);
             match self.roll(6) {
                 0 => {
                     let at = self.roll(piece.len() as u64) as usize;
@@ -285,12 +290,12 @@ fn no_call_breaks_a_sound_state_or_mends_a_broken_one() {
         let floor = near + dice.roll(3);
         let top = floor + dice.roll(300);
         let word = |d: &mut Dice| if d.roll(2) == 0 { 0 } else { 1 << d.roll(64) };
-        let map = [
+        let held = places_of([
             word(&mut dice),
             word(&mut dice),
             word(&mut dice),
             word(&mut dice),
-        ];
+        ]);
         let pending = if dice.roll(2) == 0 {
             Pending::Nothing
         } else {
@@ -305,7 +310,7 @@ fn no_call_breaks_a_sound_state_or_mends_a_broken_one() {
             channel,
             floor: Tick(floor),
             top: Tick(top),
-            map,
+            held,
             pending,
         };
         seen[usize::from(l.sound())] += 1;

@@ -5,7 +5,7 @@ use oracle::answer::No;
 use oracle::scrub::scrub;
 
 fn scrubbed(msg_type: &[u8; 4], body: &[u8]) -> Vec<u8> {
-    let mut buffer = frame(msg_type, body);
+    let mut buffer = framed(msg_type, body);
     let length = buffer.len();
     buffer.extend([0xA5; 5]);
     assert_eq!(scrub(&mut buffer), Ok(length));
@@ -22,29 +22,32 @@ fn scrubbed(msg_type: &[u8; 4], body: &[u8]) -> Vec<u8> {
 fn both_comp_ids_of_s001() {
     let mut body = s001();
     body[..64].fill(b' ');
-    assert_eq!(scrubbed(b"S001", &s001()), frame(b"S001", &body));
+    assert_eq!(scrubbed(b"S001", &s001()), framed(b"S001", &body));
 }
 
 #[test]
 fn text_of_s002() {
     let mut body = s002();
     body[4..].fill(b' ');
-    assert_eq!(scrubbed(b"S002", &s002()), frame(b"S002", &body));
+    assert_eq!(scrubbed(b"S002", &s002()), framed(b"S002", &body));
 }
 
 #[test]
 fn reject_text_of_p002() {
     let mut body = p002();
     body[20..].fill(b' ');
-    assert_eq!(scrubbed(b"P002", &p002()), frame(b"P002", &body));
+    assert_eq!(scrubbed(b"P002", &p002()), framed(b"P002", &body));
 }
 
 #[test]
 fn tail_of_m201() {
     for tail in [0, 1, 53, 139, 8_164 - 45] {
-        let mut body = m201(42, tail);
+        let mut body = m201(42, b"MD217", b'F', tail);
         body[45..].fill(b' ');
-        assert_eq!(scrubbed(b"M201", &m201(42, tail)), frame(b"M201", &body));
+        assert_eq!(
+            scrubbed(b"M201", &m201(42, b"MD217", b'F', tail)),
+            framed(b"M201", &body)
+        );
     }
 }
 
@@ -57,22 +60,22 @@ fn nothing_private_elsewhere() {
         (b"M102", m102(13, b"MD210", 4)),
         (b"M102", m102(1, b"MD001", 4)),
     ] {
-        assert_eq!(scrubbed(msg_type, &body), frame(msg_type, &body));
+        assert_eq!(scrubbed(msg_type, &body), framed(msg_type, &body));
     }
 }
 
 #[test]
 fn a_refusal_is_passed_on_and_changes_nothing() {
-    let mut sum = frame(b"S002", &s002());
+    let mut sum = framed(b"S002", &s002());
     let last = sum.len() - 1;
     sum[last] ^= 1;
     let cases = [
-        (frame(b"S001", &s001())[..60].to_vec(), No::More),
-        (frame(b"XXXX", &s001()), No::Type),
-        (frame(b"S001", &[0; 8_165]), No::Long),
-        (frame(b"S001", &[0; 73]), No::Length),
+        (framed(b"S001", &s001())[..60].to_vec(), No::More),
+        (framed(b"XXXX", &s001()), No::Type),
+        (framed(b"S001", &[0; 8_165]), No::Long),
+        (framed(b"S001", &[0; 73]), No::Length),
         (sum, No::Sum),
-        (frame(b"S001", &with(&s001(), 64, 2, 0)), No::Field),
+        (framed(b"S001", &with(&s001(), 64, 2, 0)), No::Field),
     ];
     for (bytes, no) in cases {
         let mut buffer = bytes.clone();

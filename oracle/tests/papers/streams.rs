@@ -103,14 +103,14 @@ fn same_as_closed(cuts: &[&[u8]]) {
 
 /// Captures with stray bytes, a damaged frame around others, a cut one.
 fn captures() -> Vec<Vec<u8>> {
-    let tick = |n| frame(b"M201", &m201(n, 53));
+    let tick = |n| framed(b"M201", &trade(n));
     let example = [a(), vec![0xFF], b()].concat();
-    let mut broken = frame(b"M101", &example);
+    let mut broken = framed(b"M101", &example);
     broken[5] ^= 0x40;
     let stray = [vec![0xFF], tick(2), b"S003".to_vec(), tick(1)].concat();
     let cut = [tick(3), a()[..27].to_vec()].concat();
     let long = {
-        let whole = frame(b"M101", &[0x20; 8_164]);
+        let whole = framed(b"M101", &[0x20; 8_164]);
         [&whole[..24], &a(), &whole[..24], &tick(1)].concat()
     };
     vec![vec![], vec![0xFF], example, broken, stray, cut, long]
@@ -156,7 +156,7 @@ fn cuttings_that_are_generated() {
 fn there_is_no_limit_of_65536_bytes() {
     let mut capture = Vec::new();
     while capture.len() <= 70_000 {
-        capture.extend(frame(b"S002", &s002()));
+        capture.extend(framed(b"S002", &s002()));
         capture.push(0);
     }
     same_as_closed(&capture.chunks(9_000).collect::<Vec<_>>());
@@ -190,8 +190,8 @@ fn the_search_waits_too() {
     // The outer frame's sum is wrong, and the header within it promises more
     // bytes than there are: the search waits there, and the S003 behind it is
     // found when the stream is closed.
-    let whole = frame(b"M101", &[0x20; 8_164]);
-    let mut outer = frame(b"M101", &[&whole[..24], &a()].concat());
+    let whole = framed(b"M101", &[0x20; 8_164]);
+    let mut outer = framed(b"M101", &[&whole[..24], &a()].concat());
     let end = outer.len() as u64;
     outer[end as usize - 1] ^= 1;
     let (s, made) = feed(&opened(), &outer);
@@ -206,7 +206,7 @@ fn the_search_waits_too() {
 
 #[test]
 fn the_most_that_waits() {
-    let longest = frame(b"M101", &[0x20; 8_164]);
+    let longest = framed(b"M101", &[0x20; 8_164]);
     let (s, made) = feed(&opened(), &longest[..KEPT]);
     assert_eq!((s.waiting, made.len()), (8_191, 0));
     let (s, made) = feed(&s, &longest[KEPT..]);

@@ -1,28 +1,148 @@
-//! Made-up inputs: frames of every type, sound and spoilt, and captures of them. The same seed makes the same inputs.
+//! Made-up inputs: samples of every type, and the generator of frames, sound and
+//! spoilt, of captures and of states. The same seed makes the same inputs. All
+//! data are made up.
 
-#![allow(dead_code)] // each test uses a part
+use crate::bytes::{number, put, sum};
+use crate::ledger::{map_of, Places, Words, PLACES};
+use crate::numbers::MOST;
+use crate::stream::KEPT;
 
-/// Every number that each call can give: a run that gives fewer has tried too little.
-pub const ALL: [(&str, &[u32]); 18] = [
-    ("read", &[0, 1, 2, 3, 4, 5, 6]),
-    ("write", &[0, 2, 3, 4, 6, 8]),
-    ("search", &[0, 9]),
-    ("scrub", &[0, 1, 2, 3, 4, 5, 6]),
-    ("entries", &[0, 3, 4, 6]),
-    ("entry", &[0, 20]),
-    ("open", &[0, 10]),
-    ("tick", &[0, 10, 11, 12, 13, 18]),
-    ("announce", &[0, 10, 13, 18]),
-    ("request", &[0, 13, 14, 15, 18]),
-    ("reply", &[0, 13, 16, 17, 18]),
-    ("told", &[0, 13]),
-    ("walk", &[0, 8]),
-    ("listing", &[0, 8, 13]),
-    ("clean", &[0, 8]),
-    ("frames after damage", &[0]),
-    ("feed", &[0, 8, 13, 19, 29]),
-    ("close", &[0, 8, 13, 19]),
-];
+// SAMPLES
+
+/// The time of the samples.
+pub const TIME: u64 = 20_260_121_093_000_000;
+
+/// A of document 01.
+pub fn a() -> Vec<u8> {
+    hex("53303033 0047FA7908DACB40 0000000000000001 00000000 0000008E")
+}
+
+/// B of document 01.
+pub fn b() -> Vec<u8> {
+    hex("50303031 0047FA7908DACB40 0000000000000002 0000000C 0D 0064 0000000000000003 4E 00000058")
+}
+
+pub fn hex(text: &str) -> Vec<u8> {
+    let digits: Vec<u32> = text.chars().filter_map(|c| c.to_digit(16)).collect();
+    digits.chunks(2).map(|d| (d[0] * 16 + d[1]) as u8).collect()
+}
+
+/// Bytes laid field after field: (width, value).
+fn fields(list: &[(usize, u64)]) -> Vec<u8> {
+    let mut bytes = Vec::new();
+    for (width, value) in list {
+        let at = bytes.len();
+        bytes.resize(at + width, 0);
+        put(&mut bytes, at, *width, *value);
+    }
+    bytes
+}
+
+pub fn s001() -> Vec<u8> {
+    let mut body = vec![b'S'; 32];
+    body.extend(vec![b'T'; 32]);
+    body.extend([0, 30]);
+    body.extend(b"0.62    ");
+    body
+}
+
+pub fn s002() -> Vec<u8> {
+    let mut body = vec![0, 0, 0, 0];
+    body.extend(vec![b'X'; 256]);
+    body
+}
+
+/// The last number 3, announced on channel 100.
+pub fn p001() -> Vec<u8> {
+    fields(&[(1, 13), (2, 100), (8, 3), (1, u64::from(b'N'))])
+}
+
+/// A request from 5 to 9.
+pub fn p002() -> Vec<u8> {
+    let mut body = fields(&[(2, 100), (1, 1), (8, 5), (8, 9), (1, 0)]);
+    body.extend(vec![b'R'; 32]);
+    body
+}
+
+pub fn m101() -> Vec<u8> {
+    let mut body = vec![13, 3];
+    body.extend(b"T 000   ");
+    body.extend(fields(&[(4, 500)]));
+    body
+}
+
+/// An M102 of the pair given, with that many entries, all sound.
+pub fn m102(security_type: u8, stream: &[u8; 5], entries: u16) -> Vec<u8> {
+    let mut body = fields(&[
+        (1, u64::from(security_type)),
+        (1, 3),
+        (4, 20_260_121),
+        (4, 93_000_000),
+        (5, number(stream)),
+    ]);
+    body.extend(b"99900001SAMPLE  ");
+    body.extend(fields(&[
+        (8, 10_012_345),
+        (8, 1_000),
+        (8, 10),
+        (8, 1_001_234),
+    ]));
+    body.extend(b" 1      ");
+    body.extend(fields(&[(2, u64::from(entries))]));
+    for i in 0..entries {
+        body.extend(b"2 ");
+        body.extend(fields(&[(8, 10_012_300 + u64::from(i))]));
+        if stream != b"MD001" {
+            body.extend(fields(&[(8, 500), (1, 1)]));
+        }
+    }
+    body
+}
+
+/// A tick on channel 100, of a stream, an ExecType and a tail of that length.
+pub fn m201(tick: u64, stream: &[u8; 5], exec: u8, tail: usize) -> Vec<u8> {
+    let mut body = fields(&[(1, 13), (2, 100), (8, tick), (5, number(stream))]);
+    body.extend(b"99900001");
+    body.extend(fields(&[
+        (4, 93_000_123),
+        (1, u64::from(exec)),
+        (8, 10_012_345),
+        (8, 5_000),
+    ]));
+    body.extend((0..tail).map(|i| b'a' + (i % 26) as u8));
+    body
+}
+
+/// A trade on channel 100: stream MD217, ExecType F, a tail of 53 bytes.
+pub fn trade(tick: u64) -> Vec<u8> {
+    m201(tick, b"MD217", b'F', 53)
+}
+
+/// The frame of those bytes, whatever they are, with a sum that fits.
+pub fn framed(msg_type: &[u8; 4], body: &[u8]) -> Vec<u8> {
+    let mut bytes = msg_type.to_vec();
+    bytes.extend(fields(&[(8, TIME), (8, 7), (4, body.len() as u64)]));
+    bytes.extend(body);
+    bytes.extend([0; 4]);
+    mended(bytes)
+}
+
+/// The same bytes with a field set.
+pub fn with(bytes: &[u8], at: usize, width: usize, value: u64) -> Vec<u8> {
+    let mut changed = bytes.to_vec();
+    put(&mut changed, at, width, value);
+    changed
+}
+
+/// The same frame, its last four bytes the sum of all before them.
+pub fn mended(mut frame: Vec<u8>) -> Vec<u8> {
+    let end = frame.len() - 4;
+    let check = u64::from(sum(&frame[..end]));
+    put(&mut frame, end, 4, check);
+    frame
+}
+
+// THE GENERATOR
 
 /// A generator of numbers (splitmix64).
 pub struct Dice(u64);
@@ -31,11 +151,11 @@ impl Dice {
     /// The dice of one case: each case of a run can be made alone.
     pub fn new(seed: u64, case: u64) -> Dice {
         let mut dice = Dice(seed ^ case.wrapping_mul(0xd134_2543_de82_ef95));
-        dice.next();
+        dice.draw();
         dice
     }
 
-    pub fn next(&mut self) -> u64 {
+    pub fn draw(&mut self) -> u64 {
         self.0 = self.0.wrapping_add(0x9e37_79b9_7f4a_7c15);
         let mut z = self.0;
         z = (z ^ (z >> 30)).wrapping_mul(0xbf58_476d_1ce4_e5b9);
@@ -44,7 +164,7 @@ impl Dice {
     }
 
     pub fn below(&mut self, n: u64) -> u64 {
-        self.next() % n
+        self.draw() % n
     }
 
     pub fn len(&mut self, below: usize) -> usize {
@@ -61,7 +181,7 @@ impl Dice {
     }
 
     pub fn bytes(&mut self, n: usize) -> Vec<u8> {
-        (0..n).map(|_| self.next() as u8).collect()
+        (0..n).map(|_| self.draw() as u8).collect()
     }
 
     /// Bytes of few values, such as headers are made of.
@@ -90,7 +210,7 @@ impl Dice {
             4 => power,
             5 => power.wrapping_add(1),
             6 => self.below(512),
-            _ => self.next(),
+            _ => self.draw(),
         }
     }
 }
@@ -112,7 +232,8 @@ fn widths(name: &[u8; 4]) -> &'static [usize] {
     }
 }
 
-fn put(bytes: &mut [u8], value: u64) {
+/// The low bytes of a value, as many as there is place for, at the end of it.
+fn set(bytes: &mut [u8], value: u64) {
     let width = bytes.len().min(8);
     let end = bytes.len();
     bytes[end - width..].copy_from_slice(&value.to_be_bytes()[8 - width..]);
@@ -122,7 +243,7 @@ fn push(body: &mut Vec<u8>, width: usize, value: u64) {
     body.extend_from_slice(&value.to_be_bytes()[8 - width..]);
 }
 
-const DIGITS_18: u64 = 1_000_000_000_000_000_000;
+const DIGITS_18: u64 = MOST + 1;
 
 /// The numbers of a channel's ticks as a capture has them: mostly in order, with gaps, repeats and far ones.
 pub struct Ticks(pub u64);
@@ -276,7 +397,7 @@ pub fn spoil_body(d: &mut Dice, name: &[u8; 4], b: &mut Vec<u8>) {
         1 => b.push(0),
         2 if !b.is_empty() => {
             let at = d.len(b.len());
-            b[at] = d.next() as u8;
+            b[at] = d.draw() as u8;
         }
         _ => {
             let widths = widths(name);
@@ -285,7 +406,7 @@ pub fn spoil_body(d: &mut Dice, name: &[u8; 4], b: &mut Vec<u8>) {
                 let at: usize = widths[..i].iter().sum();
                 if at + widths[i] <= b.len() {
                     let value = d.edge();
-                    put(&mut b[at..at + widths[i]], value);
+                    set(&mut b[at..at + widths[i]], value);
                 }
             }
         }
@@ -299,9 +420,8 @@ pub fn frame(d: &mut Dice, name: &[u8; 4], body: &[u8]) -> Vec<u8> {
     f.extend(d.edge().to_be_bytes());
     f.extend((body.len() as u32).to_be_bytes());
     f.extend(body);
-    let sum = f.iter().fold(0u8, |s, b| s.wrapping_add(*b));
-    f.extend(u32::from(sum).to_be_bytes());
-    f
+    f.extend([0; 4]);
+    mended(f)
 }
 
 /// A frame of any type, its body sound but for one in eight.
@@ -328,10 +448,10 @@ pub fn damage(d: &mut Dice, f: &mut Vec<u8>) {
         0 => f[d.len(n)] ^= 1 << d.below(8),
         1 => f[n - 1] = f[n - 1].wrapping_add(1),
         2 => f[n - 4 + d.len(3)] = 1 + d.below(255) as u8,
-        3 => f[20 + d.len(4)] = d.next() as u8,
+        3 => f[20 + d.len(4)] = d.draw() as u8,
         4 => f[23] = f[23].wrapping_add(d.of(&[1, 255])),
         5 => f[..4].copy_from_slice(&d.of(&TYPES)[..]),
-        6 => f[d.len(4)] = d.next() as u8,
+        6 => f[d.len(4)] = d.draw() as u8,
         7 => f.truncate(d.len(n)),
         _ => {
             f.remove(d.len(n));
@@ -360,7 +480,7 @@ pub fn capture(d: &mut Dice, about: usize, most: usize) -> Vec<u8> {
                     // the beginning of a frame that reaches over what follows
                     f.truncate(24);
                     f[..4].copy_from_slice(b"M101");
-                    put(&mut f[20..24], d.below(8_200));
+                    set(&mut f[20..24], d.below(8_200));
                 }
                 _ => damage(d, &mut f),
             }
@@ -384,7 +504,7 @@ pub fn any_body(d: &mut Dice) -> ([u8; 4], Vec<u8>) {
     }
     match d.below(16) {
         0 => name = *d.of(&TYPES),
-        1 => name[d.len(4)] = d.next() as u8,
+        1 => name[d.len(4)] = d.draw() as u8,
         2 => {
             let long = 8_150 + d.len(30);
             b.resize(long, 0);
@@ -394,31 +514,35 @@ pub fn any_body(d: &mut Dice) -> ([u8; 4], Vec<u8>) {
     (name, b)
 }
 
-/// Words near a sound state: a map with bits in order, floors near the bounds.
-pub fn any_words(d: &mut Dice) -> [u64; 9] {
+/// Words near a sound state: floors near the bounds, numbers held in runs and
+/// here and there, mostly from floor + 2 to the top.
+pub fn any_words(d: &mut Dice) -> Words {
     let floor = match d.below(4) {
         0 => 0,
-        1 => 999_999_999_999_999_999 - d.below(300),
+        1 => MOST - d.below(300),
         2 => d.edge(),
         _ => d.below(1_000),
     };
     let ahead = d.of(&[0, 1, 2, 63, 64, 65, 200, 255, 256, 257, 1_000]);
+    let mut held: Places = [false; PLACES as usize];
+    for run in held.chunks_mut(64) {
+        let often = d.of(&[0, 0, 1, 2, 4, 64]);
+        for place in run {
+            *place = often > 0 && (often == 64 || d.below(4) < often);
+        }
+    }
+    let known = ahead.min(PLACES) as usize;
+    if !d.once_in(10) {
+        held[known..].fill(false);
+    }
+    if !d.once_in(10) {
+        held[0] = false;
+    }
     let mut w = [0; 9];
     w[0] = d.of(&[100, 100, 100, 0, 9_999, 10_000, 65_535, 65_536, u64::MAX]);
     w[1] = floor;
     w[2] = floor.wrapping_add(ahead);
-    for i in 0..4u64 {
-        let mut word = d.of(&[0, u64::MAX, 1]) & d.next() | d.of(&[0, 0, u64::MAX]);
-        // no bit of a number above the top, mostly
-        let left = ahead.saturating_sub(64 * i);
-        if left < 64 && !d.once_in(10) {
-            word &= (1 << left) - 1;
-        }
-        if i == 0 && !d.once_in(10) {
-            word &= !1;
-        }
-        w[3 + i as usize] = word;
-    }
+    w[3..7].copy_from_slice(&map_of(&held));
     if d.once_in(2) {
         w[7] = floor.wrapping_add(1).wrapping_sub(d.below(3));
         w[8] = w[7].wrapping_add(d.of(&[0, 1, 198, 199, 200]));
@@ -443,12 +567,7 @@ pub fn about(d: &mut Dice, n: usize) -> usize {
 }
 
 /// How a stream is made broken, or moved so far that few places are left. A state by its parts: the words, the ledger's, and the store.
-pub fn spoil_stream(
-    d: &mut Dice,
-    words: &mut [u64; 6],
-    ledger: &mut [u64; 9],
-    kept: &mut [u8; 8_191],
-) {
+pub fn spoil_stream(d: &mut Dice, words: &mut [u64; 6], ledger: &mut Words, kept: &mut [u8; KEPT]) {
     let waiting = words[3].min(8_190) as usize;
     match d.below(12) {
         // few places left

@@ -1,0 +1,339 @@
+//! Ledgers, by hand: rows of calls on a fresh ledger or on a state, and long
+//! runs of ticks.
+
+use super::{joined, Run};
+use crate::answers::Answers;
+use crate::ledger::{Ledger, Pending, Words, PLACES};
+use crate::made::Dice;
+use crate::numbers::{Channel, Tick, MOST};
+
+const MAX: u64 = u64::MAX;
+const OVER: u64 = MOST + 1;
+
+/// A call: the channel first.
+#[derive(Clone, Copy)]
+enum Call {
+    Tick(u16, u64),
+    Announce(u16, u64),
+    Request(u16),
+    /// The first number and the status.
+    Reply(u16, u64, u8),
+    Told,
+}
+
+use Call::{Announce, Reply, Request, Told};
+
+fn tick(n: u64) -> Call {
+    Call::Tick(100, n)
+}
+
+fn announce(n: u64) -> Call {
+    Announce(100, n)
+}
+
+fn reply(first: u64, status: u8) -> Call {
+    Reply(100, first, status)
+}
+
+const REQUEST: Call = Request(100);
+
+impl<A: Answers> Run<'_, A> {
+    fn calls(&mut self, ledger: &mut Words, calls: &[Call]) {
+        for call in calls {
+            match *call {
+                Call::Tick(channel, n) => self.tick(ledger, channel, n),
+                Announce(channel, n) => self.announce(ledger, channel, n),
+                Request(channel) => self.request(ledger, channel),
+                Reply(channel, first, status) => self.reply(ledger, channel, first, status),
+                Told => {
+                    self.told(ledger);
+                    0
+                }
+            };
+        }
+    }
+
+    /// Calls on a fresh ledger for channel 100.
+    fn fresh(&mut self, name: &str, calls: &[Call]) {
+        self.case(name);
+        let mut ledger = self.open(100).expect("channel 100 opens");
+        self.calls(&mut ledger, calls);
+    }
+
+    /// Calls on a state.
+    fn on(&mut self, name: &str, state: Words, calls: &[Call]) {
+        self.case(name);
+        self.more(&joined(&state));
+        self.calls(&mut state.clone(), calls);
+    }
+}
+
+/// A state of channel 100: floor, top, the numbers held, and the pending
+/// request, 0 and 0 for none.
+fn state(floor: u64, top: u64, numbers: &[u64], (first, last): (u64, u64)) -> Words {
+    let mut held = [false; PLACES as usize];
+    for n in numbers {
+        held[(n - floor - 1) as usize] = true;
+    }
+    let pending = match (first, last) {
+        (0, 0) => Pending::Nothing,
+        _ => Pending::Asked {
+            first: Tick(first),
+            last: Tick(last),
+        },
+    };
+    let ledger = Ledger {
+        channel: Channel(100),
+        floor: Tick(floor),
+        top: Tick(top),
+        held,
+        pending,
+    };
+    ledger.words()
+}
+
+const NONE: (u64, u64) = (0, 0);
+
+/// The same state for another channel.
+fn of_channel(channel: u64) -> Words {
+    let mut words = state(0, 0, &[], NONE);
+    words[0] = channel;
+    words
+}
+
+fn sound() -> Vec<(&'static str, Words)> {
+    let all: Vec<u64> = (2..=256).collect();
+    vec![
+        ("fresh", state(0, 0, &[], NONE)),
+        ("the last channel", of_channel(9_999)),
+        ("whole", state(5, 5, &[], NONE)),
+        ("all numbers received", state(MOST, MOST, &[], NONE)),
+        ("both ends of the map", state(0, MOST, &[2, 256], NONE)),
+        ("held up to the top", state(10, 20, &[12, 20], NONE)),
+        ("the last place held", state(10, 266, &[15, 266], NONE)),
+        ("pending below the floor", state(10, 20, &[], (1, 5))),
+        ("pending up to the top", state(10, 20, &[], (11, 20))),
+        ("200 pending", state(300, 400, &[], (101, 300))),
+        (
+            "the last number pending",
+            state(MOST - 1, MOST, &[], (MOST, MOST)),
+        ),
+        ("pending and whole", state(20, 20, &[], (11, 20))),
+        ("one number from the whole map", state(0, 256, &all, NONE)),
+        ("a run and a single one", state(10, 20, &[12, 13, 15], NONE)),
+    ]
+}
+
+fn broken() -> Vec<(&'static str, Words)> {
+    vec![
+        ("channel 10000", of_channel(10_000)),
+        ("channel 65535", of_channel(65_535)),
+        ("channel 65636", of_channel(65_636)),
+        ("floor above top", state(6, 5, &[], NONE)),
+        (
+            "floor and top at the last number of all",
+            state(MAX, MAX, &[], NONE),
+        ),
+        ("top of 19 digits", state(0, OVER, &[], NONE)),
+        ("top at the last number of all", state(0, MAX, &[], NONE)),
+        ("floor + 1 held", state(10, 20, &[11], NONE)),
+        ("held just above the top", state(10, 20, &[21], NONE)),
+        ("held far above the top", state(10, 20, &[15, 266], NONE)),
+        (
+            "held above the floor that is the top",
+            state(10, 10, &[12], NONE),
+        ),
+        ("pending from 0", state(10, 20, &[], (0, 5))),
+        ("pending from above floor + 1", state(10, 20, &[], (12, 15))),
+        ("pending backwards", state(10, 20, &[], (5, 4))),
+        ("pending above the top", state(10, 20, &[], (5, 21))),
+        ("201 pending", state(300, 400, &[], (101, 301))),
+        (
+            "pending to the last number of all",
+            state(300, 400, &[], (1, MAX)),
+        ),
+        ("pending above a whole top", state(10, 10, &[], (11, 11))),
+        (
+            "pending above the last top",
+            state(MOST, MOST, &[], (MOST, MAX)),
+        ),
+    ]
+}
+
+pub fn ledgers<A: Answers>(run: &mut Run<A>) {
+    run.case("channels");
+    for channel in [0, 1, 100, 9_999, 10_000, 65_535] {
+        run.open(channel);
+    }
+    examples(run);
+    states(run);
+    orders(run);
+    replies(run);
+    requests(run);
+    passing(run);
+    runs(run);
+}
+
+fn examples<A: Answers>(run: &mut Run<A>) {
+    run.fresh("example 8", &[tick(2), Told, REQUEST, tick(1), Told]);
+    run.fresh("example 9", &[tick(256)]);
+    run.fresh("example 10", &[tick(257), REQUEST]);
+    run.fresh("example 11", &[announce(0), REQUEST]);
+    run.fresh("example 12", &[announce(300), tick(100), REQUEST]);
+    run.fresh(
+        "a resent range is not received until its ticks come",
+        &[
+            announce(3),
+            REQUEST,
+            REQUEST,
+            reply(1, 1),
+            Told,
+            tick(1),
+            tick(3),
+            reply(1, 1),
+            REQUEST,
+            tick(2),
+            reply(2, 2),
+            REQUEST,
+        ],
+    );
+}
+
+fn states<A: Answers>(run: &mut Run<A>) {
+    for (name, state) in sound() {
+        run.on(name, state, &[Told]);
+    }
+    for (name, state) in broken() {
+        // 13 before 18, 10, 17 and 16.
+        let calls = [
+            Told,
+            Call::Tick(101, 0),
+            tick(1),
+            Announce(101, MAX),
+            Request(101),
+            Reply(101, 1, 0),
+        ];
+        run.on(name, state, &calls);
+    }
+}
+
+/// The sound state of that name.
+fn named(name: &str) -> Words {
+    let found = sound().into_iter().find(|(n, _)| *n == name);
+    found.expect("such a state").1
+}
+
+fn orders<A: Answers>(run: &mut Run<A>) {
+    run.on(
+        "orders of a tick",
+        named("held up to the top"),
+        &[
+            Call::Tick(101, 0),
+            Call::Tick(101, OVER),
+            Call::Tick(10_000, 13),
+            Call::Tick(101, 500),
+            tick(0),
+            tick(OVER),
+            tick(MAX),
+            tick(10),
+            tick(12),
+            tick(1),
+            tick(267),
+            tick(266),
+            tick(268),
+            tick(267),
+            tick(MOST),
+            tick(11),
+        ],
+    );
+    run.on(
+        "orders of an announcement",
+        named("pending up to the top"),
+        &[
+            Announce(101, OVER),
+            announce(OVER),
+            announce(MAX),
+            announce(5),
+            announce(20),
+            announce(21),
+            announce(MOST),
+        ],
+    );
+    let both = [Request(101), REQUEST];
+    run.on("14 before 15", named("pending and whole"), &both);
+    run.on("15", named("whole"), &both);
+    run.on(
+        "no number is left",
+        named("all numbers received"),
+        &[REQUEST, tick(MOST), tick(OVER)],
+    );
+}
+
+fn replies<A: Answers>(run: &mut Run<A>) {
+    let pending = named("pending below the floor");
+    for status in [0, 6, 98, 100, 255] {
+        let calls = [Reply(101, 1, status), reply(2, status), reply(1, status)];
+        run.on("18, then 17, then 16", pending, &calls);
+    }
+    run.on("16", pending, &[reply(2, 1), reply(0, 5), reply(MAX, 99)]);
+    for status in [1, 2, 3, 4, 5, 99] {
+        let calls = [reply(1, status), reply(1, status)];
+        run.on(&format!("status {status}"), pending, &calls);
+    }
+    run.on(
+        "the first number granted, wherever the floor stands",
+        named("200 pending"),
+        &[reply(301, 1), reply(101, 1)],
+    );
+}
+
+fn requests<A: Answers>(run: &mut Run<A>) {
+    for (name, state) in sound() {
+        run.on(&format!("a request where: {name}"), state, &[REQUEST]);
+    }
+    for last in [200, 201, 202] {
+        run.fresh("a request up to the top", &[announce(last), REQUEST]);
+        run.fresh("a request up to a held one", &[tick(last), REQUEST]);
+    }
+}
+
+fn passing<A: Answers>(run: &mut Run<A>) {
+    run.on(
+        "a whole map passed at once",
+        named("one number from the whole map"),
+        &[tick(1), tick(512), tick(513), tick(257)],
+    );
+    run.on(
+        "a run passed",
+        named("a run and a single one"),
+        &[tick(11), tick(14), tick(16)],
+    );
+    run.on(
+        "the last number of all",
+        named("the last number pending"),
+        &[tick(MOST), reply(MOST, 1), REQUEST, Told],
+    );
+}
+
+/// Ticks drawn from the numbers above the floor; the state after each fifty.
+fn runs<A: Answers>(run: &mut Run<A>) {
+    for width in [1, 2, 8, 64, 256, 300] {
+        run.case(&format!("a run of ticks within {width}"));
+        let mut dice = Dice::new(8, width);
+        let mut ledger = run.open(100).expect("channel 100 opens");
+        let mut answered = [0; 3];
+        for calls in 1..=700 {
+            let n = ledger[1] + 1 + dice.below(width);
+            let answer = run.answers.tick(&mut ledger, Channel(100), Tick(n));
+            match answer {
+                Ok(_) => answered[0] += 1,
+                Err(11) => answered[1] += 1,
+                Err(12) => answered[2] += 1,
+                Err(other) => panic!("a run's tick is answered {other}"),
+            }
+            if calls % 50 == 0 {
+                run.more(&format!("{}: {}", joined(&answered), joined(&ledger)));
+            }
+        }
+    }
+}
