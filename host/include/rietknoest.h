@@ -1,17 +1,21 @@
-/* The proved library for C11 and C++: frames of the exchange's market data gateway read, written, searched for and scrubbed, the gap
- * ledger of a tick channel, captures walked, listed and cleaned, whole or while they arrive. Link librietknoest (.a or .so): tools/archive
- * builds it, tools/install lays it where pkg-config finds it.
+/* Frames of the exchange's market data gateway: read, written, searched for, scrubbed; the gap
+ * ledger of a tick channel; captures walked, listed and cleaned, whole or while they arrive. The
+ * library is proved. For C11 and C++. Link librietknoest (.a or .so): tools/archive builds it,
+ * tools/install installs it for pkg-config.
  *
- * Every function answers a number of the table below, 0 where all is well, and tells the rest through what it is lent. It keeps no
- * pointer, allocates nothing, has no state of its own, and may be called from several threads at once.
+ * Every function returns a code of the table below, 0 for success; results go to out-parameters.
+ * The library keeps no pointer, allocates nothing and has no state of its own. Functions may be
+ * called from several threads at once.
  *
- * A refusal writes nothing into anything lent: the answer is all there is. One exception: rk_ledger_tick's 12 raises the ledger's top.
- * Success writes every number of what it tells, the buffer's bytes that the answer counts, and no byte beyond them.
+ * A refusal (any code but 0) writes nothing. One exception: rk_ledger_tick's 12 raises the ledger's
+ * top. Success writes all of each out-parameter, and of a buffer the bytes that are counted, none
+ * beyond them.
  *
- * The numbers of sessions, ticks and channels are plain numbers in C, and the compiler does not tell one from another; in Rust it does.
+ * Numbers of sessions, ticks and channels are plain integers in C: the compiler can't tell one from
+ * another. In Rust it does.
  *
- * What the caller owes: every pointer is to so many readable bytes, or writable ones where it is not const; it is not null, also where the
- * length is 0; rows are aligned as their type is; nothing that is written overlaps anything else that is lent. */
+ * The caller ensures: pointers are valid for their lengths, writable where not const, and not null
+ * even for length 0; structs are aligned; nothing that is written overlaps another argument. */
 #ifndef RIETKNOEST_H
 #define RIETKNOEST_H
 
@@ -31,7 +35,7 @@ RK_SIZE(size_t, 1);
 #define RK_VERSION_MINOR 2
 #define RK_VERSION_PATCH 0
 
-/* WHAT EACH NUMBER SAYS */
+/* CODES */
 
 enum rk_answer {
     RK_DONE = 0,
@@ -43,29 +47,29 @@ enum rk_answer {
     RK_FIELD = 6,    /* a field rule is broken */
     RK_ROOM = 8,     /* output buffer shorter than what is to be written */
     RK_PLACE = 9,    /* search start beyond the end */
-    RK_NUMBER = 10,  /* tick number 0 or above 18 digits; announced top above 18 digits; channel above 9,999 */
+    RK_NUMBER = 10,  /* tick 0 or over 18 digits; announced top over 18; channel over 9,999 */
     RK_REPEAT = 11,  /* tick already received */
     RK_FAR = 12,     /* tick above floor + 256 and not a repeat */
-    RK_STATE = 13,   /* a state passed in breaks its state rules */
+    RK_STATE = 13,   /* the state breaks its rules: you see it only if other code wrote it */
     RK_BUSY = 14,    /* a request is pending */
     RK_WHOLE = 15,   /* nothing is missing */
     RK_UNASKED = 16, /* reply with no request pending, or with another first number */
     RK_STATUS = 17,  /* reply status not 1 to 5 or 99 */
     RK_CHANNEL = 18, /* call names another channel */
-    RK_CLOSED = 19,  /* call after a stream's closing one */
-    RK_ENTRIES = 20, /* entry reader: body below 73 bytes, no entry's place, or the entry passes the body's end */
-    RK_PLACES = 29   /* places of a stream would pass 64 bits */
+    RK_CLOSED = 19,  /* the stream is closed already */
+    RK_ENTRIES = 20, /* body below 73 bytes, no entry at this place, or it passes the body's end */
+    RK_PLACES = 29   /* a place in the stream would not fit 64 bits */
 };
 
 /* FRAMES */
 
-/* MsgType is the number that its four bytes spell, high byte first: "S003" is 0x53303033. */
+/* MsgType is its four bytes as one number, high byte first: "S003" is 0x53303033. */
 typedef struct {
     uint64_t msg_type;
     uint64_t sending_time;
     uint64_t seq;      /* MsgSeqNum */
-    uint64_t body_len; /* BodyLength; the frame has 28 bytes more */
-    uint64_t channel;  /* P001, P002, M201; 0 for the others, as all below */
+    uint64_t body_len; /* BodyLength; the frame is 28 bytes longer */
+    uint64_t channel;  /* P001, P002, M201; this and all below are 0 for other types */
     uint64_t tick;     /* ApplSeqNum of M201, ApplLastSeqNum of P001, ApplBegSeqNum of P002 */
     uint64_t first;    /* P002: ApplBegSeqNum, ApplEndSeqNum, ResendStatus */
     uint64_t last;
@@ -73,7 +77,7 @@ typedef struct {
 } rk_frame;
 RK_SIZE(rk_frame, 9);
 
-/* A place, or any = 0 and place = 0 where there is none. */
+/* A place; any = 0 and place = 0 if there is none. */
 typedef struct {
     uint64_t any;
     uint64_t place;
@@ -88,55 +92,56 @@ typedef struct {
 RK_SIZE(rk_span, 3);
 
 typedef struct {
-    uint64_t is_short; /* 1 for an entry of MD001, which has neither size nor position, else 0 */
+    uint64_t is_short; /* 1 for MD001, whose entries have no size and no position, else 0 */
     uint64_t kind;
     uint64_t price;
     uint64_t size;
     uint64_t position;
-    uint64_t behind; /* the place behind the entry, for the next step */
+    uint64_t behind; /* the place after the entry, for the next call */
 } rk_md_entry;
 RK_SIZE(rk_md_entry, 6);
 
-/* Reads the frame at a place; what stands behind it does not matter. 0, 1 to 6; a place beyond the end is 1.
- * 0 writes *told. */
+/* Reads the frame at a place; the bytes after it do not matter. A place beyond the end returns 1.
+ * Returns 0, 1 to 6. 0 writes *told. */
 uint32_t rk_read(const uint8_t *bytes, size_t len, size_t place, rk_frame *told);
 
-/* Writes a frame at the front of out. 0, 2, 3, 4, 6, 8.
- * 0 writes out's first *told bytes, body_len + 28 of them, and *told. */
+/* Writes a frame to the front of out.
+ * Returns 0, 2, 3, 4, 6, 8. 0 writes *told, which is body_len + 28, and as many bytes of out. */
 uint32_t rk_write(uint32_t msg_type, uint64_t sending_time, uint64_t seq, const uint8_t *body, size_t body_len, uint8_t *out,
                   size_t out_len, uint64_t *told);
 
-/* Finds the lowest place from `from` on at which a frame reads. 0, 9.
- * 0 writes *told. */
+/* Finds the lowest place, from `from` on, at which a frame reads.
+ * Returns 0, 9. 0 writes *told. */
 uint32_t rk_search(const uint8_t *bytes, size_t len, size_t from, rk_found *told);
 
-/* Scrubs the frame at the front of a buffer where it stands. 0, 1 to 6.
- * 0 writes the private bytes and the CheckSum of the frame, and *told: how many bytes the frame has. */
+/* Scrubs the frame at the front of a buffer, in place.
+ * Returns 0, 1 to 6. 0 writes the frame's private bytes and CheckSum, and its length to *told. */
 uint32_t rk_scrub(uint8_t *frame, size_t len, uint64_t *told);
 
-/* Private span number i of a body of that type, counted from 0; from the last on, an empty one. Always 0. The body's bytes are not
- * judged: the spans lie within each body whose length suits its type.
- * Writes *told. */
+/* Private span number i, counted from 0, of a body of that type; an empty span after the last. The
+ * body is not checked: the spans are within any body whose length suits its type.
+ * Always returns 0, and writes *told. */
 uint32_t rk_private(uint32_t msg_type, const uint8_t *body, size_t len, size_t i, rk_span *told);
 
-/* Whether an M102 body may be walked. 0, 3, 4, 6.
- * 0 writes *told: the place of the first entry. */
+/* Checks that the entries of an M102 body can be read.
+ * Returns 0, 3, 4, 6. 0 writes the first entry's place to *told. */
 uint32_t rk_entries(const uint8_t *body, size_t len, uint64_t *told);
 
-/* The entry of a body at a place. 0, 20.
- * 0 writes *told. */
+/* The entry at a place of a body.
+ * Returns 0, 20. 0 writes *told. */
 uint32_t rk_entry(const uint8_t *body, size_t len, size_t place, rk_md_entry *told);
 
 /* THE LEDGER */
 
-/* Its words are the caller's to keep and to copy, not to interpret or to make: rk_ledger_told tells all there is to know. A call given
- * words that break the state rules answers 13. */
+/* Keep and copy the words as you like, but do not read or make them: use rk_ledger_told. A call on
+ * words that break the state rules returns 13. */
 typedef struct {
     uint64_t words[9];
 } rk_ledger;
 RK_SIZE(rk_ledger, 9);
 
-/* The numbers that the floor has newly passed: the first and how many. Where there are none, the first is floor + 1. */
+/* The numbers that the floor has just passed: the first, and how many. If none, first is
+ * floor + 1. */
 typedef struct {
     uint64_t first;
     uint64_t count;
@@ -155,117 +160,127 @@ typedef struct {
     uint64_t top;
     uint64_t missing;
     uint64_t held;
-    uint64_t asked_first; /* the pending request, 0 and 0 where nothing is pending */
+    uint64_t asked_first; /* the pending request; 0 and 0 if there is none */
     uint64_t asked_last;
 } rk_told;
 RK_SIZE(rk_told, 7);
 
-/* A fresh ledger for a channel. 0, 10.
- * 0 writes *state. 10 leaves the words as they were. Lend it zeroed ( = {0} ): nine zeros are a fresh ledger for channel 0, and words that
- * nobody has set may be any ledger. Look at the answer all the same: what was lent zeroed goes on as that ledger of channel 0. */
+/* A fresh ledger for a channel.
+ * Returns 0, 10. 0 writes *state. Initialise it ( = {0} ): after 10 it is what it was, and
+ * uninitialised words may be any ledger. Check the code even so: nine zeros are a fresh ledger for
+ * channel 0. */
 uint32_t rk_ledger_open(uint16_t channel, rk_ledger *state);
 
-/* Offers a tick. 0, 10 to 13, 18.
- * 0 writes *state and *told. 12 raises the top in *state if it was lower, and writes nothing else. */
+/* Offers a tick.
+ * Returns 0, 10 to 13, 18. 0 writes *state and *told. 12 raises a lower top in *state, and writes
+ * nothing else. */
 uint32_t rk_ledger_tick(rk_ledger *state, uint16_t channel, uint64_t number, rk_passed *told);
 
-/* Announces the channel's last number. 0, 10, 13, 18.
- * 0 writes *state. */
+/* Announces the channel's last number.
+ * Returns 0, 10, 13, 18. 0 writes *state. */
 uint32_t rk_ledger_announce(rk_ledger *state, uint16_t channel, uint64_t last);
 
-/* Asks for a resend request. 0, 13, 14, 15, 18.
- * 0 writes *state, in which the request is pending from now on, and *told. */
+/* Asks what to request again. The range returned is pending from now on.
+ * Returns 0, 13, 14, 15, 18. 0 writes *state and *told. */
 uint32_t rk_ledger_request(rk_ledger *state, uint16_t channel, rk_request *told);
 
-/* The exchange's reply to the pending request. 0, 13, 16, 17, 18.
- * 0 writes *state, in which nothing is pending any more. */
+/* The exchange's reply to the pending request, which is then no longer pending.
+ * Returns 0, 13, 16, 17, 18. 0 writes *state. */
 uint32_t rk_ledger_reply(rk_ledger *state, uint16_t channel, uint64_t first, uint8_t status);
 
-/* What a ledger has to tell. 0, 13.
- * 0 writes *told. */
+/* What a ledger holds.
+ * Returns 0, 13. 0 writes *told. */
 uint32_t rk_ledger_told(const rk_ledger *state, rk_told *told);
 
 /* CAPTURES */
 
-/* Bytes that hold the records of each capture of len bytes, and the listing of so many records. */
+/* Room for the records of any capture of len bytes; room for the listing of so many records. */
 #define RK_RECORDS_ROOM(len) ((2 * ((size_t)(len) / 29) + 2) * 64)
 #define RK_TEXT_ROOM(records) ((size_t)(records) * 127 + 138)
 
 typedef struct {
     uint64_t records;
-    uint64_t frames;  /* readings answered 0 */
-    uint64_t refused; /* readings refused */
+    uint64_t frames;  /* readings that gave 0 */
+    uint64_t refused; /* readings that were refused */
 } rk_counts;
 RK_SIZE(rk_counts, 3);
 
 typedef struct {
     uint64_t bytes;
     uint64_t frames;
-    uint64_t after_damage; /* frames that the search found, the first behind each damage: such a frame may lie inside private bytes of a
-                            * damaged one, and so may those that follow it without a gap, which are not counted */
+    uint64_t after_damage; /* frames that the search found after damage. One of these may come from
+                            * private bytes of a damaged frame; so may the frames that follow it
+                            * without a gap, which are not counted */
 } rk_cleaned;
 RK_SIZE(rk_cleaned, 3);
 
-/* Walks a capture: a record of 64 bytes for each reading, and channel 100's ledger. 0, 8.
- * 0 writes the first 64 * told->records bytes of records, *state and *told. */
+/* Walks a capture: a record of 64 bytes for each reading, and the ledger of channel 100.
+ * Returns 0, 8. 0 writes the first 64 * told->records bytes of records, *state and *told. */
 uint32_t rk_walk(const uint8_t *capture, size_t len, uint8_t *records, size_t records_len, rk_ledger *state, rk_counts *told);
 
-/* The listing of what a walk left: the line of each whole record, then the last line. 0, 8, 13.
- * 0 writes text's first *told bytes and *told. No terminating zero is written. */
+/* The listing of a walk's records: a line for each whole record, then the last line.
+ * Returns 0, 8, 13. 0 writes *told, and as many bytes of text, without a terminating zero. */
 uint32_t rk_listing(const uint8_t *records, size_t records_len, uint64_t frames, uint64_t refused, const rk_ledger *state, uint8_t *text,
                     size_t text_len, uint64_t *told);
 
-/* A capture, scrubbed: its accepted frames at the front of out, stray bytes left out. 0, 8; len bytes are always room enough.
- * 0 writes out's first told->bytes bytes and *told. While it runs, out holds each frame for a moment as the capture has it, before its
- * private bytes are painted over: lend memory of your own, and not a mapped file. */
+/* Scrubs a capture: its accepted frames go to the front of out, stray bytes are left out. len bytes
+ * are always room enough. While it runs, out briefly holds each frame unscrubbed: use memory of
+ * your own, not a mapped file.
+ * Returns 0, 8. 0 writes the first told->bytes bytes of out, and *told. */
 uint32_t rk_clean(const uint8_t *capture, size_t len, uint8_t *out, size_t out_len, rk_cleaned *told);
 
-/* Whether a capture is what cleaning it gives. Always 0. It takes about 9 KB of stack, and rk_stream_feed and rk_stream_close up to 135 KB;
- * no other function takes more than 1 KB.
- * Writes *told: the first place where the two differ, or none. */
+/* Whether a capture is clean: the first place that rk_clean would change, or none. It takes about
+ * 9 KB of stack, rk_stream_feed and rk_stream_close up to 135 KB, all others at most 1 KB.
+ * Always returns 0, and writes *told. */
 uint32_t rk_is_clean(const uint8_t *capture, size_t len, rk_found *told);
 
 /* A CAPTURE WHILE IT ARRIVES */
 
-/* Bytes come in cuts of any size, also of none, and a closing call ends them. However they are cut, the records of all calls, the counts and
- * the ledger are those of rk_walk over the joined bytes of the calls that were not refused. Between two calls at most 8,191 bytes wait: those
- * from a place on whose reading answers 1 so far. A call has a cost of its own, some microseconds: gather single bytes first.
+/* Bytes come in cuts of any size, even empty ones; a closing call ends them. However they are cut,
+ * the records of all calls, the counts and the ledger are those of rk_walk over the joined bytes of
+ * the calls that were not refused. Between calls at most 8,191 bytes wait: those that may still
+ * become a frame. Each call takes some microseconds, so collect single bytes first.
  *
- * Words and kept bytes are the caller's to keep and to copy, not to interpret or to make. The ledger may be lent to rk_listing,
- * rk_ledger_told, rk_ledger_request and rk_ledger_reply; the last two change its pending request alone, in which it then differs from
- * rk_walk's. A call given a stream that breaks the state rules answers 13. */
+ * Keep and copy the struct as you like, but do not read or make its words and bytes. The ledger may
+ * be passed to rk_listing, rk_ledger_told, rk_ledger_request and rk_ledger_reply; the last two
+ * change only its pending request, in which it then differs from rk_walk's. A call on a stream that
+ * breaks the state rules returns 13. */
 typedef struct {
     uint64_t words[6];
     rk_ledger ledger;
-    uint8_t kept[8191]; /* as they came, private bytes among them */
+    uint8_t kept[8191]; /* bytes as they came, private ones included */
 } rk_stream;
 RK_SIZE(rk_stream, 1039);
 
-/* A stream as the three parts that the functions take: rk_stream_open(RK_STREAM(&stream)). Its argument is evaluated three times. */
+/* A stream as the three arguments that the functions take: rk_stream_open(RK_STREAM(&stream)). The
+ * macro evaluates its argument three times. */
 #define RK_STREAM(stream) (stream)->words, &(stream)->ledger, (stream)->kept
 
 typedef struct {
-    uint64_t records; /* given by this call */
-    uint64_t frames;  /* so far: readings answered 0 */
-    uint64_t refused; /* so far: readings refused */
-    uint64_t place;   /* of the first byte that waits, or of the next to come */
+    uint64_t records; /* of this call */
+    uint64_t frames;  /* readings so far that gave 0 */
+    uint64_t refused; /* readings so far that were refused */
+    uint64_t place;   /* of the first byte that waits, or of the next one to come */
     uint64_t waiting; /* how many bytes wait */
 } rk_fed;
 RK_SIZE(rk_fed, 5);
 
-/* A stream to which no byte came. Always 0.
- * Writes words, *ledger and kept. */
+/* A fresh stream.
+ * Always returns 0, and writes words, *ledger and kept. */
 uint32_t rk_stream_open(uint64_t words[6], rk_ledger *ledger, uint8_t kept[8191]);
 
-/* One more cut: a record of 64 bytes for each reading that it decides. 0, 8, 13, 19, 29; RK_RECORDS_ROOM(waiting + cut_len) bytes are always
- * room enough. After 8 the same cut may be offered again, with more room.
- * 0 writes the first 64 * told->records bytes of records, words, *ledger, kept and *told. */
+/* One more cut: a record of 64 bytes for each reading that it decides.
+ * RK_RECORDS_ROOM(waiting + cut_len) bytes are always room enough. After 8 you may pass the same
+ * cut again, with more room.
+ * Returns 0, 8, 13, 19, 29. 0 writes the first 64 * told->records bytes of records, and words,
+ * *ledger, kept and *told. */
 uint32_t rk_stream_feed(uint64_t words[6], rk_ledger *ledger, uint8_t kept[8191], const uint8_t *cut, size_t cut_len, uint8_t *records,
                         size_t records_len, rk_fed *told);
 
-/* No more bytes come: what waits is walked as the end of a capture. 0, 8, 13, 19; RK_RECORDS_ROOM(waiting) bytes are always room enough.
- * After 8 the stream is still open.
- * 0 writes the first 64 * told->records bytes of records, words, *ledger, kept and *told. */
+/* Ends the stream: what waits is walked as the end of a capture. RK_RECORDS_ROOM(waiting) bytes are
+ * always room enough. After 8 the stream is still open.
+ * Returns 0, 8, 13, 19. 0 writes the first 64 * told->records bytes of records, and words, *ledger,
+ * kept and *told. */
 uint32_t rk_stream_close(uint64_t words[6], rk_ledger *ledger, uint8_t kept[8191], uint8_t *records, size_t records_len, rk_fed *told);
 
 #undef RK_SIZE
