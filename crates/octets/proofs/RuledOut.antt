@@ -6,7 +6,7 @@ use denote.Ref.{now}
 use lib.ListN.{length, take, drop, replicate}
 use Rattle.terms.specs.Paper.{Paper, answer, refusal}
 use Rattle.terms.specs.RuledOut.{Row, _never_, _only_, Kept, RulesOut, ruled, numbers, lists, papers, Left, left, lefts, left-is}
-use Rattle.octets.specs.Octets.{numeral, digitsOf, laid, be, bytesOf, sum8, sumOf}
+use Rattle.octets.specs.Octets.{numeral, digitsOf, laid, be, bytesOf, sum8, sumOf, sumAfter}
 use Rattle.octets.specs.Papers.{writtenPaper, roomFor, laidIfRoom}
 use Rattle.octets.proofs.u8_at.Reads as u8-at
 use Rattle.octets.proofs.u8_at.Kinds as u8-at-kinds
@@ -20,6 +20,8 @@ use Rattle.octets.proofs.u64_at.Reads as u64-at
 use Rattle.octets.proofs.u64_at.Kinds as u64-at-kinds
 use Rattle.octets.proofs.sum.Reads as sum
 use Rattle.octets.proofs.sum.Kinds as sum-kinds
+use Rattle.octets.proofs.sum_after.Reads as sum-after
+use Rattle.octets.proofs.sum_after.Kinds as sum-after-kinds
 use Rattle.octets.proofs.fill.Reads as fill
 use Rattle.octets.proofs.fill.Kinds as fill-kinds
 use Rattle.octets.proofs.put.Reads as put
@@ -99,6 +101,22 @@ sum-wrong =
 pub sum-rules-out : RulesOut (Kept _ sum-kinds.ps sum-kinds.r sum.Post) (λ c. (now (c .args .0), (c .args .1 .0, c .args .1 .1 .0))) (λ c. c .result) sum-wrong
 unfolding sum8 sumOf
 sum-rules-out = ruled numbers (λ (i : List ℕ × (ℕ × ℕ)). sum8 (take (i .1 .1) (drop (i .1 .0) (i .0)))) (λ c p. p) _ refl
+
+-- a sum, bytes, a place, a length and a byte; the sum after it was put in their places. The bytes' own sum is 0x449, kept as 0x49.
+abbrev pub sum-after-wrong : List (Row (ℕ × (List ℕ × (ℕ × (ℕ × ℕ)))) ℕ)
+sum-after-wrong =
+    (0x49, (bytes, (1, (2, 0x20)))) only 0xFF  -- 0x49 - 0x34 - 0x56 + 0x20 + 0x20
+    ∷ (0x49, (bytes, (1, (2, 0x20)))) never 0x89  -- b added, nothing taken off
+    ∷ (0x49, (bytes, (1, (2, 0x20)))) never 0xBF  -- taken off, nothing added
+    ∷ (0x49, (bytes, (1, (2, 0x20)))) never 0x35  -- stopped a byte early
+    ∷ (0x49, (bytes, (1, (2, 0x20)))) never 0x43  -- from the front
+    ∷ (0x49, (bytes, (8, (2, 0x20)))) only 0x58  -- a byte past the end counts for nothing
+    ∷ (0x49, (bytes, (9, (1, 0x20)))) only 0x49
+    ∷ []
+
+pub sum-after-rules-out : RulesOut (Kept _ sum-after-kinds.ps sum-after-kinds.r sum-after.Post) (λ c. (c .args .0, (now (c .args .1 .0), (c .args .1 .1 .0, (c .args .1 .1 .1 .0, c .args .1 .1 .1 .1 .0))))) (λ c. c .result) sum-after-wrong
+unfolding sumAfter
+sum-after-rules-out = ruled numbers (λ (i : ℕ × (List ℕ × (ℕ × (ℕ × ℕ)))). sumAfter (i .0) (take (i .1 .1 .1 .0) (drop (i .1 .1 .0) (i .1 .0))) (i .1 .1 .1 .1)) (λ c p. p) _ refl
 
 -- a part and a byte, and what is never left in the part
 abbrev pub fill-wrong : List (Row (List ℕ × ℕ) (List ℕ))

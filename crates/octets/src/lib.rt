@@ -4,7 +4,7 @@ ghost use mathlib.Core.Path.{_≡_};
 ghost use Prim.Native.Nat.{_+_, _-_, _≤_, _<_, _^_, min};
 ghost use lib.Dec.{leb};
 ghost use lib.ListN.{length, take, drop, getD, replicate};
-ghost use Rattle.octets.specs.Octets.{be, bytesOf, laid, sum8};
+ghost use Rattle.octets.specs.Octets.{be, bytesOf, laid, sum8, sumAfter};
 ghost use Rattle.octets.specs.Papers.{writtenPaper, roomFor, laidIfRoom};
 use terms::Refusal;
 
@@ -186,4 +186,19 @@ pub fn sum(s: &[u8], at: usize, n: usize) -> u8
         i += 1;
     }
     v
+}
+
+// The sum v after each of the n bytes of s from at on became b: that byte taken off, b added. Bytes past the end count for nothing.
+// Only those bytes are loaded, so that a sum that is known need not be made again.
+pub fn sum_after(v: u8, s: &[u8], at: usize, n: usize, b: u8) -> u8
+    ensures { λ r. ⌜ r ≡ sumAfter v (take n (drop at (now (s .entry)))) b ⌝ }
+{
+    let e = end_of(s.len(), at, n);
+    let mut w = v;
+    let mut i = at;
+    while i < e {
+        w = std::num::wrapping_add_u8(std::num::wrapping_sub_u8(w, s[i]), b);
+        i += 1;
+    }
+    w
 }

@@ -1,6 +1,7 @@
 -- Demand 2, second half: a scrubbed frame reads, holds the fill in each private field and a checksum set anew, and has every
 -- other byte of the original. And two frames that agree in all but private fields and checksum scrub to the same bytes.
 use Prim.Native.Nat.{ℕ, _+_, _-_, _<_, _≤_}
+use mathlib.Core.Bool.{true}
 use mathlib.Core.Path.{_≡_, refl, sym, ap, _∙_}
 use mathlib.Core.Logic.{_⊎_, inl, inr, ⊎-elim}
 use mathlib.Core.List.{List, [], _∷_, _++_, append-assoc}
@@ -14,10 +15,11 @@ use Rattle.terms.specs.Refusals.{refusal-pos}
 use Rattle.octets.specs.declared.Written.{Written}
 use Rattle.octets.specs.Papers.{writtenPaper, Refuses}
 use Rattle.octets.specs.Octets.{be, bytesOf, sum8, laid, Bytes}
-use Rattle.octets.specs.Numerals.{bytesOf-be, length-digits, numeral-below, numeral-take}
+use Rattle.octets.specs.Numerals.{bytesOf-be, length-digits, numeral-below, numeral-take, last-byte}
+use Rattle.octets.specs.Sums.{sum8-below}
 use Rattle.octets.specs.Places.{laid-before, laid-in, laid-after}
 use Rattle.octets.specs.Overlays.{length-laid, laid-append, laid-front, laid-again, laid-same, take-laid, take-front}
-use Rattle.rules.specs.Table.{kindOf}
+use Rattle.rules.specs.Table.{kindOf, suits}
 use Rattle.rules.specs.Outcomes.{measure-same}
 use Rattle.wire.specs.Frame.{msgType, sendingTime, msgSeqNum, bodyLength, body, plain, checkSum, readOf}
 use Rattle.wire.specs.Outcomes.{good, good-reads}
@@ -31,7 +33,7 @@ use Rattle.rules.specs.declared.Kind.{Kind}
 use Rattle.private.specs.Private.{privateOf}
 use Rattle.private.specs.Scrub.{painted, spansOf, cleanBody, summed, scrubbed, scrubAnswer}
 use Rattle.private.specs.Paint.{Inside, Within, Agree, length-painted, painted-outside, painted-inside, painted-agrees, painted-same}
-use Rattle.private.specs.Known.{knownAnswer, knownLeaves}
+use Rattle.private.specs.Known.{scrubbedAs, knownAnswer, knownLeaves}
 use Rattle.private.specs.KnownLaws.{known-done}
 use Rattle.view.specs.View.{viewOf}
 use Rattle.private.specs.PrivateLaws.{view-same, private-few, private-within, private-filled, private-same, judged-same}
@@ -280,6 +282,23 @@ module _ (d : List ℕ) (z : readOf d .number ≡ 0) where
   pub answer-as : (n : ℕ) → n ≡ bodyLength d → answer 0 ((28 + n) ∷ []) ≡ scrubAnswer d
   unfolding scrubAnswer
   answer-as n q = rw (eq-eqb (readOf d .number) 0 z, q)
+
+  -- of a frame that reads, told its own type and length: it is there, its length suits, CheckSum's last byte is its sum, and as
+  -- one of that type it is scrubbed
+  module _ (k : Kind) (n : ℕ) (p : k ≡ kindOf (msgType d)) (q : n ≡ bodyLength d) where
+    pub read-there : 28 + n ≤ length d
+    read-there = rw q (good d z .whole .there)
+
+    pub read-suits : suits k n ≡ true
+    read-suits = rw (p, q) (fits _ _ (good d z .whole .measured) .suit)
+
+    pub read-sum : be 1 (27 + n) d ≡ sum8 (take (24 + n) d)
+    read-sum =
+        let at : 27 + bodyLength d ≡ 24 + bodyLength d + 3 = omega arith in
+        rw (q, at) (last-byte 3 (24 + bodyLength d) (sum8 (plain d)) d (good d z .sum) (sum8-below (plain d)))
+
+    pub read-scrubs : scrubbedAs k n d ≡ scrubbed d
+    read-scrubs = rw (p, q) (sym (scrubs d z))
 
   -- told its own type and length, `scrub_known` answers and leaves what scrubbing does
   pub known-scrubs : (k : Kind) (n : ℕ) → k ≡ kindOf (msgType d) → n ≡ bodyLength d → (knownAnswer k n d ≡ scrubAnswer d) × (knownLeaves k n d ≡ scrubbed d)

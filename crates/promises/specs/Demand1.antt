@@ -110,6 +110,7 @@ octets-answers =
     let u40-at-one-answer = octets.u40-at-one-answer in
     let u64-at-one-answer = octets.u64-at-one-answer in
     let sum-one-answer = octets.sum-one-answer in
+    let sum-after-one-answer = octets.sum-after-one-answer in
     let fill-one-answer = octets.fill-one-answer in
     let put-one-answer = octets.put-one-answer in
     let lay-one-answer = octets.lay-one-answer in

@@ -3,13 +3,13 @@ ghost use mathlib.Core.Path.{_≡_};
 ghost use mathlib.Core.Bool.{true};
 ghost use Prim.Native.Nat.{_+_, _-_, _≤_};
 ghost use lib.ListN.{length, take, drop, replicate};
-ghost use Rattle.octets.specs.Octets.{laid};
+ghost use Rattle.octets.specs.Octets.{laid, sum8};
 ghost use Rattle.octets.specs.Papers.{writtenPaper};
 ghost use Rattle.private.specs.Private.{privateOf};
 ghost use Rattle.rules.specs.Table.{suits};
 ghost use Rattle.private.specs.Scrub.{painted, summed, scrubAnswer, scrubbed};
 ghost use Rattle.private.specs.Within.{bodyIn, spanIn, spanPainted};
-ghost use Rattle.private.specs.Known.{knownAnswer, knownLeaves};
+ghost use Rattle.private.specs.Known.{scrubbedAs, knownAnswer, knownLeaves};
 use frame::Read;
 use octets::Written;
 use rules::Kind;
@@ -27,37 +27,50 @@ fn paint(buf: &mut [u8], a: usize, e: usize, fill: u8)
     octets::fill(&mut buf[a..e], fill);
 }
 
-// Paints span number i of the body of n bytes that lies behind the 24 header bytes of buf.
-fn paint_span(buf: &mut [u8], kind: Kind, n: usize, i: usize)
-    requires { ⌜ (24 + n ≤ length (now buf)) × (spanIn kind n i (now buf) .place + spanIn kind n i (now buf) .len ≤ n) ⌝ }
-    ensures { λ _. ⌜ now (buf .exit) ≡ spanPainted (spanIn kind n i (now (buf .entry))) (now (buf .entry)) ⌝ }
+// Paints span number i of the body of n bytes that lies behind the 24 header bytes of buf. v is the sum of header and body;
+// the answer is their sum then. It is worked out before the span is filled, from its bytes alone.
+fn paint_span(buf: &mut [u8], kind: Kind, n: usize, i: usize, v: u8) -> u8
+    requires { ⌜ (24 + n ≤ length (now buf)) × ((spanIn kind n i (now buf) .place + spanIn kind n i (now buf) .len ≤ n) × (v ≡ sum8 (take (24 + n) (now buf)))) ⌝ }
+    ensures { λ r. ⌜ (now (buf .exit) ≡ spanPainted (spanIn kind n i (now (buf .entry))) (now (buf .entry))) × (r ≡ sum8 (take (24 + n) (now (buf .exit)))) ⌝ }
 {
     let end = 24 + n;
     let s = private::private_span(kind, &buf[24..end], i);
     let a = 24 + s.place;
     let e = a + s.len;
+    let w = octets::sum_after(v, buf, a, s.len, s.fill);
     paint(buf, a, e, s.fill);
+    w
 }
 
-// Paints all spans of that body.
-fn paint_all(buf: &mut [u8], kind: Kind, n: usize)
-    requires { ⌜ (24 + n ≤ length (now buf)) × (suits kind n ≡ true) ⌝ }
-    ensures { λ _. ⌜ now (buf .exit) ≡ laid 24 (painted (privateOf kind (bodyIn n (now (buf .entry)))) (bodyIn n (now (buf .entry)))) (now (buf .entry)) ⌝ }
+// Paints all spans of that body, whatever they are. v is the sum of header and body; the answer is their sum then.
+fn paint_all(buf: &mut [u8], kind: Kind, n: usize, v: u8) -> u8
+    requires { ⌜ (24 + n ≤ length (now buf)) × ((suits kind n ≡ true) × (v ≡ sum8 (take (24 + n) (now buf)))) ⌝ }
+    ensures { λ r. ⌜ (now (buf .exit) ≡ laid 24 (painted (privateOf kind (bodyIn n (now (buf .entry)))) (bodyIn n (now (buf .entry)))) (now (buf .entry))) × (r ≡ sum8 (take (24 + n) (now (buf .exit)))) ⌝ }
 {
+    let mut w = v;
     let mut i: usize = 0;
     while i < SPANS {
-        paint_span(buf, kind, n, i);
+        w = paint_span(buf, kind, n, i, w);
         i += 1;
     }
+    w
 }
 
-// Stores the sum of the first n bytes in the four behind them.
-fn renew_sum(buf: &mut [u8], n: usize)
-    requires { ⌜ n + 4 ≤ length (now buf) ⌝ }
+// Stores v, the sum of the first n bytes, in the four behind them.
+fn store_sum(buf: &mut [u8], n: usize, v: u8)
+    requires { ⌜ (n + 4 ≤ length (now buf)) × (v ≡ sum8 (take n (now buf))) ⌝ }
     ensures { λ _. ⌜ now (buf .exit) ≡ summed n (now (buf .entry)) ⌝ }
 {
-    let v = octets::sum(buf, 0, n);
     octets::put(buf, n, 4, v as u64);
+}
+
+// Paints the body of n bytes behind the header as one of that type and sets the sum anew, from v, the sum before.
+fn repaint(buf: &mut [u8], kind: Kind, n: usize, v: u8)
+    requires { ⌜ (28 + n ≤ length (now buf)) × ((suits kind n ≡ true) × (v ≡ sum8 (take (24 + n) (now buf)))) ⌝ }
+    ensures { λ _. ⌜ now (buf .exit) ≡ scrubbedAs kind n (now (buf .entry)) ⌝ }
+{
+    let w = paint_all(buf, kind, n, v);
+    store_sum(buf, 24 + n, w);
 }
 
 // Scrubs the frame at the front of buf where it stands, by the type and the body length that the caller tells: for one that has
@@ -72,15 +85,16 @@ pub fn scrub_known(buf: &mut [u8], kind: Kind, n: usize) -> Written
             if buf.len() < 28 + n {
                 return Written::Refused(Refusal::More);
             }
-            paint_all(buf, kind, n);
-            renew_sum(buf, 24 + n);
+            let v = octets::sum(buf, 0, 24 + n);
+            repaint(buf, kind, n, v);
             Written::Bytes(28 + n)
         }
     }
 }
 
 // Scrubs the frame at the front of buf where it stands, and answers how many bytes it has. A refusal of reading is passed
-// on, and the buffer keeps its bytes; so do the bytes behind the frame.
+// on, and the buffer keeps its bytes; so do the bytes behind the frame. Reading has found CheckSum right, so the new one is
+// worked out of its last byte: behind reading only that byte and the private ones are loaded.
 pub fn scrub(buf: &mut [u8]) -> Written
     ensures { λ r. ⌜ (writtenPaper r ≡ scrubAnswer (now (buf .entry))) × (now (buf .exit) ≡ scrubbed (now (buf .entry))) ⌝ }
 {
@@ -91,6 +105,11 @@ pub fn scrub(buf: &mut [u8]) -> Written
             sending_time: _,
             seq: _,
             body_len,
-        } => scrub_known(buf, rules::kind_of(msg_type), body_len),
+        } => {
+            let kind = rules::kind_of(msg_type);
+            let v = octets::u8_at(buf, 27 + body_len);
+            repaint(buf, kind, body_len, v);
+            Written::Bytes(28 + body_len)
+        }
     }
 }

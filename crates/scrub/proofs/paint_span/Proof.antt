@@ -1,13 +1,14 @@
--- `paint_span`: the span read from the body lies within it, so its part lies within the buffer. Assumes nothing.
+-- `paint_span`: the span read from the body lies within it, so its part lies within the buffer, and the sum is moved by its bytes. Assumes nothing.
 use native.Mathlib.Omega.{arith}
 use Rattle.private.specs.Within.{spanIn, spanPainted}
 use Rattle.private.specs.Private.{privateOf, spanAt}
 use Rattle.private.specs.declared.Span.{Span}
-use Rattle.octets.specs.Octets.{laid}
+use Rattle.octets.specs.Octets.{laid, sum8, sumAfter}
+use Rattle.octets.specs.Sums.{sum-after-part}
 use lib.ListN.{length, take, drop, replicate}
 use mathlib.Core.List.{List}
 use Prim.Native.Nat.{ℕ, _+_, _-_, _≤_}
-use mathlib.Core.Path.{_≡_, ap, _∙_}
+use mathlib.Core.Path.{_≡_, sym, ap, _∙_}
 use borrow.Author.Needs.{needs}
 use Rattle.scrub.proofs.paint_span.Statement.{statement}
 use Rattle.scrub.proofs.paint_span.Tie as tie
@@ -34,7 +35,7 @@ part-is p q d e =
 inside : (c : tie.After-private-span) → 24 + (c .private-span .result .place + c .private-span .result .len) ≤ length (start c .args .buf .now)
 inside c =
     let s = start c in
-    let f : c .private-span .result .place + c .private-span .result .len ≤ s .args .n = within (span-is c) (s .pre .1) in
+    let f : c .private-span .result .place + c .private-span .result .len ≤ s .args .n = within (span-is c) (s .pre .1 .0) in
     omega arith
 
 add-end : tie.Need-add-end
@@ -52,20 +53,34 @@ part-private-span-end c = search needs
 private-span-requires : tie.Need-private-span-requires
 private-span-requires c κs = search needs
 
+-- the sum of header and body, moved by the bytes of the span, is theirs once it is painted
+moved : (p q : Span) (n v w : ℕ) (d e : List ℕ) → p ≡ q → q .place + q .len ≤ n → 24 + n ≤ length d → v ≡ sum8 (take (24 + n) d) → e ≡ spanPainted q d
+    → w ≡ sumAfter v (take (p .len) (drop (24 + p .place) d)) (p .fill) → w ≡ sum8 (take (24 + n) e)
+moved p q n v w d e h f l s x y =
+    y ∙ sum-after-part d (24 + n) (24 + p .place) (p .len) (p .fill) v (omega (arith, within h f)) l s
+    ∙ ap (λ (z : Span). sum8 (take (24 + n) (spanPainted z d))) h ∙ ap (λ (z : List ℕ). sum8 (take (24 + n) z)) (sym x)
+
 add-a : tie.Need-add-a
 add-a c = omega (arith, inside (c .before))
 
 add-e : tie.Need-add-e
 add-e c = omega (arith, inside (c .before .before))
 
+sum-after-requires : tie.Need-sum-after-requires
+sum-after-requires c κs = search needs
+
 paint-requires : tie.Need-paint-requires
-paint-requires c κs = (omega arith, omega (arith, inside (c .before .before .before)))
+paint-requires c κs = (omega arith, omega (arith, inside (c .before .before .before .before .before)))
 
 same-length : tie.Need-same-length
 same-length c = search needs
 
 returns : tie.Need-returns
-returns c = c .before .before .paint .ensures ∙ part-is _ _ _ (span-is (c .before .before .before .before .before .before))
+returns c =
+    let p = c .before .before .before .before .before .before .before .before in
+    let s = start p in
+    let e = c .before .before .paint .ensures ∙ part-is _ _ _ (span-is p) in
+    (e, moved _ _ (s .args .n) (s .args .v) _ _ _ (span-is p) (s .pre .1 .0) (s .pre .0) (s .pre .1 .1) e (c .before .before .before .before .sum-after .ensures))
 
 pub paint-span-spec : {M : Type 1} → statement M
 paint-span-spec =
@@ -78,6 +93,7 @@ paint-span-spec =
     private-span-requires
     add-a
     add-e
+    sum-after-requires
     paint-requires
     same-length
     returns)

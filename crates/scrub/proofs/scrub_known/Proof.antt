@@ -1,13 +1,11 @@
 -- `scrub_known`: each return cites the outcome for the checks that led there. Assumes nothing.
 use native.Mathlib.Omega.{arith}
-use Prim.Native.Nat.{_+_}
 use mathlib.Core.Path.{_≡_, sym, ap, _∙_}
 use borrow.Author.Needs.{needs}
 use Rattle.terms.specs.Refusals.{refusal-pos}
 use Rattle.rules.specs.Table.{measureOf}
 use Rattle.rules.specs.Verdicts.{verdictNumber}
 use Rattle.wire.specs.Measures.{fits}
-use Rattle.private.specs.Scrub.{summed}
 use Rattle.private.specs.KnownLaws.{known-refused, known-short, known-done}
 use Rattle.scrub.proofs.scrub_known.Statement.{statement}
 use Rattle.scrub.proofs.scrub_known.Tie as tie
@@ -30,17 +28,17 @@ add-if1 c = omega (arith, fits _ _ (fine c) .small)
 returns : tie.Need-returns
 returns c = known-short _ _ _ (fine (c .before)) (c .if1 .taken)
 
-paint-all-requires : tie.Need-paint-all-requires
-paint-all-requires c κs = (omega arith, fits _ _ (fine (c .before .before)) .suit)
+add-sum : tie.Need-add-sum
+add-sum c = search needs
 
-add-renew-sum : tie.Need-add-renew-sum
-add-renew-sum c = search needs
+sum-requires : tie.Need-sum-requires
+sum-requires c κs = search needs
 
-renew-sum-requires : tie.Need-renew-sum-requires
-renew-sum-requires c κs = search needs
+repaint-requires : tie.Need-repaint-requires
+repaint-requires c κs = (omega arith, (fits _ _ (fine (c .before .before .before .before)) .suit, c .before .sum .ensures))
 
-add-t8 : tie.Need-add-t8
-add-t8 c = search needs
+add-t9 : tie.Need-add-t9
+add-t9 c = search needs
 
 returns-2 : tie.Need-returns-2
 returns-2 c = known-refused _ _ _ _ (sym (c .before .before .before .measure .ensures) ∙ ap verdictNumber (c .before .why .given .1)) (refusal-pos (c .before .why .given .0 .0))
@@ -50,11 +48,8 @@ same-length c = search needs
 
 returns-3 : tie.Need-returns-3
 returns-3 c =
-    let e = c .before .before .before .before .before .before .before .before in
-    let r = known-done _ _ _ (fine (e .before)) (e .if1 .left) in (
-      r .0,
-      c .before .before .renew-sum .ensures ∙ ap (summed (24 + e .before .before .before .before .before .args .n)) (c .before .before .before .before .before .before .paint-all .ensures) ∙ r .1,
-    )
+    let e = c .before .before .before .before .before .before in
+    let r = known-done _ _ _ (fine (e .before)) (e .if1 .left) in (r .0, c .before .before .repaint .ensures ∙ r .1)
 
 pub scrub-known-spec : {M : Type 1} → statement M
 scrub-known-spec =
@@ -65,10 +60,10 @@ scrub-known-spec =
     enum-told
     add-if1
     returns
-    paint-all-requires
-    add-renew-sum
-    renew-sum-requires
-    add-t8
+    add-sum
+    sum-requires
+    repaint-requires
+    add-t9
     returns-2
     same-length
     returns-3)

@@ -1,4 +1,4 @@
--- `renew_sum`: there is room for the four bytes. Assumes nothing.
+-- `store_sum`: there is room for the four bytes. Assumes nothing.
 use native.Mathlib.Omega.{arith}
 use Rattle.private.specs.Scrub.{summed}
 use Rattle.octets.specs.Papers.{laid-there}
@@ -8,14 +8,8 @@ use lib.ListN.{length}
 use Prim.Native.Nat.{_+_}
 use mathlib.Core.Path.{_∙_}
 use borrow.Author.Needs.{needs}
-use Rattle.scrub.proofs.renew_sum.Statement.{statement}
-use Rattle.scrub.proofs.renew_sum.Tie as tie
-
-sum-requires : tie.Need-sum-requires
-sum-requires c κs = search needs
-
-cast-put : tie.Need-cast-put
-cast-put c = search needs
+use Rattle.scrub.proofs.store_sum.Statement.{statement}
+use Rattle.scrub.proofs.store_sum.Tie as tie
 
 put-requires : tie.Need-put-requires
 put-requires c κs = search needs
@@ -26,10 +20,11 @@ same-length c = search needs
 returns : tie.Need-returns
 unfolding summed
 returns c =
-    let a = c .before .before .before .before .before .before .before .args in
+    let s = c .before .before .before .before .before in
+    let a = s .args in
     c .before .before .put .ensures .1
     ∙ laid-there (a .n) 4 _ _ (length-digits 256 4 _) (le-leb (a .n + 4) (length (a .buf .now)) (omega arith))
-    ∙ rw (c .before .before .before .before .sum .ensures)
+    ∙ rw (s .pre .1)
 
-pub renew-sum-spec : {M : Type 1} → statement M
-renew-sum-spec = tie.close (tie.spec sum-requires cast-put put-requires same-length returns)
+pub store-sum-spec : {M : Type 1} → statement M
+store-sum-spec = tie.close (tie.spec put-requires same-length returns)
