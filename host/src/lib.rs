@@ -1,5 +1,6 @@
-//! Safe functions over the proved library. Each answers a value, or one of document 01's refusals; a refusal writes nothing into
-//! anything lent. What is proved is the library, not this wrapper: tests/ holds it against the C header and against oracle/.
+//! Safe functions over the proved library. Each returns a value, or a refusal of document 01's
+//! table; a refusal writes nothing to any argument. The library is proved, this wrapper is tested:
+//! tests/ compares it with the C header and with oracle/.
 
 #![deny(unsafe_code)]
 
@@ -9,10 +10,10 @@ use std::fmt;
 #[allow(unsafe_code)]
 mod raw;
 
-/// The places and lengths that are told are 64-bit numbers.
+/// Places and lengths are 64-bit numbers.
 const _: () = assert!(usize::BITS == 64);
 
-/// A refusal: a row of document 01's table, but for 0, or one of document 02.
+/// A refusal: any row of document 01's table but 0, or one of document 02.
 #[derive(Clone, Copy, Debug, PartialEq, Eq, Hash)]
 #[repr(u32)]
 pub enum Refusal {
@@ -20,13 +21,13 @@ pub enum Refusal {
     More = 1,
     /// MsgType is not in the table.
     Type = 2,
-    /// The body is above 8,164 bytes.
+    /// The body is longer than 8,164 bytes.
     Long = 3,
     /// BodyLength doesn't suit the type.
     Length = 4,
-    /// CheckSum differs.
+    /// CheckSum is wrong.
     Sum = 5,
-    /// A field rule is broken.
+    /// A field breaks its rule.
     Field = 6,
     /// The output buffer is shorter than what is to be written.
     Room = 8,
@@ -38,7 +39,7 @@ pub enum Refusal {
     Repeat = 11,
     /// The tick is above floor + 256 and not a repeat.
     Far = 12,
-    /// A state passed in breaks its state rules.
+    /// The state breaks its rules. You see this only if other code wrote it.
     State = 13,
     /// A request is pending.
     Busy = 14,
@@ -50,11 +51,11 @@ pub enum Refusal {
     Status = 17,
     /// The call names another channel.
     Channel = 18,
-    /// A call after a stream's closing one.
+    /// The stream is closed already.
     Closed = 19,
-    /// The entry reader's body is below 73 bytes, its place is none of an entry, or that entry passes the body's end.
+    /// The body is below 73 bytes, no entry is at this place, or it passes the body's end.
     Entries = 20,
-    /// The places of a stream would pass 64 bits.
+    /// A place in the stream would not fit 64 bits.
     Places = 29,
 }
 
@@ -83,12 +84,12 @@ impl Refusal {
         Refusal::Places,
     ];
 
-    /// The table's number.
+    /// Its number in the table.
     pub fn number(self) -> u32 {
         self as u32
     }
 
-    /// The table's word.
+    /// Its name in the table.
     pub fn name(self) -> &'static str {
         match self {
             Refusal::More => "more",
@@ -114,7 +115,7 @@ impl Refusal {
         }
     }
 
-    /// The refusal of a number; none for 0 and for a number that the table lacks.
+    /// The refusal with a number; none for 0 or a number that is not in the table.
     pub fn of(number: u32) -> Option<Refusal> {
         Refusal::ALL.into_iter().find(|r| r.number() == number)
     }
@@ -128,7 +129,7 @@ impl fmt::Display for Refusal {
 
 impl Error for Refusal {}
 
-/// What was told, if the answer is 0.
+/// The result, if the code is 0.
 fn told<T>(answer: u32, value: T) -> Result<T, Refusal> {
     match answer {
         0 => Ok(value),
@@ -138,7 +139,7 @@ fn told<T>(answer: u32, value: T) -> Result<T, Refusal> {
 
 // NUMBERS
 
-/// A session's count of frames: MsgSeqNum. Neither a tick's number nor a channel's is taken for one:
+/// A session's count of frames: MsgSeqNum. A tick number or a channel is not accepted for one:
 ///
 /// ```
 /// # use rietknoest_host::*;
@@ -166,8 +167,8 @@ impl SessionNumber {
     }
 }
 
-/// A number of a tick channel: of a tick, of a resend's ends, of a ledger's floor and top. Neither a session's number nor a channel's is
-/// taken for one:
+/// A number within a tick channel: a tick, the ends of a resend, a ledger's floor and top. A
+/// session number or a channel is not accepted for one:
 ///
 /// ```
 /// # use rietknoest_host::*;
@@ -198,7 +199,7 @@ impl TickNumber {
     }
 }
 
-/// A channel: ChannelNO. Neither a session's number nor a tick's is taken for one:
+/// A channel: ChannelNO. A session number or a tick number is not accepted for one:
 ///
 /// ```
 /// # use rietknoest_host::*;
@@ -213,7 +214,7 @@ impl TickNumber {
 /// Ledger::open(TickNumber::new(100)).unwrap();
 /// ```
 ///
-/// It is kept in eight bytes, as the library tells it; the number itself fits into two.
+/// It has eight bytes, as in the library's structs; the number itself fits into two.
 #[derive(Clone, Copy, Debug, Default, PartialEq, Eq, PartialOrd, Ord, Hash)]
 #[repr(transparent)]
 pub struct ChannelNumber(u64);
@@ -230,7 +231,7 @@ impl ChannelNumber {
 
 // FRAMES
 
-/// What reading a frame tells. Channel, tick, first, last and status are 0 where the type has none.
+/// What a frame holds. Channel, tick, first, last and status are 0 if the type has none.
 #[derive(Clone, Copy, Debug, Default, PartialEq, Eq)]
 #[repr(C)]
 pub struct Frame {
@@ -248,29 +249,29 @@ pub struct Frame {
 }
 
 impl Frame {
-    /// MsgType as the frame spells it.
+    /// MsgType as four letters.
     pub fn type_name(&self) -> [u8; 4] {
         (self.msg_type as u32).to_be_bytes()
     }
 
-    /// The bytes of the whole frame.
+    /// The length of the whole frame.
     pub fn frame_len(&self) -> usize {
         self.body_len as usize + HEADER + CHECK_SUM
     }
 }
 
-/// The bytes before a body and behind it.
+/// How many bytes of a frame are not body.
 pub const HEADER: usize = 24;
 pub const CHECK_SUM: usize = 4;
 
-/// Reads the frame at a place. What stands behind it does not matter.
+/// Reads the frame at a place. The bytes after it do not matter.
 pub fn read(bytes: &[u8], place: usize) -> Result<Frame, Refusal> {
     let mut frame = Frame::default();
     let answer = raw::read(bytes, place, &mut frame);
     told(answer, frame)
 }
 
-/// Writes a frame at the front of `out`, and answers how many bytes. The bytes behind it stay.
+/// Writes a frame to the front of `out`, and returns its length. The bytes after it stay.
 pub fn write(
     msg_type: u32,
     sending_time: u64,
@@ -283,21 +284,23 @@ pub fn write(
     told(answer, bytes as usize)
 }
 
-/// Finds the lowest place from `from` on at which a frame reads.
+/// Finds the lowest place, from `from` on, at which a frame reads.
 pub fn search(bytes: &[u8], from: usize) -> Result<Option<usize>, Refusal> {
     let mut found = raw::Found::default();
     let answer = raw::search(bytes, from, &mut found);
     told(answer, found.place())
 }
 
-/// Scrubs the frame at the front of a buffer where it stands, and answers how many bytes it has. The bytes behind it stay.
+/// Scrubs the frame at the front of a buffer in place, and returns its length. The bytes after it
+/// stay.
 pub fn scrub(frame: &mut [u8]) -> Result<usize, Refusal> {
     let mut bytes = 0;
     let answer = raw::scrub(frame, &mut bytes);
     told(answer, bytes as usize)
 }
 
-/// A private part of a body: where it starts, how many bytes it has, and the byte that replaces each.
+/// A private part of a body: where it starts, how many bytes it has, and the byte that replaces
+/// each.
 #[derive(Clone, Copy, Debug, Default, PartialEq, Eq)]
 #[repr(C)]
 pub struct Span {
@@ -306,7 +309,8 @@ pub struct Span {
     pub fill: u64,
 }
 
-/// The private spans of a body of that type. They lie within each body whose length suits the type; the body's bytes are not judged.
+/// The private spans of a body of that type. They are within any body whose length suits the type;
+/// the body is not checked.
 pub fn private_spans(msg_type: u32, body: &[u8]) -> Vec<Span> {
     let mut spans = Vec::new();
     loop {
@@ -319,7 +323,8 @@ pub fn private_spans(msg_type: u32, body: &[u8]) -> Vec<Span> {
     }
 }
 
-/// An entry of an M102 body. `short` is 1 for one of MD001, which has neither size nor position; `behind` is the place behind it.
+/// An entry of an M102 body. `short` is 1 for MD001, whose entries have no size and no position;
+/// `behind` is the place after the entry.
 #[derive(Clone, Copy, Debug, Default, PartialEq, Eq)]
 #[repr(C)]
 pub struct Entry {
@@ -331,7 +336,7 @@ pub struct Entry {
     pub behind: u64,
 }
 
-/// The entries of an M102 body, one after the other; 3, 4 or 6 where it may not be walked.
+/// The entries of an M102 body, one after the other; 3, 4 or 6 if the body is not sound.
 pub fn entries(body: &[u8]) -> Result<Entries<'_>, Refusal> {
     let mut place = 0;
     let answer = raw::entries(body, &mut place);
@@ -339,14 +344,14 @@ pub fn entries(body: &[u8]) -> Result<Entries<'_>, Refusal> {
     told(answer, Entries { body, place })
 }
 
-/// The entry of a body at a place, or 20.
+/// The entry at a place of a body, or 20.
 pub fn entry(body: &[u8], place: usize) -> Result<Entry, Refusal> {
     let mut entry = Entry::default();
     let answer = raw::entry(body, place, &mut entry);
     told(answer, entry)
 }
 
-/// The steps over an M102 body.
+/// Iterates over the entries of an M102 body.
 #[derive(Clone, Debug)]
 pub struct Entries<'a> {
     body: &'a [u8],
@@ -356,7 +361,7 @@ pub struct Entries<'a> {
 impl Iterator for Entries<'_> {
     type Item = Entry;
 
-    /// The next entry. Of a body that may be walked, 20 is only said behind the last.
+    /// The next entry. In a sound body 20 comes only after the last.
     fn next(&mut self) -> Option<Entry> {
         let step = entry(self.body, self.place).ok()?;
         self.place = step.behind as usize;
@@ -366,14 +371,14 @@ impl Iterator for Entries<'_> {
 
 // THE LEDGER
 
-/// The gap ledger of one tick channel. Its words are not to be interpreted: `told` says all there is to know.
+/// The gap ledger of one tick channel. Do not read its words: `told` returns what it holds.
 #[derive(Clone, Copy, Debug, PartialEq, Eq)]
 #[repr(C)]
 pub struct Ledger {
     words: [u64; 9],
 }
 
-/// A run of numbers: the first, and how many. Where there are none, the first is the one above the floor.
+/// A run of numbers: the first, and how many. If there are none, the first is floor + 1.
 #[derive(Clone, Copy, Debug, Default, PartialEq, Eq)]
 #[repr(C)]
 pub struct Passed {
@@ -389,7 +394,8 @@ pub struct Request {
     pub last: TickNumber,
 }
 
-/// What a ledger has to tell. `asked_first` and `asked_last` are the pending request's, 0 and 0 where nothing is pending.
+/// What a ledger holds. `asked_first` and `asked_last` are the pending request; 0 and 0 if there is
+/// none.
 #[derive(Clone, Copy, Debug, Default, PartialEq, Eq)]
 #[repr(C)]
 pub struct Told {
@@ -410,7 +416,8 @@ impl Ledger {
         told(answer, ledger)
     }
 
-    /// Offers a tick, and answers the numbers that the floor has newly passed. Of the refusals 12 alone changes the ledger: it raises the top.
+    /// Offers a tick, and returns the numbers that the floor has just passed. Only one refusal
+    /// changes the ledger: 12 raises the top.
     pub fn tick(&mut self, channel: ChannelNumber, number: TickNumber) -> Result<Passed, Refusal> {
         let mut passed = Passed::default();
         let answer = raw::ledger_tick(self, channel.value(), number.value(), &mut passed);
@@ -425,14 +432,14 @@ impl Ledger {
         )
     }
 
-    /// Asks for a resend request, which is pending from now on.
+    /// Asks what to request again. The range returned is pending from now on.
     pub fn request(&mut self, channel: ChannelNumber) -> Result<Request, Refusal> {
         let mut request = Request::default();
         let answer = raw::ledger_request(self, channel.value(), &mut request);
         told(answer, request)
     }
 
-    /// The exchange's reply to the pending request, which is cleared.
+    /// The exchange's reply to the pending request, which is then no longer pending.
     pub fn reply(
         &mut self,
         channel: ChannelNumber,
@@ -445,19 +452,19 @@ impl Ledger {
         )
     }
 
-    /// What the ledger has to tell, or 13.
+    /// What the ledger holds, or 13.
     pub fn told(&self) -> Result<Told, Refusal> {
         let mut row = Told::default();
         let answer = raw::ledger_told(self, &mut row);
         told(answer, row)
     }
 
-    /// The words, for keeping the ledger in a file.
+    /// The words, to save the ledger.
     pub fn to_words(self) -> [u64; 9] {
         self.words
     }
 
-    /// The ledger of words that were kept. Each call answers 13 if they break the state rules.
+    /// The ledger of saved words. Each call returns 13 if they break the state rules.
     pub fn of_words(words: [u64; 9]) -> Ledger {
         Ledger { words }
     }
@@ -465,7 +472,7 @@ impl Ledger {
 
 // CAPTURES
 
-/// What a walk comes to, with the ledger of channel 100 behind it.
+/// The result of a walk, with the ledger of channel 100 at its end.
 #[derive(Clone, Copy, Debug, PartialEq, Eq)]
 pub struct Walked {
     pub records: usize,
@@ -474,20 +481,22 @@ pub struct Walked {
     pub ledger: Ledger,
 }
 
-/// The bytes of a record.
+/// The length of a record.
 pub const RECORD: usize = 64;
 
-/// Bytes that hold the records of each capture of `len` bytes: at most two for every 29 bytes, and two more.
+/// Room for the records of any capture of `len` bytes: at most two for every 29 bytes, and two
+/// more.
 pub fn records_room(len: usize) -> usize {
     (2 * (len / 29) + 2) * RECORD
 }
 
-/// Bytes that hold the listing of so many records: at most 127 for each, and 138 for the last line.
+/// Room for the listing of so many records: at most 127 bytes for each, and 138 for the last line.
 pub fn text_room(records: usize) -> usize {
     records * 127 + 138
 }
 
-/// Walks a capture: a record of 64 bytes for each reading, at the front of `records`; 8 where they have no room.
+/// Walks a capture: a record of 64 bytes for each reading, at the front of `records`; 8 if they do
+/// not fit.
 pub fn walk(capture: &[u8], records: &mut [u8]) -> Result<Walked, Refusal> {
     let mut ledger = Ledger { words: [0; 9] };
     let mut counts = raw::Counts::default();
@@ -501,7 +510,8 @@ pub fn walk(capture: &[u8], records: &mut [u8]) -> Result<Walked, Refusal> {
     told(answer, walked)
 }
 
-/// The listing of what a walk left: the line of each whole record of `records`, then the last line; answers how many bytes of `text`.
+/// The listing of a walk's records: a line for each whole record of `records`, then the last line.
+/// Returns how many bytes of `text` it has.
 pub fn listing(records: &[u8], walked: &Walked, text: &mut [u8]) -> Result<usize, Refusal> {
     let mut bytes = 0;
     let Walked {
@@ -514,8 +524,9 @@ pub fn listing(records: &[u8], walked: &Walked, text: &mut [u8]) -> Result<usize
     told(answer, bytes as usize)
 }
 
-/// What cleaning a capture comes to. `after_damage` counts the frames that the search found, the first behind each damage: such a frame may
-/// lie inside private bytes of a damaged one, and so may those that follow it without a gap, which are not counted.
+/// The result of cleaning a capture. `after_damage` counts the frames that the search found after
+/// damage. One of these may come from private bytes of a damaged frame; so may the frames that
+/// follow it without a gap, which are not counted.
 #[derive(Clone, Copy, Debug, Default, PartialEq, Eq)]
 #[repr(C)]
 pub struct Cleaned {
@@ -524,16 +535,16 @@ pub struct Cleaned {
     pub after_damage: u64,
 }
 
-/// A capture, scrubbed: its accepted frames at the front of `out`, stray bytes left out; 8 where they have no room. As many bytes as the
-/// capture has are always enough. While it runs, `out` holds each frame for a moment as the capture has it, before its private bytes are
-/// painted over: lend memory of your own, and not a mapped file.
+/// Scrubs a capture: its accepted frames go to the front of `out`, stray bytes are left out; 8 if
+/// they do not fit. The capture's length is always room enough. While it runs, `out` briefly holds
+/// each frame unscrubbed: use memory of your own, not a mapped file.
 pub fn clean(capture: &[u8], out: &mut [u8]) -> Result<Cleaned, Refusal> {
     let mut cleaned = Cleaned::default();
     let answer = raw::clean(capture, out, &mut cleaned);
     told(answer, cleaned)
 }
 
-/// None where a capture is what cleaning it gives, else the first place where the two differ.
+/// None if a capture is clean, else the first place that `clean` would change.
 pub fn is_clean(capture: &[u8]) -> Option<usize> {
     let mut changed = raw::Found::default();
     raw::is_clean(capture, &mut changed);
@@ -542,24 +553,27 @@ pub fn is_clean(capture: &[u8]) -> Option<usize> {
 
 // A CAPTURE WHILE IT ARRIVES
 
-/// As many bytes wait between two calls of a stream, at most.
+/// At most so many bytes wait between two calls of a stream.
 pub const KEPT: usize = 8_191;
 
-/// A capture that is read while it arrives, in cuts of any size. However it is cut, the records of all calls, the counts and the ledger are
-/// those of `walk` over the joined bytes of the calls that were not refused.
+/// A capture that is read while it arrives, in cuts of any size. However it is cut, the records of
+/// all calls, the counts and the ledger are those of `walk` over the joined bytes of the calls that
+/// were not refused.
 ///
-/// The bytes that wait are kept as they came, private ones among them; so there is no `Debug`.
+/// The bytes that wait are kept as they came, private ones included; so there is no `Debug`.
 #[derive(Clone, PartialEq, Eq)]
 #[repr(C)]
 pub struct Stream {
     words: [u64; 6],
-    /// The ledger of channel 100. A request may be put to it between two calls, and a reply; the walk offers it neither.
+    /// The ledger of channel 100. You may make a request or a reply on it between two calls; the
+    /// walk makes neither.
     pub ledger: Ledger,
     kept: [u8; KEPT],
 }
 
-/// What a call of a stream comes to. `records` counts those of this call, `frames` and `refused` the readings so far; `place` is that of the
-/// first byte that waits, or of the next to come, and `waiting` how many bytes wait.
+/// The result of a stream's call. `records` counts those of this call, `frames` and `refused` the
+/// readings so far; `place` is that of the first byte that waits, or of the next one to come;
+/// `waiting` is how many bytes wait.
 #[derive(Clone, Copy, Debug, Default, PartialEq, Eq)]
 #[repr(C)]
 pub struct Fed {
@@ -571,34 +585,37 @@ pub struct Fed {
 }
 
 impl Stream {
-    /// A stream to which no byte came.
+    /// A fresh stream.
     pub fn open() -> Stream {
         let mut stream = Stream::of_parts([0; 6], Ledger::of_words([0; 9]), [0; KEPT]);
         raw::stream_open(&mut stream);
         stream
     }
 
-    /// One more cut, perhaps of no bytes: the records of the readings that it decides, at the front of `records`; 8 where they have no room.
-    /// `records_room` of the bytes that wait and the cut's is always enough.
+    /// One more cut, perhaps empty: the records of the readings that it decides, at the front of
+    /// `records`; 8 if they do not fit. `records_room` of the bytes that wait and the cut's is
+    /// always enough.
     pub fn feed(&mut self, cut: &[u8], records: &mut [u8]) -> Result<Fed, Refusal> {
         let mut fed = Fed::default();
         let answer = raw::stream_feed(self, cut, records, &mut fed);
         told(answer, fed)
     }
 
-    /// No more bytes come: what waits is walked as the end of a capture. Refused by 8, the stream is still open.
+    /// Ends the stream: what waits is walked as the end of a capture. After 8 the stream is still
+    /// open.
     pub fn close(&mut self, records: &mut [u8]) -> Result<Fed, Refusal> {
         let mut fed = Fed::default();
         let answer = raw::stream_close(self, records, &mut fed);
         told(answer, fed)
     }
 
-    /// The words, the ledger and the bytes that wait, zeros behind them, for keeping the stream in a file. These bytes are not scrubbed.
+    /// The words, the ledger and the bytes that wait, with zeros after them, to save the stream.
+    /// These bytes are not scrubbed.
     pub fn into_parts(self) -> ([u64; 6], Ledger, [u8; KEPT]) {
         (self.words, self.ledger, self.kept)
     }
 
-    /// The stream of parts that were kept. Each call answers 13 if they break the state rules.
+    /// The stream of saved parts. Each call returns 13 if they break the state rules.
     pub fn of_parts(words: [u64; 6], ledger: Ledger, kept: [u8; KEPT]) -> Stream {
         Stream {
             words,

@@ -1,11 +1,12 @@
-//! The library's functions as include/rietknoest.h declares them, and each as a safe function. What makes them safe is the same for all: a
-//! slice is lent as its pointer and its length, a row of numbers as the pointer to a `repr(C)` struct of just so many; the library keeps
-//! no pointer and stays within what it is lent; and a reference that is written through is Rust's only one. The declarations are checked
-//! by tests/declarations.rs.
+//! The library's functions as include/rietknoest.h declares them, and a safe function for each.
+//! They are safe for the same reasons: a slice is passed as its pointer and length, a struct as a
+//! pointer to a `repr(C)` struct of the same size; the library keeps no pointer and stays within
+//! its arguments; and what it writes to is borrowed by nobody else. tests/declarations.rs checks
+//! the declarations.
 
 use super::{Cleaned, Entry, Fed, Frame, Ledger, Passed, Request, Span, Stream, Told, KEPT};
 
-/// A place, or none where `any` is 0.
+/// A place, or none if `any` is 0.
 #[derive(Default)]
 #[repr(C)]
 pub struct Found {
@@ -19,7 +20,7 @@ impl Found {
     }
 }
 
-/// What a walk counts.
+/// The counts of a walk.
 #[derive(Default)]
 #[repr(C)]
 pub struct Counts {
