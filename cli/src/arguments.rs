@@ -1,4 +1,4 @@
-//! The words that the command is called with.
+//! The command's arguments.
 
 use std::ffi::{OsStr, OsString};
 
@@ -54,7 +54,7 @@ pub enum Command {
     },
 }
 
-/// What the words behind the program's name ask for.
+/// What the arguments ask for.
 pub fn parse(mut words: impl Iterator<Item = OsString>) -> Result<Command, Trouble> {
     let Some(name) = words.next() else {
         return wrong("no command is given");
@@ -110,7 +110,7 @@ fn command(name: &str, mut words: impl Iterator<Item = OsString>) -> Result<Comm
     }
 }
 
-/// The file and the place. A number too large for a place lies beyond the end of every file.
+/// The file and the place. A number too large for a place is beyond the end of every file.
 fn explain(words: Vec<OsString>) -> Result<Command, Trouble> {
     let Ok([file, place]) = <[OsString; 2]>::try_from(words) else {
         return wrong("explain: it takes a file and a place");

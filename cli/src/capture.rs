@@ -11,7 +11,7 @@ use rietknoest_host::{records_room, Stream, Walked, KEPT, RECORD};
 
 use crate::Trouble;
 
-/// A file's name as it is shown: what is no text is replaced, and a control character is spelt out.
+/// A file's name for display: bytes that are no text are replaced, control characters escaped.
 pub fn shown(name: &OsStr) -> String {
     let mut text = String::new();
     for letter in name.to_string_lossy().chars() {
@@ -28,7 +28,7 @@ pub fn is_standard(name: &OsStr) -> bool {
     name == "-"
 }
 
-/// Which file it is, whatever it is called: device and inode.
+/// Which file it is, under any name: device and inode.
 #[derive(Clone, Copy, PartialEq, Eq)]
 pub struct Identity(u64, u64);
 
@@ -38,17 +38,17 @@ impl Identity {
     }
 }
 
-/// A file that this program was started with, as one of its own.
+/// A file that this program was started with, duplicated.
 pub fn opened(standard: impl AsFd) -> io::Result<File> {
     Ok(File::from(standard.as_fd().try_clone_to_owned()?))
 }
 
-/// At most so many bytes are read at once.
+/// At most so many bytes are read at a time.
 const PIECE: usize = 65_536;
 
-/// An open capture, of which nothing is read so far.
+/// An open capture, not read yet.
 pub struct Source {
-    /// Its name as it is shown.
+    /// Its name for display.
     pub name: String,
     pub identity: Identity,
     file: File,
@@ -83,7 +83,7 @@ impl Source {
         }
     }
 
-    /// What is there of it, at least a byte and at most as many as there is room for; no byte at its end.
+    /// The bytes that are there, at least one and at most as many as fit; none at its end.
     fn piece(&mut self, room: &mut [u8]) -> Result<usize, Trouble> {
         loop {
             match self.file.read(room) {
@@ -93,7 +93,8 @@ impl Source {
         }
     }
 
-    /// Walks it while it arrives, and tells each step as soon as it is decided; the last one at its end.
+    /// Walks it while it arrives, and passes on each step as soon as it is decided; the last one at
+    /// its end.
     pub fn follow(
         mut self,
         mut tell: impl FnMut(Step) -> Result<(), Trouble>,
@@ -134,24 +135,24 @@ impl Source {
     }
 }
 
-/// What became decided of a capture that arrives.
+/// The part of an arriving capture that one call decided.
 pub struct Step<'a> {
-    /// From where the step before ended.
+    /// The bytes since the step before.
     pub bytes: &'a [u8],
-    /// Of the readings in these bytes.
+    /// The records of the readings in these bytes.
     pub records: &'a [u8],
-    /// The counts from the capture's start on and the ledger behind them, with the number of these records.
+    /// Counts since the capture's start, the ledger after them, and the number of these records.
     pub walked: Walked,
     pub is_last: bool,
 }
 
-/// Whether a record is of a reading that was refused: its type is blank.
+/// Whether a record is of a refused reading: its type is blank.
 pub fn is_refused(record: &[u8]) -> bool {
     record[8..12] == *b"    "
 }
 
 pub struct Capture {
-    /// Its name as it is shown.
+    /// Its name for display.
     pub name: String,
     pub bytes: Vec<u8>,
 }
@@ -162,9 +163,10 @@ impl Capture {
         Source::open(name)?.whole()
     }
 
-    /// Zeros, so many; an error where there is no memory for them. Only what is written to is taken of it.
+    /// So many zeros, or an error if there is no memory for them. Pages that are not written to
+    /// cost none.
     pub fn room(&self, len: usize) -> Result<Vec<u8>, Trouble> {
-        // asked for first, and given back: `vec!` ends the program where it gets none
+        // reserved first, and given back: `vec!` ends the program if it gets none
         let mut asked = Vec::<u8>::new();
         let given = asked.try_reserve_exact(len);
         drop(black_box(asked));
@@ -186,14 +188,15 @@ impl Capture {
     }
 }
 
-/// What a walk left: its records, its counts and its ledger.
+/// The result of a walk: records, counts and ledger.
 pub struct Walk {
     pub records: Vec<u8>,
     pub walked: Walked,
 }
 
 impl Walk {
-    /// The places at which the walk reads. They rise. A record starts with its place, eight bytes, high byte first.
+    /// The places at which the walk reads, in rising order. A record starts with its place, eight
+    /// bytes, high byte first.
     pub fn places(&self) -> impl Iterator<Item = usize> + '_ {
         self.records
             .chunks_exact(RECORD)

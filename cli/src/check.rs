@@ -7,7 +7,8 @@ use rietknoest_host::{is_clean, private_spans, read, Frame, HEADER};
 use crate::capture::Capture;
 use crate::{names, print, Status, Trouble};
 
-/// Amiss where cleaning the capture would change a byte of it. Told is the first place where it would, and what stands there.
+/// Amiss if cleaning the capture would change a byte. Prints the first such place, and what is
+/// there.
 pub fn check(file: &OsStr) -> Result<Status, Trouble> {
     let capture = Capture::read(file)?;
     let Some(place) = is_clean(&capture.bytes) else {
@@ -22,8 +23,9 @@ pub fn check(file: &OsStr) -> Result<Status, Trouble> {
     Ok(Status::Amiss)
 }
 
-/// What stands at the first place that is not clean. Where a reading up to there was refused, the capture is out of step with its
-/// cleaned one from that reading on: its bytes are stray. Else the place lies in the last frame read.
+/// What is at the first place that is not clean. If a reading up to there was refused, the cleaned
+/// capture differs from that reading on: its bytes are stray. Else the place is in the last frame
+/// read.
 fn standing_at(capture: &Capture, place: usize) -> Result<String, Trouble> {
     let walk = capture.walk()?;
     let mut last = None;
@@ -44,7 +46,8 @@ fn standing_at(capture: &Capture, place: usize) -> Result<String, Trouble> {
     }))
 }
 
-/// The name of the private field of a frame in which a place lies. Scrubbing changes these fields and the checksum, and no more.
+/// The name of the private field that a place is in. Scrubbing changes these fields and the
+/// checksum, nothing else.
 fn field_at(capture: &Capture, at: usize, frame: &Frame, place: usize) -> &'static str {
     let body = &capture.bytes[at + HEADER..][..frame.body_len as usize];
     let within = private_spans(frame.msg_type as u32, body)

@@ -8,8 +8,9 @@ use rietknoest_host::{private_spans, read, Frame, HEADER};
 use crate::capture::{Capture, Walk};
 use crate::{count, names, print, Status, Trouble};
 
-/// Amiss where reading refuses. A frame's fields are told where the walk reads it, and nowhere else: a frame that reads inside another
-/// may lie in private bytes. Of a refused frame nothing is told but the answer's number, its name and its rule.
+/// Amiss if reading refuses. A frame's fields are printed only where the walk reads it: a frame
+/// that reads inside another may be in private bytes. Of a refused frame only the answer's number,
+/// name and rule are printed.
 pub fn explain(file: &OsStr, place: usize) -> Result<Status, Trouble> {
     let capture = Capture::read(file)?;
     let end = capture.bytes.len();
@@ -34,7 +35,7 @@ pub fn explain(file: &OsStr, place: usize) -> Result<Status, Trouble> {
     Ok(Status::amiss(answer.is_err()))
 }
 
-/// The fields that may be told of a frame that the walk reads.
+/// The public fields of a frame that the walk reads.
 fn fields(capture: &Capture, walk: &Walk, place: usize, frame: &Frame) -> String {
     let mut text = format!(
         "MsgType {}, {}\n",
@@ -65,7 +66,7 @@ fn fields(capture: &Capture, walk: &Walk, place: usize, frame: &Frame) -> String
         count(len as u64, "byte"),
         place + len
     );
-    // behind damage a frame was found by the search, or follows without a gap one that was
+    // after damage a frame was found by the search, or follows one that was without a gap
     let mut before = walk.places().take_while(|at| *at < place);
     if before.any(|at| read(&capture.bytes, at).is_err()) {
         text.push_str(
@@ -75,7 +76,7 @@ fn fields(capture: &Capture, walk: &Walk, place: usize, frame: &Frame) -> String
     text
 }
 
-/// Where the walk goes on behind a refused reading.
+/// Where the walk goes on after a refused reading.
 fn onward(walk: &Walk, place: usize) -> String {
     match walk.places().find(|at| *at > place) {
         Some(next) => format!("the walk goes on at {next}, where the next frame reads\n"),
@@ -83,7 +84,7 @@ fn onward(walk: &Walk, place: usize) -> String {
     }
 }
 
-/// Where a place lies that the walk passes over, with its last reading at `at`.
+/// What a place is in where the walk does not read. The reading before it is at `at`.
 fn passed_over(capture: &Capture, at: usize) -> String {
     let lies = match read(&capture.bytes, at) {
         Ok(frame) => format!("inside the {} at {at}", names::letters(&frame)),

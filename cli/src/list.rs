@@ -16,7 +16,8 @@ pub fn list(file: &OsStr) -> Result<Status, Trouble> {
     Ok(status)
 }
 
-/// Each line as soon as its reading is decided, and the last line at the end. Where nobody reads them any more it ends there.
+/// Prints each line as soon as its reading is decided, and the last line at the end. Stops if
+/// standard output is closed.
 pub fn follow(file: &OsStr) -> Result<Status, Trouble> {
     let source = Source::open(file)?;
     let name = source.name.clone();
@@ -41,7 +42,8 @@ pub fn follow(file: &OsStr) -> Result<Status, Trouble> {
     }
 }
 
-/// A line for each record, then the line that counts. Amiss where that one counts a refused reading or a missing number.
+/// A line for each record, then the line of counts. Amiss if that one counts a refused reading or a
+/// missing number.
 fn lines<'a>(
     name: &str,
     records: &[u8],

@@ -1,5 +1,6 @@
-//! The command `rietknoest`: lists, scrubs, checks and explains captures. It holds no rule of the documents: what a byte means is asked
-//! of `rietknoest_host`. What is written here is about files, words and exit statuses, and is tested, not proved.
+//! The command `rietknoest`: lists, scrubs, checks and explains captures. It has no rule of the
+//! documents: what a byte means is up to `rietknoest_host`. Files, words and exit statuses are
+//! handled here, tested but not proved.
 
 #![forbid(unsafe_code)]
 
@@ -19,7 +20,7 @@ use std::process::ExitCode;
 use arguments::Command;
 use rietknoest_host::Refusal;
 
-/// How a command ended that did its work.
+/// How a command that did its work ended.
 #[derive(Clone, Copy)]
 enum Status {
     Well = 0,
@@ -39,23 +40,23 @@ impl Status {
 
 /// Why a command could not do its work: exit status 2.
 enum Trouble {
-    /// How it was called.
+    /// Wrong arguments.
     Usage(String),
-    /// A file, as it is shown, and what is the matter with it.
+    /// A file's name for display, and what is wrong with it.
     File(String, String),
-    /// Nobody reads what should be written. There is nobody to tell either.
+    /// The output was closed. There is nobody to tell either.
     Unread,
 }
 
 impl Trouble {
     fn of(name: &str, error: &io::Error) -> Trouble {
-        // the system's words, without its number
+        // the system's message, without its number
         let what = error.to_string();
         let what = what.split(" (os error").next().unwrap_or_default();
         Trouble::File(name.to_string(), what.to_string())
     }
 
-    /// No call that is made here is refused: each has the room that it needs.
+    /// No call here is refused: each has the room that it needs.
     fn refused(name: &str, refusal: Refusal) -> Trouble {
         Trouble::File(name.to_string(), format!("refused, {refusal}"))
     }
@@ -92,12 +93,12 @@ fn run(command: Command) -> Result<Status, Trouble> {
     }
 }
 
-/// A line on standard error. Where that can't be written there is nowhere left to say so.
+/// A line on standard error. If that can't be written there is nowhere left to say so.
 fn say(what: &str) {
     let _ = writeln!(io::stderr(), "rietknoest: {what}");
 }
 
-/// Text on standard output. A reader who has gone away has read what it wanted.
+/// Text on standard output. If the reader has gone away, it has read what it wanted.
 fn print(text: impl AsRef<[u8]>) -> Result<(), Trouble> {
     match put(text.as_ref()) {
         Err(Trouble::Unread) => Ok(()),
@@ -115,7 +116,7 @@ fn put(bytes: &[u8]) -> Result<(), Trouble> {
     }
 }
 
-/// So many, and of what.
+/// A count with its noun.
 fn count(n: u64, what: &str) -> String {
     format!("{n} {what}{}", if n == 1 { "" } else { "s" })
 }

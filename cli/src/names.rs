@@ -1,4 +1,5 @@
-//! Document 01's names and words. No rule stands here: which bytes are private, and what reads, is the library's to say.
+//! Document 01's names and words, no rules: the library decides which bytes are private, and what
+//! reads.
 
 use rietknoest_host::{Frame, Refusal};
 
@@ -34,7 +35,7 @@ pub fn private_fields(frame: &Frame) -> &'static [&'static str] {
     }
 }
 
-/// What the library tells of a body, by name; what the type does not have is left out.
+/// What the library returns of a body, by name; what the type does not have is left out.
 pub fn public_fields(frame: &Frame) -> Vec<(&'static str, u64)> {
     let channel = ("ChannelNO", frame.channel.value().into());
     match &frame.type_name() {
@@ -50,7 +51,7 @@ pub fn public_fields(frame: &Frame) -> Vec<(&'static str, u64)> {
     }
 }
 
-/// Why reading refuses, as the table has it.
+/// Why reading refuses, in the table's words.
 pub fn reason(refusal: Refusal) -> &'static str {
     match refusal {
         Refusal::More => {

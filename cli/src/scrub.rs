@@ -8,7 +8,8 @@ use crate::capture::{is_refused, Source};
 use crate::target::Target;
 use crate::{count, say, Status, Trouble};
 
-/// Amiss where a byte of the capture was left out, since something was refused there. With `whole` nothing is written then.
+/// Amiss if a byte of the capture was left out, since something was refused there. With `whole`
+/// nothing is written then.
 pub fn scrub(from: &OsStr, to: &OsStr, whole: bool) -> Result<Status, Trouble> {
     let source = Source::open(from)?;
     let target = Target::of(to, source.identity)?;
@@ -42,10 +43,11 @@ pub fn scrub(from: &OsStr, to: &OsStr, whole: bool) -> Result<Status, Trouble> {
     Ok(Status::amiss(stray > 0))
 }
 
-/// Reads all of it first, and writes nothing where a byte is stray. What was kept, and how many bytes were not.
+/// Reads all of it first, and writes nothing if a byte is stray. Returns what was kept, and how
+/// many bytes were not.
 fn scrub_whole(source: Source, target: Target) -> Result<(Cleaned, u64), Trouble> {
     let capture = source.whole()?;
-    // memory of our own: each frame stands in it for a moment as it was, before it is painted
+    // memory of our own: it briefly holds each frame unscrubbed
     let mut cleaned = capture.room(capture.bytes.len())?;
     let done = clean(&capture.bytes, &mut cleaned)
         .map_err(|refusal| Trouble::refused(&capture.name, refusal))?;
@@ -58,8 +60,9 @@ fn scrub_whole(source: Source, target: Target) -> Result<(Cleaned, u64), Trouble
     Ok((done, stray))
 }
 
-/// Writes each frame as soon as it is decided. The frames of a step's bytes are those that the walk over the whole reads there: each lies in
-/// them whole, and a place that reads in them reads in the whole.
+/// Writes each frame as soon as it is decided. The frames in a step's bytes are those that the walk
+/// over the whole capture reads there: no frame crosses the end of a step, and a place that reads
+/// in them reads in the whole.
 fn scrub_arriving(source: Source, target: Target) -> Result<(Cleaned, u64), Trouble> {
     let name = source.name.clone();
     let mut output = target.open()?;
@@ -74,7 +77,7 @@ fn scrub_arriving(source: Source, target: Target) -> Result<(Cleaned, u64), Trou
         done.bytes += cleaned.bytes;
         done.frames += cleaned.frames;
         stray += step.bytes.len() as u64 - cleaned.bytes;
-        // the search may have begun in a step before
+        // the search may have begun in an earlier step
         for record in step.records.chunks_exact(RECORD) {
             let refused = is_refused(record);
             done.after_damage += u64::from(damage && !refused);

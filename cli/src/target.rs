@@ -1,5 +1,5 @@
-//! Where `scrub` writes. A file appears whole or not at all: it is written beside its place under a name of its own, and renamed. Only
-//! scrubbed bytes are ever written.
+//! Where `scrub` writes. A file appears whole or not at all: it is written beside its place under
+//! another name, and renamed. Only scrubbed bytes are ever written.
 
 use std::ffi::OsStr;
 use std::fs::{self, File, Metadata, OpenOptions};
@@ -13,13 +13,13 @@ use crate::{put, Trouble};
 
 const IS_INPUT: &str = "it is the input, which is never overwritten";
 
-/// Where to write: nothing is made there so far.
+/// Where to write; nothing is created yet.
 pub enum Target {
     Standard,
     File(Place),
 }
 
-/// A file's place, which is not the input's.
+/// A file's path, which is not the input's.
 pub struct Place {
     name: String,
     path: PathBuf,
@@ -28,9 +28,9 @@ pub struct Place {
 }
 
 impl Target {
-    /// The file of that name, which need not be there; refused where it is the input, whatever it is called, or is no plain file. A file
-    /// that is replaced was perhaps open to fewer people than a new one would be: the new one's mode has no bit that the
-    /// old one's lacks.
+    /// The file of that name, which need not exist; refused if it is the input, under any name, or
+    /// no plain file. A replaced file may have been open to fewer people than a new one would be:
+    /// the new one's mode has no bit that the old one's lacks.
     pub fn of(name: &OsStr, input: Identity) -> Result<Target, Trouble> {
         if is_standard(name) {
             let same = opened(io::stdout())
@@ -51,7 +51,7 @@ impl Target {
                 input,
             }));
         }
-        // what is there is replaced where it stands, also behind a link
+        // an existing file is replaced where it is, also through a link
         let found = fs::canonicalize(name).and_then(|path| Ok((fs::metadata(&path)?, path)));
         let (data, path) = found.map_err(|error| Trouble::of(&shown, &error))?;
         if Identity::of(&data) == input {
@@ -81,7 +81,7 @@ impl Target {
     }
 }
 
-/// What is being written. Standard output has it at once; a file is there when all is finished.
+/// What is being written. Standard output gets it at once; a file appears when all is finished.
 pub enum Output {
     Standard,
     File(Place, Beside),
@@ -104,7 +104,8 @@ impl Output {
         };
         let trouble = |error: io::Error| Trouble::of(&place.name, &error);
         beside.file.sync_all().map_err(trouble)?;
-        // looked at before, and as late as can be: somebody may have put the input there meanwhile, or a file that fewer people may open
+        // checked again, as late as possible: somebody may have put the input there meanwhile, or a
+        // file that fewer people may open
         if let Ok(data) = fs::metadata(&place.path) {
             if Identity::of(&data) == place.input {
                 return Err(refused(&place.name, IS_INPUT));
@@ -119,11 +120,11 @@ fn refused(name: &str, what: &str) -> Trouble {
     Trouble::File(name.to_string(), what.to_string())
 }
 
-/// To whom a new file is open.
+/// Who may open a new file.
 pub struct Access {
-    /// The mode that it is made with, before the umask.
+    /// The mode that it is created with, before the umask.
     mode: u32,
-    /// The group of the file that it replaces.
+    /// The group of the replaced file.
     group: Option<u32>,
 }
 
@@ -137,7 +138,7 @@ impl Default for Access {
 }
 
 impl Access {
-    /// As a file has it that is to be replaced.
+    /// As for a file that is to be replaced.
     fn of(data: &Metadata) -> Access {
         Access {
             mode: 0o666 & data.permissions().mode(),
@@ -145,14 +146,16 @@ impl Access {
         }
     }
 
-    /// The mode for a file of another group: that group has nothing, and the old one, whose members are others now, no more than it had.
+    /// The mode if the group is another: that group gets nothing, and the old group's members, who
+    /// are others now, no more than they had.
     fn mode_for_another_group(&self) -> u32 {
         let (group, others) = (self.mode >> 3, self.mode);
         self.mode & 0o600 | (group & others & 0o006)
     }
 }
 
-/// A new file beside another. It is removed when this value goes, unless it has become the other.
+/// A new file beside another. It is removed when this value is dropped, unless it has replaced the
+/// other.
 pub struct Beside {
     path: PathBuf,
     file: File,
@@ -160,8 +163,9 @@ pub struct Beside {
 }
 
 impl Beside {
-    /// A file in the folder of the path. Of which group a file is shows when it is made. Where it is another than that of the file to be
-    /// replaced, this one, still empty, is removed, and one with fewer bits made: who has opened the first reads nothing.
+    /// A file in the folder of the path. A file's group is known only once it is created. If it is
+    /// not the replaced file's, this file, still empty, is removed and one with fewer bits created:
+    /// whoever opened the first reads nothing.
     fn for_access(path: &Path, access: &Access) -> io::Result<Beside> {
         let beside = Beside::made(path, access.mode)?;
         let group = beside.file.metadata()?.gid();
@@ -172,7 +176,7 @@ impl Beside {
         Ok(beside)
     }
 
-    /// A file that was not there before.
+    /// A file that did not exist before.
     fn made(path: &Path, mode: u32) -> io::Result<Beside> {
         let mut tries = 0;
         loop {
@@ -196,7 +200,7 @@ impl Beside {
         }
     }
 
-    /// Takes away the bits that it would not have been made with.
+    /// Removes the mode bits that it would not have been created with.
     fn narrow(&self, access: &Access) -> io::Result<()> {
         let data = self.file.metadata()?;
         let allowed = if access.group == Some(data.gid()) {
@@ -209,7 +213,7 @@ impl Beside {
         self.file.set_permissions(permissions)
     }
 
-    /// Takes the place of the path, whatever stood there.
+    /// Moves to the path, replacing what was there.
     fn become_file(mut self, path: &Path) -> io::Result<()> {
         fs::rename(&self.path, path)?;
         self.done = true;
@@ -229,7 +233,8 @@ impl Drop for Beside {
 mod tests {
     use super::*;
 
-    /// Between the first test and the writing the input is moved to where the result should go: it stays.
+    /// Between the first check and the writing the input is moved to where the result should go: it
+    /// stays.
     #[test]
     fn the_input_that_comes_to_stand_there_stays() {
         let folder = std::env::temp_dir().join(format!("rietknoest-target-{}", process::id()));

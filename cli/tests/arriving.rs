@@ -15,16 +15,16 @@ use std::time::{Duration, Instant};
 use common::*;
 use rietknoest_host::{clean, read};
 
-/// A command that says nothing for so long will not.
+/// A command that prints nothing for so long never will.
 const PATIENCE: Duration = Duration::from_secs(60);
 
-/// The command while it runs, with pipes at its ends.
+/// The running command, with pipes for input and output.
 struct Running {
     child: Child,
     input: ChildStdin,
     /// What comes out, as it comes; it ends with the output.
     output: Receiver<Vec<u8>>,
-    /// What has come out and was not asked for so far.
+    /// What has come out and was not taken yet.
     unread: Vec<u8>,
 }
 
@@ -43,7 +43,7 @@ impl Running {
             let mut piece = vec![0; 65_536];
             let n = out.read(&mut piece).unwrap();
             piece.truncate(n);
-            // where nobody takes it, the pipe is closed
+            // if nobody takes it, the pipe is closed
             if n == 0 || send.send(piece).is_err() {
                 return;
             }
@@ -76,7 +76,7 @@ impl Running {
         String::from_utf8(line).unwrap()
     }
 
-    /// Closes the input. What is still written, the exit status, and standard error.
+    /// Closes the input. Returns what is still written, the exit status, and standard error.
     fn end(mut self) -> Ran {
         drop(self.input);
         loop {
@@ -95,7 +95,8 @@ impl Running {
     }
 }
 
-/// The command over a pipe into which each piece is written by itself; some may have come together when they are read.
+/// The command over a pipe into which each piece is written by itself; some may have come together
+/// when they are read.
 fn run_in_pieces(folder: &Folder, words: &[&str], pieces: &[&[u8]]) -> Ran {
     let mut running = Running::new(folder, words);
     for piece in pieces {
@@ -118,14 +119,15 @@ fn cut_at_random<'a>(dice: &mut Dice, capture: &'a [u8]) -> Vec<&'a [u8]> {
         .collect()
 }
 
-/// Whether two runs are the same in all that they came to.
+/// Whether two runs have the same results.
 #[track_caller]
 fn same(a: &Ran, b: &Ran) {
     assert_eq!((a.status, a.error()), (b.status, b.error()));
     assert!(a.out == b.out, "the outputs differ");
 }
 
-/// `list --follow` of a capture, and `scrub` of it, in these pieces: the first as `list` has it, the second as the library cleans the whole.
+/// In these pieces `list --follow` prints what `list` prints, and `scrub` writes what the library
+/// makes of the whole.
 fn arrives(folder: &Folder, capture: &[u8], pieces: &[&[u8]]) {
     let listed = run_on(folder, &["list"], capture);
     let followed = run_in_pieces(folder, &["list", "--follow"], pieces);
@@ -177,7 +179,7 @@ fn nothing_arrives() {
     arrives(&Folder::new(), b"", &[]);
 }
 
-/// 65,536 bytes are read at once, at most: frames lie across these bounds, and so does damage.
+/// At most 65,536 bytes are read at a time: frames cross these bounds, and so does damage.
 #[test]
 fn long_captures() {
     let folder = Folder::new();
@@ -197,7 +199,8 @@ fn long_captures() {
     }
 }
 
-/// Each line of the sample comes out while the next frame is not yet there. A refused reading is decided by its own bytes too, but for 1.
+/// Each line of the sample comes out before the next frame is there. A refused reading is decided
+/// by its own bytes too, except for 1.
 #[test]
 fn a_line_comes_as_soon_as_it_is_decided() {
     let listing = fs::read_to_string(root().join("crates/listing/stdout")).unwrap();
@@ -228,7 +231,8 @@ fn a_line_comes_as_soon_as_it_is_decided() {
     assert_eq!((ran.status, ran.error()), (Some(1), ""));
 }
 
-/// A frame that is read, then a byte that is none: its refusal is told when the 24 bytes of a header are there, and not at the end alone.
+/// A frame, then a stray byte: its refusal is printed once the 24 bytes of a header are there, not
+/// only at the end.
 #[test]
 fn a_refusal_is_told_before_the_end() {
     let mut running = Running::new(&Folder::new(), &["list", "--follow", "-"]);
@@ -257,7 +261,7 @@ fn frames_come_out_as_they_arrive() {
     assert_eq!((ran.status, ran.out(), ran.error()), (Some(0), "", said));
 }
 
-/// The damage is in one piece, and the frame behind it in the next: it is counted.
+/// The damage is in one piece, and the frame after it in the next: it is counted.
 #[test]
 fn a_frame_after_damage_in_an_earlier_piece() {
     let mut running = Running::new(&Folder::new(), &["scrub", "-", "-o", "-"]);
@@ -287,7 +291,7 @@ fn whole_waits_for_the_end() {
     }
 }
 
-/// The file is there when all is written, and not before.
+/// The file appears when all is written, not before.
 #[test]
 fn a_file_appears_at_the_end() {
     let folder = Folder::new().with("old", b"old");
@@ -305,7 +309,7 @@ fn a_file_appears_at_the_end() {
     assert_eq!(folder.names(), ["new", "old"]);
 }
 
-/// A capture may take hours. The file that stands there at its end decides who may open the new one.
+/// A capture may take hours. The file that is there at its end decides who may open the new one.
 #[test]
 fn a_file_that_was_closed_to_others_meanwhile() {
     let folder = Folder::new();
@@ -337,7 +341,7 @@ fn wait_for_bytes_beside(folder: &Folder) -> String {
     found
 }
 
-/// Waits until it holds, or says what is the matter.
+/// Waits until it holds, or says what is wrong.
 #[track_caller]
 fn wait_for(what: &str, mut holds: impl FnMut() -> bool) {
     let start = Instant::now();
@@ -347,7 +351,8 @@ fn wait_for(what: &str, mut holds: impl FnMut() -> bool) {
     }
 }
 
-/// A line on which the other side gives up half way: a socket that is closed while bytes lie unread in it ends the other one with an error.
+/// A connection that the other side breaks off: a socket closed with unread bytes in it gives the
+/// other end an error.
 #[test]
 fn nothing_is_left_of_a_line_that_broke() {
     let folder = Folder::new().with("old", b"old");
@@ -393,7 +398,8 @@ fn what_does_not_read_is_2() {
     assert!(folder.names().is_empty());
 }
 
-/// A reader who goes away ends `list --follow`, with the status of what had come by then, while its input is still open.
+/// A closed output ends `list --follow`, with the status of what had come by then, while its input
+/// is still open.
 #[test]
 fn a_reader_who_goes_away() {
     let folder = Folder::new();
@@ -411,7 +417,8 @@ fn a_reader_who_goes_away() {
         reader.set_read_timeout(Some(PATIENCE)).unwrap();
         assert!((&reader).read(&mut [0; 100]).unwrap() > 0);
         drop(reader);
-        // lines that nobody reads: more than one, since a process that another test is starting may still have its copy of the reader's end
+        // lines that nobody reads: more than one, since a process that another test is starting may
+        // still have its copy of the reader's end
         wait_for("it does not end", || {
             let _ = input.write_all(&heartbeats(1));
             child.try_wait().unwrap().is_some()

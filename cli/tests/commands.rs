@@ -70,7 +70,8 @@ fn the_sample_is_listed() {
     run_on(&folder, &["list", "--", "-"], &sample()).quiet(1, &listing);
 }
 
-/// 1 where the last line counts a refusal or a missing number; a repeat and a tick of another channel are neither.
+/// 1 if the last line counts a refusal or a missing number; a repeat and a tick of another channel
+/// are neither.
 #[test]
 fn the_status_of_a_listing() {
     let folder = Folder::new();
@@ -138,7 +139,7 @@ fn the_sample_is_scrubbed_and_then_clean() {
     assert_eq!((ran.status, &ran.out), (Some(1), &cleaned));
     assert!(ran.error().starts_with("rietknoest: standard input: kept "));
 
-    // again: nothing changes, nothing is left out, and nothing stands after damage
+    // again: nothing changes, nothing is left out, and no frame is after damage
     let ran = run(&folder, &["scrub", "--whole", "out", "-o", "again"]);
     let said = "rietknoest: out: kept 29 frames, left out 0 bytes, 0 frames after damage\n";
     assert_eq!((ran.status, ran.error()), (Some(0), said));
@@ -164,7 +165,7 @@ fn whole_writes_nothing_where_a_byte_is_stray() {
     assert_eq!(fs::read(folder.path("out")).unwrap(), kept);
 }
 
-/// Something was refused, though no frame stands after it.
+/// Something was refused, though no frame comes after it.
 #[test]
 fn a_stray_byte_at_the_end() {
     let folder = Folder::new();
@@ -175,7 +176,7 @@ fn a_stray_byte_at_the_end() {
     assert_eq!(ran.out, heartbeats(1));
 }
 
-/// A capture, and what `check` says of it behind its name.
+/// A capture, and what `check` says of it after its name.
 fn checked(capture: &[u8], says: &str) {
     let folder = Folder::new();
     let line = format!("standard input: {says}\n");
@@ -240,7 +241,7 @@ fn check_tells_stray_bytes() {
         &alike,
         "not clean: place 29: stray bytes from 28 on, where reading answers 2 (type)",
     );
-    // what is private stands before what is stray
+    // what is private comes before what is stray
     let both = [logon("A", ""), vec![0xFF]].concat();
     checked(&both, "not clean: place 24: SenderCompID of the S001 at 0");
 }
@@ -321,7 +322,7 @@ fn explain_tells_a_refusal_by_number_and_name() {
     run(&folder, &["explain", "sample", huge]).failed("sample", beyond);
 }
 
-/// A reader who goes away ends the command: no panic, no word.
+/// A closed output ends the command: no panic, no message.
 #[test]
 fn a_closed_pipe() {
     let folder = Folder::new().with("long", &heartbeats(10000));

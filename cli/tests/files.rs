@@ -1,4 +1,5 @@
-//! Files that are not there, not to be read, not to be written; the input, which stays; and nothing left behind.
+//! Files that are not there, not to be read, not to be written; the input, which stays; and nothing
+//! left behind.
 
 mod common;
 
@@ -19,7 +20,7 @@ fn set_mode(folder: &Folder, name: &str, mode: u32) {
     fs::set_permissions(folder.path(name), PermissionsExt::from_mode(mode)).unwrap();
 }
 
-/// The command run by a shell, behind a line of its own.
+/// The command run by a shell, after a line of the shell's own.
 fn run_behind(folder: &Folder, line: &str, words: &[&str]) -> Ran {
     let mut shell = Command::new("sh");
     shell
@@ -67,7 +68,7 @@ fn folder_is_empty(folder: &Folder, name: &str) -> bool {
     fs::read_dir(folder.path(name)).unwrap().next().is_none()
 }
 
-/// This file opens, and does not read: its first page is nobody's.
+/// This file can be opened but not read: its first page belongs to nobody.
 #[test]
 fn a_file_that_does_not_read() {
     let folder = Folder::new();
@@ -186,7 +187,7 @@ fn what_stood_there_is_replaced() {
         assert_eq!(ran.status, Some(0));
         assert_eq!(fs::read(folder.path(out)).unwrap(), logon("", ""));
     }
-    // behind a link stands the file, and the link stays
+    // the file that a link leads to is replaced, and the link stays
     assert_eq!(fs::read(folder.path("far")).unwrap(), logon("", ""));
     assert!(folder.path("link").is_symlink());
     assert_eq!(folder.names(), ["far", "in", "link", "old"]);
@@ -215,8 +216,8 @@ fn a_new_file_is_no_more_open_than_it_may_be() {
     assert_eq!((ran.status, mode(&folder, "old")), (Some(0), 0o640));
 }
 
-/// Who may open the file that is replaced is told by its group. A new file of another group is open neither to that one nor, as to others,
-/// to the old one where it was not.
+/// A replaced file's group says who may open it. A new file of another group must not be open to
+/// that group, nor, as others, to the old group's members if it was not before.
 #[test]
 fn a_new_file_of_another_group() {
     let folder = Folder::new().with("in", &heartbeats(1));
@@ -251,7 +252,8 @@ fn nothing_is_left_of_a_file_that_was_half_written() {
     assert_eq!(fs::read(folder.path("in")).unwrap(), heartbeats(3000));
 }
 
-/// The command may have 64 MB here: enough to read the capture, and too little for the records that it might have.
+/// The command may have 64 MB here: enough to read the capture, and too little for the records that
+/// it might have.
 #[test]
 fn a_capture_too_large_for_the_memory() {
     let folder = Folder::new().with("large", &vec![0; 20_000_000]);
@@ -309,7 +311,7 @@ fn names_that_are_no_text() {
         run(&folder, &words(&["explain", "out"], &[])).status,
         Some(2)
     );
-    // what would steer a terminal is spelt out
+    // what would control a terminal is escaped
     run(&folder, &["list", "a\u{1b}[2J\nb"]).failed("a\\u{1b}[2J\\nb", "No such file or directory");
     // a name that looks like an option or like standard input
     let folder = folder.with("-x", &heartbeats(1)).with("-", &heartbeats(1));

@@ -8,7 +8,7 @@ use std::fs;
 use common::*;
 use rietknoest_host::{private_spans, read, search, Frame, CHECK_SUM, HEADER};
 
-/// Shorter rows of bytes stand anywhere by chance.
+/// Shorter runs of bytes occur anywhere by chance.
 const ROW: usize = 6;
 
 type Rows = BTreeSet<Vec<u8>>;
@@ -23,8 +23,8 @@ struct Told {
 }
 
 impl Told {
-    /// Every row of six bytes that are not fill, and every number of six digits or more that four or eight bytes spell: fields of fewer
-    /// bytes have fewer digits.
+    /// Every run of six bytes that are not fill, and every number of six digits or more in four or
+    /// eight bytes: shorter fields have fewer digits.
     fn hide(&mut self, bytes: &[u8], fill: u8) {
         let rows = bytes.windows(ROW).filter(|row| !row.contains(&fill));
         self.private.extend(rows.map(<[u8]>::to_vec));
@@ -43,8 +43,8 @@ impl Told {
         self.public.extend(bytes.windows(ROW).map(<[u8]>::to_vec));
     }
 
-    /// A frame that reads: its public bytes, and its numbers as text, since two of them have the same day in them as a private
-    /// order number.
+    /// A frame that reads: its public bytes, and its numbers as text, since two of them have the
+    /// same day in them as a private order number.
     fn frame(&mut self, bytes: &[u8], frame: &Frame) {
         let body = &bytes[HEADER..][..frame.body_len as usize];
         let mut public_from = 0;
@@ -62,7 +62,8 @@ impl Told {
     }
 }
 
-/// The sample's frames, those that read and those that were damaged. Of a damaged one every byte is private: none is to be shown.
+/// The sample's frames, those that read and the damaged ones. Every byte of a damaged one counts as
+/// private: none may be shown.
 fn told() -> Told {
     let sample = sample();
     let mut told = Told::default();
@@ -85,7 +86,8 @@ fn told() -> Told {
 
 /// What is searched for.
 struct Sought {
-    /// Private rows that no public part has too, nor the command's own words, as it says them of an empty capture.
+    /// Private runs that are in no public part, nor in the command's own words, as it prints them
+    /// for an empty capture.
     rows: Rows,
     /// Private numbers as text. No public one is the same.
     numbers: BTreeSet<String>,
@@ -102,8 +104,8 @@ impl Sought {
         }
     }
 
-    /// How many of the rows stand in the bytes, as they are or spelt in hex, and how many of the numbers, each a whole run of digits. The
-    /// bytes themselves are not printed.
+    /// How many of the runs are in the bytes, plain or in hex, and how many of the numbers, each a
+    /// whole run of digits. The bytes themselves are not printed.
     fn found(&self, bytes: &[u8]) -> usize {
         let plain = bytes.windows(ROW).filter(|row| self.rows.contains(*row));
         let spelt = bytes.windows(2 * ROW).filter_map(of_hex);
@@ -123,7 +125,8 @@ fn of_hex(digits: &[u8]) -> Option<Vec<u8>> {
         .collect()
 }
 
-/// The search finds what it should: the texts and numbers that tools/sample puts into private fields and damaged frames, in the sample itself.
+/// The search works: in the sample itself it finds the texts and numbers that tools/sample puts
+/// into private fields and damaged frames.
 #[test]
 fn the_rows_are_those_of_the_sample() {
     let sought = Sought::of_sample();
@@ -188,8 +191,8 @@ fn no_private_byte_is_written() {
     }
 }
 
-/// A tick whose extension holds the bytes of a frame. Reading at that place answers 0, and nothing of the frame is told; the frame stands
-/// for itself only where the one around it is damaged.
+/// A tick whose extension holds the bytes of a frame. Reading there answers 0, and nothing of the
+/// frame is printed; it counts as a frame only if the one around it is damaged.
 #[test]
 fn a_frame_inside_private_bytes_is_not_told() {
     let inner = frame(b"S003", 7_777_777, b"");
@@ -215,7 +218,7 @@ the walk does not read here: the place lies inside the M201 at 0, and no more is
     let counts = "rietknoest: damaged: kept 1 frame, left out 73 bytes, 1 frame after damage\n";
     assert!(ran.error().starts_with(counts));
     assert!(ran.error().contains("may lie inside private bytes"));
-    // once it stands alone nothing can tell, and the help says so
+    // once it is alone nothing can tell, and the help says so
     run_on(&folder, &["check", "-"], &inner).quiet(0, "standard input: clean\n");
     let help = run(&folder, &["--help"])
         .out()
@@ -225,7 +228,8 @@ the walk does not read here: the place lies inside the M201 at 0, and no more is
     assert!(help.contains("It can't tell a frame that came out of private bytes"));
 }
 
-/// Two frames end to end in the extension of a damaged tick: the second follows the first without a gap, and is as suspect.
+/// Two frames end to end in the extension of a damaged tick: the second follows the first without a
+/// gap, and is as suspect.
 #[test]
 fn every_frame_behind_damage_is_warned_of() {
     let damaged = tick(1, &[heartbeats(2), vec![b' ']].concat());

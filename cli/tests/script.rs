@@ -1,4 +1,5 @@
-//! The script `rietknoest` at the root, over a made-up project: a tools/archive, an rt and a cargo that only note that they were called.
+//! The script `rietknoest` at the root, in a made-up project: its tools/archive, rt and cargo only
+//! note that they were called.
 
 mod common;
 
@@ -10,13 +11,13 @@ use std::time::SystemTime;
 
 use common::*;
 
-/// What the script needs of a machine, but for rt and cargo.
+/// What the script needs of a machine, except rt and cargo.
 const TOOLS: [&str; 16] = [
     "awk", "bash", "cat", "chmod", "dirname", "env", "find", "flock", "grep", "mkdir", "readlink",
     "sed", "sort", "tac", "tee", "wc",
 ];
 
-/// Notes its call, says what rt says of a crate, and makes the library.
+/// Notes its call, prints what rt prints for a crate, and makes the library.
 const ARCHIVE: &str = "#!/usr/bin/env bash
 cd \"${0%/*}/..\"
 echo archive >>calls
@@ -27,7 +28,7 @@ echo 'rt: rules proved (unchanged since it was last proved)' >&2
 echo >build/librietknoest.a
 ";
 
-/// Notes its call, and makes a command that tells its folder and its words.
+/// Notes its call, and makes a command that prints its folder and arguments.
 const CARGO: &str = "#!/usr/bin/env bash
 echo cargo >>calls
 mkdir -p build/cargo/release
@@ -84,7 +85,7 @@ fn project() -> Folder {
     folder
 }
 
-/// The script run from another folder, under a name of it.
+/// The script run from another folder, under a given name.
 fn run_script(folder: &Folder, name: &Path, words: &[&str]) -> Ran {
     let mut script = Command::new(name);
     script
@@ -115,7 +116,7 @@ rietknoest: terms proved (1 s)
 rietknoest: the library is proved and built
 rietknoest: built
 ";
-    // words, folder and status are the command's
+    // arguments, folder and status are the command's
     let ran = run_script(&folder, &script, &["list", "a b", "-"]);
     assert_eq!(
         (ran.status, ran.out(), ran.error()),
