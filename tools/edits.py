@@ -1,12 +1,14 @@
-"""Wrong programs as edits: the one reader of their form, for tools/apart.
+"""Reads edits, for tools/apart.
 
-A `file:` line holds for the `old:` and `new:` pairs after it; a line that begins otherwise says what the edit is."""
+A `file:` line applies to the `old:` and `new:` pairs after it; any other line says what the edit
+is."""
 
 
 def edited(edit, home, parts):
-    """The edit applied to the crate in `home`: the texts of the files that it changes, and for each change the file, its
-    text right before and where in that the change begins and ends. A ValueError says why it can't be applied: each
-    `old:` text stands once in its file, which lies in one of the crate's folders `parts`."""
+    """Applies the edit to the crate in `home`. Returns the new text of each changed file, and for
+    each change the file, its text just before and where the change begins and ends in it. A
+    ValueError says why it can't be applied: each `old:` text must be in its file exactly once, and
+    the file in one of the crate's folders `parts`."""
     texts, changes, file, old = {}, [], None, ""
     for line in edit.read_text().splitlines():
         key, _, rest = line.partition(":")
