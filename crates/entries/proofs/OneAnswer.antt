@@ -6,8 +6,8 @@ use mathlib.Core.Path.{_≡_, sym, ap, _∙_}
 use mathlib.Core.List.{List}
 use denote.Ref.{RefT, now}
 use Rattle.terms.specs.OneAnswer.{OneAnswer}
-use Rattle.rules.specs.declared.Verdict.{Verdict}
-use Rattle.rules.specs.Verdicts.{verdict-one}
+use Rattle.terms.specs.declared.Verdict.{Verdict}
+use Rattle.terms.specs.Verdicts.{verdict-one}
 use Rattle.entries.specs.declared.Entries.{Entries}
 use Rattle.entries.specs.declared.Answer.{Answer}
 use Rattle.entries.specs.declared.Opened.{Opened}

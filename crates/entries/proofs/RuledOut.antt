@@ -10,7 +10,7 @@ use Rattle.terms.specs.RuledOut.{Row, _never_, _only_, Kept, RulesOut, ruled, n
 use Rattle.octets.specs.Octets.{numeral, digitsOf}
 use Rattle.rules.specs.Bodies.{snapshotBody}
 use Rattle.rules.specs.Fields.{m102ValuesOk, entrySize, entryOk, entriesOk, m102Ok, fieldsOk}
-use Rattle.rules.specs.Verdicts.{verdictNumber}
+use Rattle.terms.specs.Verdicts.{verdictNumber}
 use Rattle.entries.specs.declared.Entries.{Entries}
 use Rattle.entries.specs.declared.Opened.{Opened}
 use Rattle.entries.specs.declared.Stepped.{Stepped}

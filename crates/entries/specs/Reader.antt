@@ -11,7 +11,7 @@ use Rattle.terms.specs.Paper.{Paper, answer, refusal, pick}
 use Rattle.octets.specs.Octets.{be}
 use Rattle.rules.specs.declared.Kind.the-variants.{M102}
 use Rattle.rules.specs.Fields.{entrySize, fieldsOk}
-use Rattle.rules.specs.Verdicts.{verdictNumber}
+use Rattle.terms.specs.Verdicts.{verdictNumber}
 use Rattle.entries.specs.declared.Entries.{Entries}
 use Rattle.entries.specs.declared.Opened.{Opened}
 use Rattle.entries.specs.declared.Stop.{Stop}

@@ -11,7 +11,7 @@ use lib.ListN.{length, getD, replicate}
 use denote.Ref.{RefT, now}
 use Rattle.terms.specs.Paper.{Paper, refusal}
 use Rattle.octets.specs.Octets.{be}
-use Rattle.rules.specs.Verdicts.{verdictNumber}
+use Rattle.terms.specs.Verdicts.{verdictNumber}
 use Rattle.rules.specs.Meaning.{size-is, denied}
 use Rattle.entries.specs.declared.Entries.{Entries}
 use Rattle.entries.specs.declared.Answer.{Answer}

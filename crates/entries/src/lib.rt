@@ -3,12 +3,12 @@
 ghost use mathlib.Core.Path.{_≡_};
 ghost use Prim.Native.Nat.{_+_, _≤_};
 ghost use lib.ListN.{length};
-ghost use Rattle.rules.specs.Verdicts.{verdictNumber};
+ghost use Rattle.terms.specs.Verdicts.{verdictNumber};
 ghost use Rattle.entries.specs.Reader.{openOf, stands, entryAt, sizeIn, Carries, Opens, Stops, Steps};
 ghost use Rattle.entries.specs.Papers.{entryPaper};
 use rules::Kind;
-use rules::Verdict;
 use terms::Refusal;
+use terms::Verdict;
 
 // The reader: the body that it walks, and where the next entry starts.
 pub struct Entries<'a> {

@@ -1,7 +1,7 @@
 -- For each public function: two answers that its promise allows are equal. Assumes nothing.
 use mathlib.Core.Path.{sym, _∙_}
 use Rattle.terms.specs.OneAnswer.{OneAnswer}
-use Rattle.rules.specs.Verdicts.{verdict-one}
+use Rattle.terms.specs.Verdicts.{verdict-one}
 use Rattle.fields.proofs.fields_ok.Reads as fields-ok
 use Rattle.fields.proofs.fields_ok.Kinds as fields-ok-kinds
 use Rattle.fields.proofs.entry_size.Reads as entry-size

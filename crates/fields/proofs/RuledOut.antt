@@ -11,7 +11,7 @@ use Rattle.rules.specs.declared.Kind.{Kind}
 use Rattle.rules.specs.declared.Kind.the-variants.{S001, P001, P002, M102}
 use Rattle.rules.specs.Bodies.{channelBody, resendBody, snapshotBody}
 use Rattle.rules.specs.Fields.{s001Ok, p001Ok, p002Ok, m102ValuesOk, entrySize, entryOk, entriesOk, m102Ok, fieldsOk, judgeOf}
-use Rattle.rules.specs.Verdicts.{verdictNumber}
+use Rattle.terms.specs.Verdicts.{verdictNumber}
 use Rattle.fields.proofs.fields_ok.Reads as fields-ok
 use Rattle.fields.proofs.fields_ok.Kinds as fields-ok-kinds
 use Rattle.fields.proofs.entry_size.Reads as entry-size

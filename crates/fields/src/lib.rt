@@ -2,10 +2,10 @@
 ghost use mathlib.Core.Path.{_≡_};
 ghost use Prim.Native.Nat.{_+_, _*_, _≤_, _<_};
 ghost use Rattle.rules.specs.Fields.{s001Ok, s002Ok, p001Ok, p002Ok, m201Ok, pairOk, m102ValuesOk, entrySize, entryOk, entriesOk, m102Ok, fieldsOk, judgeOf};
-ghost use Rattle.rules.specs.Verdicts.{verdictNumber};
+ghost use Rattle.terms.specs.Verdicts.{verdictNumber};
 use rules::Kind;
-use rules::Verdict;
 use terms::Refusal;
+use terms::Verdict;
 
 fn s001_ok(b: &[u8]) -> bool
     ensures { λ r. ⌜ r ≡ s001Ok (now (b .entry)) ⌝ }

@@ -21,13 +21,14 @@ use Rattle.seen.specs.SeenLaws.{seen-fits}
 use Rattle.trail.specs.Tables.{writtenFrom, written-all}
 use Rattle.flow.specs.declared.Stream.{Stream}
 use Rattle.flow.specs.declared.Fed.{Fed}
-use Rattle.flow.specs.declared.StreamAnswer.{StreamAnswer}
-use Rattle.flow.specs.declared.StreamAnswer.the-variants.{Done}
+use Rattle.terms.specs.declared.Refusal.{Refusal}
+use Rattle.terms.specs.declared.Verdict.the-variants.{Fine}
+use Rattle.terms.specs.Refusals.{numberOf, refusal-not-0}
 use Rattle.flow.specs.Tally.{recordAt, tallyAfter}
 use Rattle.flow.specs.State.{lastPlace, headOf, meantBy, soundOf}
 use Rattle.flow.specs.Run.{saysIn}
 use Rattle.flow.specs.Window.{length-head}
-use Rattle.flow.specs.Calls.{givenOf, behindOf, numberFor, answerFor, nextFor, leavesFor, answerNumber, fedPaper, refusedBy}
+use Rattle.flow.specs.Calls.{givenOf, behindOf, numberFor, answerFor, nextFor, leavesFor, fedPaper, refusedBy}
 
 -- a frame that is read is 28 bytes or more, and all there, at the closing call or before it
 in-fits : (closing : Bool) (s : List ℕ) (n : ℕ) → saysIn closing (seenOf s) ≡ frame n → (28 ≤ n) × (n ≤ length s)
@@ -85,12 +86,12 @@ module _ (x : Stream) (closing : Bool) (cut : List ℕ) where
   abbrev pub Promised : List ℕ → List ℕ → Fed → Type 0
   Promised d d′ r = (fedPaper r ≡ answerFor x closing cut (length d)) × ((r .stream ≡ nextFor x closing cut (length d)) × (d′ ≡ leavesFor x closing cut d))
 
-  pub refused-call : (d : List ℕ) (r : Fed) (why : StreamAnswer) → eqb (answerNumber why) 0 ≡ false → r ≡ refusedBy x why → numberFor x closing cut (length d) ≡ answerNumber why → Promised d d r
+  pub refused-call : (d : List ℕ) (r : Fed) (why : Refusal) → r ≡ refusedBy x why → numberFor x closing cut (length d) ≡ numberOf why → Promised d d r
   unfolding answerFor nextFor leavesFor
-  refused-call d r why z e n = rw (e, n, z) (refl, (refl, refl))
+  refused-call d r why e n = rw (e, n, refusal-not-0 why) (refl, (refl, refl))
 
   pub done-with : (d d′ : List ℕ) (count : ℕ) (next : Stream) → count ≡ length (givenOf x closing cut) → next ≡ behindOf x closing cut → d′ ≡ writtenFrom 0 (givenOf x closing cut) d → leb (length (givenOf x closing cut)) (length d / 64) ≡ true → numberFor x closing cut (length d) ≡ 0
-      → Promised d d′ (record { answer = Done; records = count; stream = next })
+      → Promised d d′ (record { answer = Fine; records = count; stream = next })
   unfolding answerFor nextFor leavesFor
   done-with d d′ count next c e w l n =
       rw (n, c) (refl, (e, w ∙ written-all 0 (givenOf x closing cut) d (omega (arith, leb-true (length (givenOf x closing cut)) (length d / 64) l))))

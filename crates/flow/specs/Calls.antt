@@ -13,8 +13,9 @@ use Rattle.trail.specs.Walk.{tableOf}
 use Rattle.flow.specs.declared.Stream.{Stream}
 use Rattle.flow.specs.declared.Tally.{Tally}
 use Rattle.flow.specs.declared.Fed.{Fed}
-use Rattle.flow.specs.declared.StreamAnswer.{StreamAnswer}
-use Rattle.flow.specs.declared.StreamAnswer.the-variants.{Done, State, Closed, Places, Room}
+use Rattle.terms.specs.declared.Refusal.{Refusal}
+use Rattle.terms.specs.declared.Verdict.the-variants.{Refused}
+use Rattle.terms.specs.Verdicts.{verdictNumber}
 use Rattle.flow.specs.Tally.{recordAt, tallyAfter}
 use Rattle.flow.specs.State.{lastPlace, meantBy, valueOf, soundOf}
 use Rattle.flow.specs.Run.{saysIn}
@@ -85,15 +86,8 @@ leaves x call d = leavesFor x (closes call) (cutOf call) d
 
 -- ---- the code's answers in numbers
 
-abbrev pub answerNumber : StreamAnswer → ℕ
-answerNumber Done = 0
-answerNumber State = 13
-answerNumber Closed = 19
-answerNumber Places = 29
-answerNumber Room = 8
-
 abbrev pub fedPaper : Fed → Paper
-fedPaper f = answer (answerNumber (f .answer)) (f .records ∷ [])
+fedPaper f = answer (verdictNumber (f .answer)) (f .records ∷ [])
 
-abbrev pub refusedBy : Stream → StreamAnswer → Fed
-refusedBy x why = record { answer = why; records = 0; stream = x }
+abbrev pub refusedBy : Stream → Refusal → Fed
+refusedBy x why = record { answer = Refused why; records = 0; stream = x }

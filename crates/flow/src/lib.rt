@@ -4,6 +4,7 @@ ghost use mathlib.Core.Path.{_≡_};
 ghost use Rattle.flow.specs.State.{opened};
 use ledger::Ledger;
 use terms::ChannelNumber;
+use terms::Verdict;
 
 // How many frames and refused readings there were so far, and the ledger after them.
 pub struct Tally {
@@ -25,21 +26,9 @@ pub struct Stream {
     pub tally: Tally,
 }
 
-pub enum StreamAnswer {
-    Done,
-    // 13: the state is broken.
-    State,
-    // 19: the stream is closed.
-    Closed,
-    // 29: places would pass 64 bits.
-    Places,
-    // 8: the records of this call do not fit.
-    Room,
-}
-
 // How many records this call gave, 0 beside a refusal; and the stream after it, the very one that was passed in beside a refusal.
 pub struct Fed {
-    pub answer: StreamAnswer,
+    pub answer: Verdict,
     pub records: usize,
     pub stream: Stream,
 }

@@ -3,13 +3,13 @@
 ghost use mathlib.Core.Path.{_≡_};
 ghost use lib.ListN.{length};
 ghost use Rattle.flow.specs.State.{opened};
-ghost use Rattle.flow.specs.Calls.{Feed, Close, answerNumber, leaves, fedPaper};
+ghost use Rattle.flow.specs.Calls.{Feed, Close, leaves, fedPaper};
+ghost use Rattle.terms.specs.Verdicts.{verdictNumber};
 ghost use Rattle.words.specs.Told.{Tells};
 ghost use Rattle.lent.specs.Lent.{waitingIn, wordOf, lent, lentOf, streamIn};
 ghost use Rattle.lent.specs.Calls.{toldWith, keptBeside, callTold, lentAfter};
 use flow::Fed;
 use flow::Stream;
-use flow::StreamAnswer;
 use flow::Tally;
 
 // THE STREAM, AS SIX NUMBERS: the place of the first byte that waits, or of the next to come; 1 where the search is under way; 1 where the
@@ -72,18 +72,6 @@ fn keep(state: &mut [u64; 6], ledger: &mut [u64; 9], kept: &mut [u8; 8191], next
     *kept = held;
 }
 
-fn number_of(answer: StreamAnswer) -> u32
-    ensures { λ r. ⌜ r ≡ answerNumber answer ⌝ }
-{
-    match answer {
-        StreamAnswer::Done => 0,
-        StreamAnswer::State => 13,
-        StreamAnswer::Closed => 19,
-        StreamAnswer::Places => 29,
-        StreamAnswer::Room => 8,
-    }
-}
-
 // What a call comes to: its number; beside 0 the stream after it is kept, and its numbers are told.
 fn settle(
     state: &mut [u64; 6],
@@ -94,10 +82,10 @@ fn settle(
 ) -> u32
     ensures { λ r. ⌜ Tells (toldWith (fedPaper fed) (fed .stream)) (now (told .entry)) r (now (told .exit))
         × (lent (now (state .exit)) (now (ledger .exit)) (now (kept .exit))
-        ≡ keptBeside (answerNumber (fed .answer)) (fed .stream) (lent (now (state .entry)) (now (ledger .entry)) (now (kept .entry)))) ⌝ }
+        ≡ keptBeside (verdictNumber (fed .answer)) (fed .stream) (lent (now (state .entry)) (now (ledger .entry)) (now (kept .entry)))) ⌝ }
 {
     let given = fed.answer;
-    let answer = number_of(given);
+    let answer = given.number();
     let next = fed.stream;
     if answer == 0 {
         let tally = next.tally;

@@ -77,6 +77,7 @@ abbrev pub search-wrong : List (Row (List ℕ × ℕ) Paper)
 search-wrong =
     (0xFF ∷ A, 0) never answer 0 []  -- a search that finds nothing
     ∷ (0xFF ∷ A, 0) only answer 0 (1 ∷ [])  -- no later place, none that does not read
+    ∷ (A, 0) only answer 0 (0 ∷ [])  -- not one byte late: the start itself
     ∷ (A, 1) only answer 0 []  -- no place before the start
     ∷ (A, 29) only refusal 9  -- beyond the end is no "none"
     ∷ []

@@ -11,9 +11,9 @@ ghost use Rattle.wire.specs.Write.{message, frameOf, writeOf, leftOf};
 ghost use Rattle.wire.specs.Search.{searchOf};
 use octets::Written;
 use rules::Kind;
-use rules::Verdict;
 use terms::Refusal;
 use terms::SessionNumber;
+use terms::Verdict;
 
 // What reading finds. A refusal carries nothing of the bytes.
 pub enum Read {

@@ -14,8 +14,8 @@ use entries::Entry;
 use frame::Found;
 use frame::Read;
 use octets::Written;
-use rules::Verdict;
 use terms::SessionNumber;
+use terms::Verdict;
 
 // Reads the frame at a place. Told: MsgType, SendingTime, MsgSeqNum, BodyLength, and what the view has of the body: channel, tick
 // number, a resend's first and last number, and its status; 0 where the type has none.

@@ -8,7 +8,8 @@ use borrow.Author.Tests.{ne-eqb}
 use Rattle.terms.specs.Paper.{Paper, pick, one-number}
 use Rattle.flow.specs.declared.Stream.{Stream}
 use Rattle.flow.specs.declared.Fed.{Fed}
-use Rattle.flow.specs.Calls.{Call, cutOf, closes, answerFor, leavesFor, answerTo, nextOf, leaves, answerNumber, fedPaper}
+use Rattle.flow.specs.Calls.{Call, cutOf, closes, answerFor, leavesFor, answerTo, nextOf, leaves, fedPaper}
+use Rattle.terms.specs.Verdicts.{verdictNumber}
 use Rattle.flow.specs.CallLaws.{Promised}
 use Rattle.words.specs.Told.{Tells, retold, both, Refuses, tells-as, tells-kept}
 use Rattle.lent.specs.Lent.{Lent, asOne, lentOf, streamIn}
@@ -40,7 +41,7 @@ Called k call was d n k′ row d′ =
 
 -- the stream's own call, and what is told and kept of it
 pub settled : (k : Lent) (call : Call) (d d′ : List ℕ) (f : Fed) (x : Stream) → x ≡ streamIn k → Promised x (closes call) (cutOf call) d d′ f
-    → {was row : List ℕ} {n : ℕ} {k′ : Lent} → Tells (toldWith (fedPaper f) (f .stream)) was n row × (k′ ≡ keptBeside (answerNumber (f .answer)) (f .stream) k)
+    → {was row : List ℕ} {n : ℕ} {k′ : Lent} → Tells (toldWith (fedPaper f) (f .stream)) was n row × (k′ ≡ keptBeside (verdictNumber (f .answer)) (f .stream) k)
     → Called k call was d n k′ row d′
 unfolding lentAfter
 settled k call d d′ f x e p t =

@@ -21,9 +21,10 @@ use Rattle.lines.specs.Fit.{walk-fits}
 use Rattle.lines.specs.Listed.{lastAt, listedOf, walked-book}
 use Rattle.flow.specs.declared.Stream.{Stream}
 use Rattle.flow.specs.declared.Fed.{Fed}
-use Rattle.flow.specs.declared.StreamAnswer.the-variants.{Done}
+use Rattle.terms.specs.declared.Verdict.the-variants.{Fine}
 use Rattle.flow.specs.State.{headOf, StreamRules}
-use Rattle.flow.specs.Calls.{Call, cutOf, closes, answerNumber}
+use Rattle.flow.specs.Calls.{Call, cutOf, closes}
+use Rattle.terms.specs.Verdicts.{verdictNumber}
 use Rattle.flow.specs.CallLaws.{Promised}
 use Rattle.flow.specs.Answers.{refused-leaves, refused-stream}
 use Rattle.flow.specs.Trace.{Calls, after, given, taken, ended, Row, heard}
@@ -97,11 +98,11 @@ module _ {calls : Calls} {x : Stream} (row : Row calls x) where
 
   module _ (call : Call) (d d′ : List ℕ) (r : Fed) (p : Promised x (closes call) (cutOf call) d d′ r) where
     -- "Refusals: 19 for any call after the closing one, then 29 where places would pass 64 bits, then 8 where this call's records don't fit"
-    pub its-number : answerNumber (r .answer) ≡ answered calls call (length d)
+    pub its-number : verdictNumber (r .answer) ≡ answered calls call (length d)
     its-number = ran-number row call d d′ r p
 
     -- "nothing changes."
-    pub nothing-changes : (r .answer ≡ Done → ⊥) → (r .stream ≡ x) × (d′ ≡ d)
+    pub nothing-changes : (r .answer ≡ Fine → ⊥) → (r .stream ≡ x) × (d′ ≡ d)
     nothing-changes w = (refused-stream x (closes call) (cutOf call) d d′ r p w, refused-leaves x (closes call) (cutOf call) d d′ r p w)
 
 -- "for every cutting", before the closing call too: the same bytes taken leave one stream, and one row of records

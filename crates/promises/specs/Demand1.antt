@@ -11,13 +11,13 @@ use Rattle.terms.specs.Counters.{tickOf}
 use Rattle.terms.specs.Paper.{Paper}
 use Rattle.terms.specs.Refusals.{numberOf}
 use Rattle.terms.specs.declared.Refusal.{Refusal}
-use Rattle.terms.specs.declared.Refusal.the-variants.{More, MsgType, Long, Length, Sum, Field, Time, Room, Place, Range, Repeat, Far, State, Busy, Whole, Unasked, Status, Channel, Entries}
+use Rattle.terms.specs.declared.Refusal.the-variants.{More, MsgType, Long, Length, Sum, Field, Time, Room, Place, Range, Repeat, Far, State, Busy, Whole, Unasked, Status, Channel, Closed, Entries, Places}
 use Rattle.octets.specs.declared.Written.{Written}
 use Rattle.octets.specs.declared.Written.the-variants as written
 use Rattle.octets.specs.Papers.{writtenPaper}
-use Rattle.rules.specs.declared.Verdict.{Verdict}
-use Rattle.rules.specs.declared.Verdict.the-variants as verdict
-use Rattle.rules.specs.Verdicts.{verdictNumber}
+use Rattle.terms.specs.declared.Verdict.{Verdict}
+use Rattle.terms.specs.declared.Verdict.the-variants as verdict
+use Rattle.terms.specs.Verdicts.{verdictNumber}
 use Rattle.wire.specs.Frame.{readOf}
 use Rattle.wire.specs.Given.{Reads}
 use Rattle.wire.specs.GivenRead.{read-given}
@@ -48,9 +48,8 @@ use Rattle.book.specs.Answers.{OnlyTop}
 use Rattle.book.proofs.Answers.{keeps}
 use Rattle.ledger.specs.Papers.{tickPaper, requestPaper, replyPaper, paperOf}
 use Rattle.ledger.specs.Trace.{Promise}
-use Rattle.flow.specs.declared.StreamAnswer.{StreamAnswer}
-use Rattle.flow.specs.declared.StreamAnswer.the-variants as streamed
-use Rattle.flow.specs.Calls.{answerNumber}
+use Rattle.flow.specs.declared.Fed.{Fed}
+use Rattle.flow.specs.Calls.{fedPaper}
 use Rattle.book.specs.Words.{answered}
 use Rattle.ledger.proofs.Promised.{refused-gives-back, far-raises-top}
 use Rattle.terms.proofs.OneAnswer as terms
@@ -99,6 +98,7 @@ terms-answers =
     let ChannelNumber-new-one-answer = terms.ChannelNumber-new-one-answer in
     let ChannelNumber-value-one-answer = terms.ChannelNumber-value-one-answer in
     let Refusal-number-one-answer = terms.Refusal-number-one-answer in
+    let Verdict-number-one-answer = terms.Verdict-number-one-answer in
     named
 
 -- octets
@@ -330,9 +330,9 @@ follow-answers =
 
 -- "AND REFUSES WHAT IT CAN'T USE WITH A NUMBER FROM DOCUMENT 01"
 
--- the numbers of document 01's table, 1 to 6, 8 to 18 and 20, and 7 of document 02, CR 6
+-- the numbers of document 01's table, 1 to 6, 8 to 18 and 20, and of the requests: 7 (CR 6), 19 and 29 (CR 1)
 unfoldable pub inTable : ℕ → Bool
-inTable n = (leb 1 n && leb n 18) || eqb n 20
+inTable n = (leb 1 n && leb n 20) || eqb n 29
 
 pub refusal-in-table : (w : Refusal) → inTable (numberOf w) ≡ true
 unfolding inTable
@@ -354,7 +354,9 @@ refusal-in-table Whole = refl
 refusal-in-table Unasked = refl
 refusal-in-table Status = refl
 refusal-in-table Channel = refl
+refusal-in-table Closed = refl
 refusal-in-table Entries = refl
+refusal-in-table Places = refl
 
 -- an answer's number is 0, or one of the table
 pub data Numbered : ℕ → Type 0 where
@@ -417,14 +419,9 @@ pub plain-numbered : (x : Answer) → Numbered (paperOf x .number)
 plain-numbered plain.Done = done refl
 plain-numbered (plain.Refused w) = refused (refusal-in-table w)
 
--- a stream also gives the two numbers of CR 1, 19 and 29
-pub stream-numbered : (x : StreamAnswer) → Numbered (answerNumber x) ⊎ ((answerNumber x ≡ 19) ⊎ (answerNumber x ≡ 29))
-unfolding inTable
-stream-numbered streamed.Done = inl (done refl)
-stream-numbered streamed.State = inl (refused refl)
-stream-numbered streamed.Closed = inr (inl refl)
-stream-numbered streamed.Places = inr (inr refl)
-stream-numbered streamed.Room = inl (refused refl)
+-- the calls of a stream
+pub stream-numbered : (x : Fed) → Numbered (fedPaper x .number)
+stream-numbered x = verdict-numbered (x .answer)
 
 -- "A REFUSAL WRITES NOTHING INTO A LENT BUFFER": of each function that is lent one, that its later contents are fixed, and that a refusal leaves them.
 

@@ -259,35 +259,32 @@ rk-clean-numbered κs a x s p = tells-numbered (p .0) (host-numbered .cleaning _
 pub rk-is-clean-numbered : Promises _ rk-is-clean-kinds.ps rk-is-clean-kinds.r rk-is-clean.Post (λ κs a x s. Numbered x)
 rk-is-clean-numbered κs a x s p = tells-numbered p (host-numbered .checking _)
 
--- and of `follow`, with the two numbers of CR 1
+-- and of `follow`
 
-abbrev pub StreamNumbered : ℕ → Type 0
-StreamNumbered n = Numbered n ⊎ ((n ≡ 19) ⊎ (n ≡ 29))
-
-either-one : (b : Bool) (m n : ℕ) → StreamNumbered m → StreamNumbered n → StreamNumbered (pick b m n)
+either-one : (b : Bool) (m n : ℕ) → Numbered m → Numbered n → Numbered (pick b m n)
 either-one true m n p q = p
 either-one false m n p q = q
 
-streaming : (x : Stream) (closing : Bool) (cut : List ℕ) (len : ℕ) → StreamNumbered (numberFor x closing cut len)
+streaming : (x : Stream) (closing : Bool) (cut : List ℕ) (len : ℕ) → Numbered (numberFor x closing cut len)
 unfolding numberFor inTable
 streaming x closing cut len =
     let full = not (leb (length (givenOf x closing cut)) (len / 64)) in
     let far = not (leb (x .place + (x .len + length cut)) lastPlace) in
-    either-one (not (stream.soundOf x)) 13 (pick (x .closed) 19 (pick far 29 (pick full 8 0))) (inl (refused refl))
-    (either-one (x .closed) 19 (pick far 29 (pick full 8 0)) (inr (inl refl))
-    (either-one far 29 (pick full 8 0) (inr (inr refl)) (either-one full 8 0 (inl (refused refl)) (inl (done refl)))))
+    either-one (not (stream.soundOf x)) 13 (pick (x .closed) 19 (pick far 29 (pick full 8 0))) (refused refl)
+    (either-one (x .closed) 19 (pick far 29 (pick full 8 0)) (refused refl)
+    (either-one far 29 (pick full 8 0) (refused refl) (either-one full 8 0 (refused refl) (done refl))))
 
-calling-stream : (x : Stream) (call : stream-calls.Call) (len : ℕ) → StreamNumbered (stream-calls.answerTo x call len .number)
+calling-stream : (x : Stream) (call : stream-calls.Call) (len : ℕ) → Numbered (stream-calls.answerTo x call len .number)
 unfolding answerFor
 calling-stream x call len = streaming x (stream-calls.closes call) (stream-calls.cutOf call) len
 
 pub rk-stream-open-numbered : Promises _ rk-stream-open-kinds.ps rk-stream-open-kinds.r rk-stream-open.Post (λ κs a x s. Numbered x)
 rk-stream-open-numbered κs a x s p = done (p .0)
 
-pub rk-stream-feed-numbered : Promises _ rk-stream-feed-kinds.ps rk-stream-feed-kinds.r rk-stream-feed.Post (λ κs a x s. StreamNumbered x)
+pub rk-stream-feed-numbered : Promises _ rk-stream-feed-kinds.ps rk-stream-feed-kinds.r rk-stream-feed.Post (λ κs a x s. Numbered x)
 rk-stream-feed-numbered κs a x s p =
     rw (p .0 .answered) (calling-stream (streamIn (lent (now (a .0)) (now (a .1 .0)) (now (a .1 .1 .0)))) (stream-calls.Feed (now (a .1 .1 .1 .0))) (length (now (a .1 .1 .1 .1 .0))))
 
-pub rk-stream-close-numbered : Promises _ rk-stream-close-kinds.ps rk-stream-close-kinds.r rk-stream-close.Post (λ κs a x s. StreamNumbered x)
+pub rk-stream-close-numbered : Promises _ rk-stream-close-kinds.ps rk-stream-close-kinds.r rk-stream-close.Post (λ κs a x s. Numbered x)
 rk-stream-close-numbered κs a x s p =
     rw (p .0 .answered) (calling-stream (streamIn (lent (now (a .0)) (now (a .1 .0)) (now (a .1 .1 .0)))) stream-calls.Close (length (now (a .1 .1 .1 .0))))

@@ -2,7 +2,7 @@
 use mathlib.Core.Path.{sym, _∙_}
 use Rattle.terms.specs.OneAnswer.{OneAnswer}
 use Rattle.rules.specs.Table.{kind-one}
-use Rattle.rules.specs.Verdicts.{verdict-one}
+use Rattle.terms.specs.Verdicts.{verdict-one}
 use Rattle.rules.proofs.kind_of.Reads as kind-of
 use Rattle.rules.proofs.kind_of.Kinds as kind-of-kinds
 use Rattle.rules.proofs.is_known.Reads as is-known

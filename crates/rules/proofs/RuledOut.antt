@@ -8,7 +8,7 @@ use Rattle.terms.specs.RuledOut.{Row, _never_, _only_, Kept, RulesOut, ruled, n
 use Rattle.rules.specs.declared.Kind.{Kind}
 use Rattle.rules.specs.declared.Kind.the-variants.{S003, M101, M102, M201, Unknown}
 use Rattle.rules.specs.Table.{kindPaper, kindOf, typeOf, known, suits, measureOf}
-use Rattle.rules.specs.Verdicts.{verdictNumber}
+use Rattle.terms.specs.Verdicts.{verdictNumber}
 use Rattle.rules.proofs.kind_of.Reads as kind-of
 use Rattle.rules.proofs.kind_of.Kinds as kind-of-kinds
 use Rattle.rules.proofs.is_known.Reads as is-known

@@ -1,4 +1,3 @@
-pub mod Verdicts
 pub mod Table
 pub mod Fields
 pub mod Sizes

@@ -1,8 +1,9 @@
 // The table of message types. What is said of a message behind its checksum stands in specs/ too, and the crate `fields` judges by it.
 ghost use mathlib.Core.Path.{_≡_};
 ghost use Rattle.rules.specs.Table.{kindPaper, typeOf, known, suits, measureOf};
-ghost use Rattle.rules.specs.Verdicts.{verdictNumber};
+ghost use Rattle.terms.specs.Verdicts.{verdictNumber};
 use terms::Refusal;
+use terms::Verdict;
 
 // The types of the table, under their MsgType, and one case for every other MsgType.
 pub enum Kind {
@@ -15,12 +16,6 @@ pub enum Kind {
     M102,
     M201,
     Unknown,
-}
-
-// What a rule says of a message.
-pub enum Verdict {
-    Fine,
-    Refused(Refusal),
 }
 
 // The type whose four letters a number holds, high byte first. The third letter of each is 0: in noise that one test mostly tells.

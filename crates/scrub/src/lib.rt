@@ -13,8 +13,8 @@ ghost use Rattle.private.specs.Known.{scrubbedAs, knownAnswer, knownLeaves};
 use frame::Read;
 use octets::Written;
 use rules::Kind;
-use rules::Verdict;
 use terms::Refusal;
+use terms::Verdict;
 
 // More spans than any type has: from the last on they are empty, and painting an empty one changes nothing.
 const SPANS: usize = 4;

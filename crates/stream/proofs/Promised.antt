@@ -20,7 +20,8 @@ use Rattle.trail.specs.Walk.{walkOf, tableOf}
 use Rattle.flow.specs.declared.Stream.{Stream}
 use Rattle.flow.specs.declared.Fed.{Fed}
 use Rattle.flow.specs.State.{StreamRules}
-use Rattle.flow.specs.Calls.{Call, Feed, Close, cutOf, closes, share, numberTo, answerFor, leavesFor, answerNumber}
+use Rattle.flow.specs.Calls.{Call, Feed, Close, cutOf, closes, share, numberTo, answerFor, leavesFor}
+use Rattle.terms.specs.Verdicts.{verdictNumber}
 use Rattle.flow.specs.CallLaws.{Promised}
 use Rattle.flow.specs.Trace.{Calls, _▸_, after, given, taken, ended, Row, opening, one-more, heard}
 use Rattle.flow.specs.Words.{decided, answered, Closed}
@@ -84,7 +85,7 @@ module _ {calls : Calls} {x : Stream} (row : Row calls x) where
   -- one more call of the code
   module _ (call : Call) (d d′ : List ℕ) (r : Fed) (p : Promised x (closes call) (cutOf call) d d′ r) where
     -- its number is told from the bytes taken alone
-    pub ran-number : answerNumber (r .answer) ≡ answered calls call (length d)
+    pub ran-number : verdictNumber (r .answer) ≡ answered calls call (length d)
     unfolding answerFor
     ran-number = one-number (p .0) ∙ rw (ran-is row) (every-cutting calls .numbers call (length d))
 

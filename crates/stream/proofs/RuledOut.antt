@@ -76,6 +76,7 @@ feed-wrong =
     (opened, (A ++ take 20 frameB, replicate 65 7)) only (answer 0 (1 ∷ []), (28 ∷ 20 ∷ 1 ∷ 0 ∷ [], recordOf recordA ++ (7 ∷ [])))  -- what may still become a frame is not refused, and not lost
     ∷ (begun, (drop 20 A, replicate 64 7)) only (answer 0 (1 ∷ []), (28 ∷ 0 ∷ 1 ∷ 0 ∷ [], recordOf recordA))  -- no byte lost at a cut
     ∷ (begun, ([], replicate 64 7)) only (answer 0 (0 ∷ []), (0 ∷ 20 ∷ 0 ∷ 0 ∷ [], replicate 64 7))  -- an empty cut is not the end
+    ∷ (opened, (replicate 29 0xFF, replicate 64 7)) only (answer 0 (1 ∷ []), (6 ∷ 23 ∷ 0 ∷ 1 ∷ [], recordOf (blankOf 0 2 0 0)))  -- the search does not pass over a place that waits
     ∷ (damaged, (frameB, replicate 64 7)) only (answer 0 (1 ∷ []), (69 ∷ 0 ∷ 1 ∷ 1 ∷ [], recordOf recordB))  -- damage recorded before a cut is not recorded again behind it
     ∷ (opened, (A, replicate 63 7)) only (answer 8 (0 ∷ []), (0 ∷ 0 ∷ 0 ∷ 0 ∷ [], replicate 63 7))  -- nothing changes beside 8, and no part of the cut is taken
     ∷ (closed, (A, replicate 64 7)) only (answer 19 (0 ∷ []), (48 ∷ 0 ∷ 1 ∷ 1 ∷ [], replicate 64 7))  -- no cut taken behind the closing call

@@ -8,7 +8,7 @@ use lib.Dec.{leb}
 use lib.ListN.{length, drop, replicate}
 use Rattle.trail.specs.Tables.{writtenFrom}
 use Rattle.flow.specs.declared.Stream.{Stream}
-use Rattle.flow.specs.declared.StreamAnswer.the-variants.{Done}
+use Rattle.terms.specs.declared.Verdict.the-variants.{Fine}
 use Rattle.flow.specs.State.{headOf}
 use Rattle.flow.specs.Run.{RanIs}
 use Rattle.flow.specs.Calls.{givenOf, behindOf, numberFor}
@@ -33,7 +33,7 @@ module _ (x : Stream) (closing : Bool) (cut : List ℕ) where
   fits-counted room p e = ap (λ (n : ℕ). leb n (room / 64)) (count-is p e)
 
   pub done-call : (d d′ : List ℕ) (p : Pushed) → p ≡ pushedOf x closing 0 cut → d′ ≡ writtenFrom 0 (givenOf x closing cut) d → leb (length (givenOf x closing cut)) (length d / 64) ≡ true → numberFor x closing cut (length d) ≡ 0
-      → Promised x closing cut d d′ (record { answer = Done; records = p .count; stream = p .stream })
+      → Promised x closing cut d d′ (record { answer = Fine; records = p .count; stream = p .stream })
   done-call d d′ p e w l n = done-with x closing cut d d′ (p .count) (p .stream) (count-is p e) (stream-is p e) w l n
 
 -- a run over the kept bytes and the cut, with what it leaves in front of zeros, is a push

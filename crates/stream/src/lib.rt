@@ -14,11 +14,12 @@ ghost use Rattle.stream.specs.Pieces.{Piece};
 ghost use Rattle.stream.specs.Pushed.{pushedOf};
 use flow::Fed;
 use flow::Stream;
-use flow::StreamAnswer;
 use flow::Tally;
 use ledger::Answer;
 use ledger::Ledger;
 use seen::Seen;
+use terms::Refusal;
+use terms::Verdict;
 
 // How far a run over a window of bytes got: the place in it where it stopped, and what it had made by then.
 struct Ran {
@@ -279,11 +280,11 @@ fn sound(st: Stream) -> bool
 }
 
 // A refusal: the stream as it was.
-fn refused(st: Stream, why: StreamAnswer) -> Fed
+fn refused(st: Stream, why: Refusal) -> Fed
     ensures { λ r. ⌜ r ≡ refusedBy st why ⌝ }
 {
     Fed {
-        answer: why,
+        answer: Verdict::Refused(why),
         records: 0,
         stream: st,
     }
@@ -318,21 +319,21 @@ fn call(st: Stream, cut: &[u8], closing: bool, records: &mut [u8]) -> Fed
         × (now (records .exit) ≡ leavesFor st closing (now (cut .entry)) (now (records .entry)))) ⌝ }
 {
     if !sound(st) {
-        return refused(st, StreamAnswer::State);
+        return refused(st, Refusal::State);
     }
     if st.closed {
-        return refused(st, StreamAnswer::Closed);
+        return refused(st, Refusal::Closed);
     }
     if !fits(st.place, st.len, cut.len()) {
-        return refused(st, StreamAnswer::Places);
+        return refused(st, Refusal::Places);
     }
     if !takes_all(st, cut, closing, records.len()) {
-        return refused(st, StreamAnswer::Room);
+        return refused(st, Refusal::Room);
     }
     let done = drawn(st, cut, closing, records);
     let next = done.stream;
     Fed {
-        answer: StreamAnswer::Done,
+        answer: Verdict::Fine,
         records: done.count,
         stream: next,
     }

@@ -15,6 +15,8 @@ use Rattle.terms.proofs.ChannelNumber.value.Reads as channel-value
 use Rattle.terms.proofs.ChannelNumber.value.Kinds as channel-value-kinds
 use Rattle.terms.proofs.Refusal.number.Reads as number
 use Rattle.terms.proofs.Refusal.number.Kinds as number-kinds
+use Rattle.terms.proofs.Verdict.number.Reads as verdict-number
+use Rattle.terms.proofs.Verdict.number.Kinds as verdict-number-kinds
 
 pub SessionNumber-new-one-answer : OneAnswer _ session-new-kinds.ps session-new-kinds.r session-new.Post
 SessionNumber-new-one-answer κs a x y s t p q = p ∙ sym q
@@ -36,3 +38,6 @@ ChannelNumber-value-one-answer κs a x y s t p q = p ∙ sym q
 
 pub Refusal-number-one-answer : OneAnswer _ number-kinds.ps number-kinds.r number.Post
 Refusal-number-one-answer κs a x y s t p q = p ∙ sym q
+
+pub Verdict-number-one-answer : OneAnswer _ verdict-number-kinds.ps verdict-number-kinds.r verdict-number.Post
+Verdict-number-one-answer κs a x y s t p q = p ∙ sym q

@@ -4,11 +4,14 @@ use mathlib.Core.Path.{refl, ap}
 use mathlib.Core.List.{List, [], _∷_}
 use Rattle.terms.specs.RuledOut.{Row, _never_, _only_, Kept, RulesOut, ruled, numbers}
 use Rattle.terms.specs.Refusals.{numberOf}
+use Rattle.terms.specs.Verdicts.{verdictNumber}
 use Rattle.terms.specs.declared.SessionNumber.{SessionNumber}
 use Rattle.terms.specs.declared.TickNumber.{TickNumber}
 use Rattle.terms.specs.declared.ChannelNumber.{ChannelNumber}
 use Rattle.terms.specs.declared.Refusal.{Refusal}
-use Rattle.terms.specs.declared.Refusal.the-variants.{Sum, Field, Time, Entries}
+use Rattle.terms.specs.declared.Verdict.{Verdict}
+use Rattle.terms.specs.declared.Verdict.the-variants.{Fine, Refused}
+use Rattle.terms.specs.declared.Refusal.the-variants.{Sum, Field, Time, Closed, Entries, Places}
 use Rattle.terms.proofs.SessionNumber.new.Reads as session-new
 use Rattle.terms.proofs.SessionNumber.new.Kinds as session-new-kinds
 use Rattle.terms.proofs.SessionNumber.value.Reads as session-value
@@ -23,6 +26,8 @@ use Rattle.terms.proofs.ChannelNumber.value.Reads as channel-value
 use Rattle.terms.proofs.ChannelNumber.value.Kinds as channel-value-kinds
 use Rattle.terms.proofs.Refusal.number.Reads as number
 use Rattle.terms.proofs.Refusal.number.Kinds as number-kinds
+use Rattle.terms.proofs.Verdict.number.Reads as verdict-number
+use Rattle.terms.proofs.Verdict.number.Kinds as verdict-number-kinds
 
 -- THE COUNTERS: a number, and the counter that is made of it; a counter, and its number. All are wrong in the same ways.
 abbrev pub counter-wrong : List (Row ℕ ℕ)
@@ -57,7 +62,19 @@ Refusal-number-wrong =
     ∷ Field never 5  -- two refusals with one number
     ∷ Time only 7  -- not 6 or 8, which are others'
     ∷ Entries never 18  -- counted on, without the gaps of the table
+    ∷ Closed only 19  -- not 20, which is another's
+    ∷ Places only 29  -- not counted on behind 20
     ∷ []
 
 pub Refusal-number-rules-out : RulesOut (Kept _ number-kinds.ps number-kinds.r number.Post) (λ c. c .args .0) (λ c. c .result) Refusal-number-wrong
 Refusal-number-rules-out = ruled numbers numberOf (λ c p. p) _ refl
+
+abbrev pub Verdict-number-wrong : List (Row Verdict ℕ)
+Verdict-number-wrong =
+    Fine only 0
+    ∷ Refused Sum never 0  -- a refusal told as fine
+    ∷ Refused Sum only 5
+    ∷ []
+
+pub Verdict-number-rules-out : RulesOut (Kept _ verdict-number-kinds.ps verdict-number-kinds.r verdict-number.Post) (λ c. c .args .0) (λ c. c .result) Verdict-number-wrong
+Verdict-number-rules-out = ruled numbers verdictNumber (λ c p. p) _ refl

@@ -3,6 +3,7 @@ pub mod Cases
 pub mod Says
 pub mod Counters
 pub mod Refusals
+pub mod Verdicts
 pub mod OneAnswer
 pub mod OneBuffer
 pub mod RuledOut

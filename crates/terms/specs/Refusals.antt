@@ -7,7 +7,7 @@ use lib.Dec.{eqb}
 use borrow.Author.Tests.{eqb-false}
 use Rattle.terms.specs.Paper.{Paper, refusal, pick}
 use Rattle.terms.specs.declared.Refusal.{Refusal}
-use Rattle.terms.specs.declared.Refusal.the-variants.{More, MsgType, Long, Length, Sum, Field, Time, Room, Place, Range, Repeat, Far, State, Busy, Whole, Unasked, Status, Channel, Entries}
+use Rattle.terms.specs.declared.Refusal.the-variants.{More, MsgType, Long, Length, Sum, Field, Time, Room, Place, Range, Repeat, Far, State, Busy, Whole, Unasked, Status, Channel, Closed, Entries, Places}
 
 abbrev pub numberOf : Refusal → ℕ
 numberOf More = 1  -- more
@@ -28,7 +28,9 @@ numberOf Whole = 15  -- whole
 numberOf Unasked = 16  -- unasked
 numberOf Status = 17  -- status
 numberOf Channel = 18  -- channel
+numberOf Closed = 19  -- a call after a stream's closing one, of document 02, CR 1
 numberOf Entries = 20  -- entries
+numberOf Places = 29  -- places of a stream past 64 bits, of document 02, CR 1
 
 -- the refusal of a number of the table
 unfoldable pub refusalOf : ℕ → Refusal
@@ -51,7 +53,9 @@ refusalOf n =
     (pick (eqb n 16) Unasked
     (pick (eqb n 17) Status
     (pick (eqb n 18) Channel
-    Entries)))))))))))))))))
+    (pick (eqb n 19) Closed
+    (pick (eqb n 20) Entries
+    Places)))))))))))))))))))
 
 pub refusal-back : (w : Refusal) → refusalOf (numberOf w) ≡ w
 unfolding refusalOf
@@ -73,7 +77,9 @@ refusal-back Whole = refl
 refusal-back Unasked = refl
 refusal-back Status = refl
 refusal-back Channel = refl
+refusal-back Closed = refl
 refusal-back Entries = refl
+refusal-back Places = refl
 
 -- two refusals of one number are one
 pub refusal-one : (v w : Refusal) → numberOf v ≡ numberOf w → v ≡ w
@@ -99,7 +105,9 @@ refusal-not-0 Whole = refl
 refusal-not-0 Unasked = refl
 refusal-not-0 Status = refl
 refusal-not-0 Channel = refl
+refusal-not-0 Closed = refl
 refusal-not-0 Entries = refl
+refusal-not-0 Places = refl
 
 -- an answer told from its paper: by its values where it is 0, else by its number
 unfoldable pub told : {A : Type 0} → (List ℕ → A) → (Refusal → A) → Paper → A

@@ -2,6 +2,7 @@
 ghost use mathlib.Core.Path.{_≡_};
 ghost use Rattle.terms.specs.Counters.{sessionOf, tickOf, channelOf};
 ghost use Rattle.terms.specs.Refusals.{numberOf};
+ghost use Rattle.terms.specs.Verdicts.{verdictNumber};
 
 // The session's MsgSeqNum. Its field is private: only `new` and `value` make one or take one apart.
 pub struct SessionNumber(u64);
@@ -60,9 +61,8 @@ impl ChannelNumber {
     }
 }
 
-// Why something is refused: a case for each row of document 01's table but 0, in its order. (Its rows "type" and "number"
-// are MsgType and Range here.)
-// (19 and 29 are a stream's own, in `flow`.)
+// Why something is refused: a case for each row of document 01's table but 0, in its order, and for the numbers that the requests
+// add. (The rows "type" and "number" are MsgType and Range here.)
 pub enum Refusal {
     More,
     MsgType,
@@ -82,7 +82,9 @@ pub enum Refusal {
     Unasked,
     Status,
     Channel,
+    Closed,
     Entries,
+    Places,
 }
 
 impl Refusal {
@@ -109,7 +111,27 @@ impl Refusal {
             Refusal::Unasked => 16,
             Refusal::Status => 17,
             Refusal::Channel => 18,
+            Refusal::Closed => 19,
             Refusal::Entries => 20,
+            Refusal::Places => 29,
+        }
+    }
+}
+
+// What a check or a call says: fine, or why not.
+pub enum Verdict {
+    Fine,
+    Refused(Refusal),
+}
+
+impl Verdict {
+    // Document 01's number of this verdict: 0, or the refusal's.
+    pub fn number(self) -> u32
+        ensures { λ r. ⌜ r ≡ verdictNumber self ⌝ }
+    {
+        match self {
+            Verdict::Fine => 0,
+            Verdict::Refused(why) => why.number(),
         }
     }
 }

@@ -1,7 +1,7 @@
 -- `carried`: by the answer's case. Assumes nothing.
 use Rattle.entries.specs.Outcomes.{carried-all, carried-none}
 use Rattle.terms.specs.Refusals.{refusal-pos}
-use Rattle.rules.specs.Verdicts.{verdictNumber}
+use Rattle.terms.specs.Verdicts.{verdictNumber}
 use mathlib.Core.Path.{_≡_, refl, sym, ap, _∙_}
 use borrow.Author.Needs.{needs}
 use Rattle.entries.proofs.carried.Statement.{statement}

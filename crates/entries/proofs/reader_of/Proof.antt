@@ -42,13 +42,13 @@ use denote.Triple.Table.{entered, cited}
 use denote.Triple.Walked.{says, Stays, stay-none-slice, walkOf, goes-none-slice, Walks, ends-at, walked, walk-meets}
 use denote.Exit.{yes}
 use denote.Triple.Clauses.{ensured, lasts}
-use Rattle.rules.specs.declared.Verdict.{Verdict}
-use Rattle.rules.specs.Verdicts.{verdictNumber}
+use Rattle.terms.specs.declared.Verdict.{Verdict}
+use Rattle.terms.specs.Verdicts.{verdictNumber}
 use Rattle.entries.specs.Reader.{openOf, Carries, Opens}
 use Rattle.entries.specs.declared.Entries.{Entries}
 use Rattle.entries.specs.declared.Opened.{Opened}
-use Rattle.rules.proofs.Verdict as R
-use Rattle.rules.proofs.Verdict.Laws as R′
+use Rattle.terms.proofs.Verdict as R
+use Rattle.terms.proofs.Verdict.Laws as R′
 use Rattle.entries.proofs.Entries as T
 use Rattle.entries.proofs.Entries.Laws as T′
 use Rattle.entries.proofs.Opened as O

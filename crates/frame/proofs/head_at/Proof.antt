@@ -4,7 +4,7 @@ use native.Mathlib.Omega.{arith}
 use Rattle.wire.specs.Places.{be-at, be-here}
 use Rattle.wire.specs.Outcomes.{measure, read-short, read-measured, read-cut}
 use Rattle.wire.specs.Frame.{msgType, bodyLength}
-use Rattle.rules.specs.Verdicts.{verdictNumber}
+use Rattle.terms.specs.Verdicts.{verdictNumber}
 use Rattle.rules.specs.Outcomes.{measure-type, measure-same}
 use Rattle.rules.specs.Table.{kindOf, known, kind-is}
 use Rattle.terms.specs.Refusals.{refusal-pos}

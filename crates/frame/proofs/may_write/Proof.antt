@@ -2,7 +2,7 @@
 use native.Mathlib.Omega.{arith}
 use Rattle.wire.specs.WriteLaws.{measureIn, judgementIn, write-measured, write-judged, write-room, write-done}
 use Rattle.wire.specs.Write.{Message, message}
-use Rattle.rules.specs.Verdicts.{verdictNumber}
+use Rattle.terms.specs.Verdicts.{verdictNumber}
 use Rattle.rules.specs.Outcomes.{measure-same, judge-same}
 use Rattle.rules.specs.Table.{kindOf, kind-is}
 use Rattle.terms.specs.Refusals.{refusal-pos}

@@ -4,7 +4,7 @@ use native.Mathlib.Omega.{arith}
 use Rattle.wire.specs.Places.{be-at, be-here, stored-at, part-body, plain-sum, inside-at}
 use Rattle.wire.specs.Outcomes.{accepted, judgement, read-sum, read-judgement, read-frame}
 use Rattle.wire.specs.Frame.{msgType, sendingTime, msgSeqNum, bodyLength, checkSum, plain, Whole}
-use Rattle.rules.specs.Verdicts.{verdictNumber}
+use Rattle.terms.specs.Verdicts.{verdictNumber}
 use Rattle.rules.specs.Outcomes.{judge-same}
 use Rattle.octets.specs.Octets.{sum8}
 use Rattle.terms.specs.declared.SessionNumber.{SessionNumber}

@@ -3,7 +3,7 @@ use Prim.Native.Nat.{ℕ}
 use mathlib.Core.Path.{sym, ap, _∙_}
 use mathlib.Core.List.{[], _∷_}
 use Rattle.terms.specs.Paper.{answer}
-use Rattle.rules.specs.Verdicts.{verdictNumber}
+use Rattle.terms.specs.Verdicts.{verdictNumber}
 use Rattle.words.specs.Told.{tells-done, tells-why}
 use Rattle.host.specs.Frames.{entriesTold}
 use borrow.Author.Needs.{needs}

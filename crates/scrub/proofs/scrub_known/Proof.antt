@@ -4,7 +4,7 @@ use mathlib.Core.Path.{_≡_, sym, ap, _∙_}
 use borrow.Author.Needs.{needs}
 use Rattle.terms.specs.Refusals.{refusal-pos}
 use Rattle.rules.specs.Table.{measureOf}
-use Rattle.rules.specs.Verdicts.{verdictNumber}
+use Rattle.terms.specs.Verdicts.{verdictNumber}
 use Rattle.wire.specs.Measures.{fits}
 use Rattle.private.specs.KnownLaws.{known-refused, known-short, known-done}
 use Rattle.scrub.proofs.scrub_known.Statement.{statement}

@@ -7,7 +7,7 @@ use lib.Dec.{leb}
 use lib.ListN.{length}
 use borrow.Author.Tests.{not-true, not-false, leb-true}
 use borrow.Author.Needs.{needs}
-use Rattle.flow.specs.declared.StreamAnswer.the-variants.{State, Closed, Places, Room}
+use Rattle.terms.specs.declared.Refusal.the-variants.{State, Closed, Places, Room}
 use Rattle.flow.specs.State.{lastPlace, soundOf}
 use Rattle.flow.specs.StateLaws.{sound-checked}
 use Rattle.flow.specs.CallLaws.{number-13, number-19, number-29, number-8, number-0, refused-call}
@@ -35,13 +35,13 @@ refused-requires : tie.Need-refused-requires
 refused-requires c κs = search needs
 
 returns : tie.Need-returns
-returns c = refused-call _ _ _ _ _ State refl (c .refused .ensures) (number-13 _ _ _ _ (sym (c .before .before .sound .ensures) ∙ not-true _ (c .before .if1 .taken)))
+returns c = refused-call _ _ _ _ _ State (c .refused .ensures) (number-13 _ _ _ _ (sym (c .before .before .sound .ensures) ∙ not-true _ (c .before .if1 .taken)))
 
 refused-requires-2 : tie.Need-refused-requires-2
 refused-requires-2 c κs = search needs
 
 returns-2 : tie.Need-returns-2
-returns-2 c = refused-call _ _ _ _ _ Closed refl (c .refused2 .ensures) (number-19 _ _ _ _ (right (c .before .before)) (c .before .if2 .taken))
+returns-2 c = refused-call _ _ _ _ _ Closed (c .refused2 .ensures) (number-19 _ _ _ _ (right (c .before .before)) (c .before .if2 .taken))
 
 fits-requires : tie.Need-fits-requires
 fits-requires c κs = search needs
@@ -50,7 +50,7 @@ refused-requires-3 : tie.Need-refused-requires-3
 refused-requires-3 c κs = search needs
 
 returns-3 : tie.Need-returns-3
-returns-3 c = refused-call _ _ _ _ _ Places refl (c .refused3 .ensures) (number-29 _ _ _ _ (right (c .before .before .before .before)) (c .before .before .before .if2 .left) (sym (c .before .before .fits2 .ensures) ∙ not-true _ (c .before .if3 .taken)))
+returns-3 c = refused-call _ _ _ _ _ Places (c .refused3 .ensures) (number-29 _ _ _ _ (right (c .before .before .before .before)) (c .before .before .before .if2 .left) (sym (c .before .before .fits2 .ensures) ∙ not-true _ (c .before .if3 .taken)))
 
 takes-all-requires : tie.Need-takes-all-requires
 takes-all-requires c κs = draws c
@@ -60,7 +60,7 @@ refused-requires-4 c κs = search needs
 
 returns-4 : tie.Need-returns-4
 returns-4 c =
-    refused-call _ _ _ _ _ Room refl (c .refused4 .ensures)
+    refused-call _ _ _ _ _ Room (c .refused4 .ensures)
     (number-8 _ _ _ _ (right (c .before .before .before .before .before .before)) (c .before .before .before .before .before .if2 .left) (fit (c .before .before .before)) (sym (c .before .before .takes-all .ensures) ∙ not-true _ (c .before .if4 .taken)))
 
 drawn-requires : tie.Need-drawn-requires
