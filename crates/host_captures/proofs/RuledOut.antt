@@ -21,6 +21,7 @@ use Rattle.wire.specs.Examples.{startOfA, frameA, frameB, capture, heartbeat, r
 use Rattle.view.specs.View.{viewOf}
 use Rattle.private.specs.Scrub.{painted, summed, scrubbed}
 use Rattle.map.specs.Bits.{valueOf, mapOf}
+use Rattle.map.specs.Ring.{rotated}
 use Rattle.book.specs.State.{rangeRules, mapRules, soundOf}
 use Rattle.book.specs.Calls.{ownNumber, checkedOf, numberTo, raised, done, missingCount, valuesOf, answerTo, nextOf, fresh}
 use Rattle.ledger.specs.State.{bookOf, ledgerOf}
@@ -79,7 +80,7 @@ rk-walk-wrong =
     ∷ []
 
 pub rk-walk-rules-out : RulesOut (Kept _ rk-walk-kinds.ps rk-walk-kinds.r rk-walk.Post) (λ c. (now (c .args .0), (now (c .args .1 .0), (now (c .args .1 .1 .0), now (c .args .1 .1 .1 .0))))) (λ c. shown (c .result) (now (c .exit .1 .1 .1 .0)) (now (c .exit .1 .1 .0) ++ now (c .exit .1 .0))) rk-walk-wrong
-unfolding frameA startOfA frameB checked readOf bodyRead numeral digitsOf laid sum8 sumOf kindOf suits measureOf p001Ok fieldsOk realTime realParts daysIn leap judgeOf viewOf valueOf mapOf rangeRules mapRules soundOf ownNumber checkedOf numberTo raised done nextOf fresh bookOf ledgerOf after next found noted sightsOf joined eachOf Account.accountOf Account.walkOf firstHalf secondHalf recordOf blankOf seenOf saysOf callsBy answered offerOf madeOf recordBy bookBy accepts refuses framesOf refusedOf Walk.fitsIn walkAnswer walkBook walkLeaves wordsOf keptBy walkWords toldBy
+unfolding frameA startOfA frameB checked readOf bodyRead numeral digitsOf laid sum8 sumOf kindOf suits measureOf p001Ok fieldsOk realTime realParts daysIn leap judgeOf viewOf valueOf mapOf rotated rangeRules mapRules soundOf ownNumber checkedOf numberTo raised done nextOf fresh bookOf ledgerOf after next found noted sightsOf joined eachOf Account.accountOf Account.walkOf firstHalf secondHalf recordOf blankOf seenOf saysOf callsBy answered offerOf madeOf recordBy bookBy accepts refuses framesOf refusedOf Walk.fitsIn walkAnswer walkBook walkLeaves wordsOf keptBy walkWords toldBy
 rk-walk-rules-out =
     ruled (beside numbers (beside lists lists)) (λ (i : Input). tells (walkAnswer (i .0) (length (i .1 .0))) (i .1 .1 .1) (walkWords (i .0) (length (i .1 .0)) (i .1 .1 .0) ++ walkLeaves (i .0) (i .1 .0)))
     (λ c p. said (p .0, ap₂ (λ (w d : List ℕ). w ++ d) (p .1 .0) (p .1 .1)))
@@ -101,7 +102,7 @@ rk-listing-wrong =
     ∷ []
 
 pub rk-listing-rules-out : RulesOut (Kept _ rk-listing-kinds.ps rk-listing-kinds.r rk-listing.Post) (λ c. (now (c .args .0), (c .args .1 .0, (c .args .1 .1 .0, (now (c .args .1 .1 .1 .0), (now (c .args .1 .1 .1 .1 .0), now (c .args .1 .1 .1 .1 .1 .0))))))) (λ c. shown (c .result) (now (c .exit .1 .1 .1 .1 .1 .0) ∷ []) (now (c .exit .1 .1 .1 .1 .0))) rk-listing-wrong
-unfolding numeral digitsOf laid roomFor laidIfRoom checked decimalOf widthIn firstHalf secondHalf recordOf recordAt blankOf column typeColumn firstColumns lastColumns lineOf named summaryOf recordsFrom recordsIn linesOf listingOf valueOf bookOf numberTo ownNumber checkedOf soundOf mapRules rangeRules missingCount ones valuesOf answerTo pendingIn ledgerIn listingTold listingLeaves toldBy
+unfolding numeral digitsOf laid roomFor laidIfRoom checked decimalOf widthIn firstHalf secondHalf recordOf recordAt blankOf column typeColumn firstColumns lastColumns lineOf named summaryOf recordsFrom recordsIn linesOf listingOf valueOf rotated bookOf numberTo ownNumber checkedOf soundOf mapRules rangeRules missingCount ones valuesOf answerTo pendingIn ledgerIn listingTold listingLeaves toldBy
 rk-listing-rules-out =
     ruled (beside numbers (beside lists lists)) (λ (i : Listing). tells (listingTold (i .0) (i .1 .0) (i .1 .1 .0) (i .1 .1 .1 .0) (length (i .1 .1 .1 .1 .0))) (i .1 .1 .1 .1 .1 ∷ []) (listingLeaves (i .0) (i .1 .0) (i .1 .1 .0) (i .1 .1 .1 .0) (i .1 .1 .1 .1 .0)))
     (λ c p. said p)

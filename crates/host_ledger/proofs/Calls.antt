@@ -8,16 +8,16 @@ use Rattle.terms.specs.declared.Refusal.{Refusal}
 use Rattle.terms.specs.Paper.{Paper, answer, refusal, one-number}
 use Rattle.terms.specs.Refusals.{numberOf}
 use Rattle.terms.specs.Counters.{channelOf}
-use Rattle.book.specs.Calls.{Call, answerTo, nextOf, openNumber, openOf}
+use Rattle.book.specs.Calls.{Call, answerTo, openNumber, openOf}
 use Rattle.ledger.specs.declared.Ledger.{Ledger}
-use Rattle.ledger.specs.State.{bookOf, ledgerOf}
+use Rattle.ledger.specs.State.{bookOf, ledgerOf, nextIn}
 use Rattle.words.specs.Told.{Tells, tells-done, tells-why}
 use Rattle.words.specs.Words.{ledgerIn}
 use Rattle.words.specs.Calls.{keptBy, callTold, wordsAfter}
 use Rattle.host_ledger.specs.Words.{openWords}
 
 -- the call as it is given, on the ledger l, and the ledger next that it gives
-module _ (w : List ℕ) {l next : Ledger} {given call : Call} (le : l ≡ ledgerIn w) (ce : given ≡ call) (xe : next ≡ ledgerOf (nextOf (bookOf l) given)) where
+module _ (w : List ℕ) {l next : Ledger} {given call : Call} (le : l ≡ ledgerIn w) (ce : given ≡ call) (xe : next ≡ nextIn l given) where
   paper-is : answerTo (bookOf l) given ≡ callTold w call
   paper-is = ap₂ (λ (x : Ledger) (y : Call). answerTo (bookOf x) y) le ce
 

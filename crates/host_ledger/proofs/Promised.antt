@@ -1,44 +1,43 @@
 -- A ledger call through the host is the book's own call, from the promises that the checker makes of the `ensures`; and demand 3 holds of every
 -- row of such calls on words that rk_ledger_open wrote. Assumes nothing.
-use Prim.Native.Nat.{ℕ, zero, suc, max, _≤_, _<_}
+use Prim.Native.Nat.{ℕ, max, _≤_, _<_}
 use mathlib.Core.Path.{_≡_, refl, sym, ap, ap₂, _∙_}
 use mathlib.Core.Bool.{true, false}
 use mathlib.Core.Logic.{⊎-elim}
-use mathlib.Core.List.{List, [], _∷_, _++_}
+use mathlib.Core.List.{List, [], _∷_}
 use native.Mathlib.Omega.{arith}
 use contract.Lifetimes.{Lfts}
 use borrow.Author.Tests.{le-ltb, lt-ltb, ne-eqb}
 use borrow.Fn.Kinds.{Dens, endedOf, resT}
 use denote.Ref.{now}
 use denote.Triple.Clauses.{AtExit}
-use lib.Dec.{eqb, lit<}
-use lib.ListN.{getD, take, drop}
-use mir.Syntax.{w64}
-use mir.Val.{Fits}
+use lib.Dec.{eqb}
+use lib.ListN.{length, getD}
 use Rattle.terms.specs.Paper.{Paper, answer, one-number}
 use Rattle.terms.specs.Cases.{two, same, clash}
-use Rattle.map.specs.Bits.{Words}
 use Rattle.book.specs.State.{Book, soundOf, StateRules}
-use Rattle.book.specs.Calls.{Call, Tick, Announce, Request, Reply, Missing, Held, elsewhere, ownNumber, checkedOf, done, valuesOf, beside, numberTo, answerTo, nextOf, openOf, missingCount, heldCount}
+use Rattle.book.specs.Calls.{Call, Tick, Announce, Request, Reply, Missing, Held, offered, elsewhere, ownNumber, checkedOf, raised, done, valuesOf, beside, numberTo, answerTo, nextOf, openOf, missingCount, heldCount}
 use Rattle.book.specs.Trace.{Calls, none, _▸_, after, History, start, _▸_⇒_, trace}
 use Rattle.book.specs.Words.{valueAt}
 use Rattle.book.specs.Demand3.{Demand3}
 use Rattle.book.proofs.Answers.{keeps}
 use Rattle.book.proofs.Demand3.{demand-3}
-use Rattle.book.proofs.Given.{given-12, given-13}
+use Rattle.book.proofs.Given.{given-13}
 use Rattle.book.proofs.Numbers.{checked-test}
 use Rattle.book.proofs.Rules.{rules-facts, rules-test}
 use Rattle.book.proofs.Steps.{rules-kept}
+use Rattle.ledger.specs.declared.Ledger.{Ledger}
 use Rattle.ledger.specs.declared.Pending.{Pending}
 use Rattle.ledger.specs.declared.Pending.the-variants.{Nothing, Range}
-use Rattle.ledger.specs.State.{askedOf, bookOf, ledgerOf}
+use Rattle.ledger.specs.State.{askedOf, bookOf, ledgerOf, topped}
+use Rattle.ledger.proofs.Seam.{done-by, far-by}
 use Rattle.words.specs.Told.{Tells, toldBy, seen}
-use Rattle.words.specs.Words.{firstAsked, lastAsked, wordsOf, ledgerIn, bookIn}
+use Rattle.words.specs.Words.{firstAsked, lastAsked, wordsOf, ledgerIn, withTop, bookIn}
 use Rattle.words.specs.Calls.{keptBy, callTold, wordsAfter}
-use Rattle.words.proofs.Back.{book-back, words-fore}
+use Rattle.words.proofs.Back.{words-back, book-back}
 use Rattle.words.proofs.Rows.{call-words, far-words}
 use Rattle.host_ledger.specs.Words.{openWords, ledgerTold}
-use Rattle.host_ledger.specs.Called.{counted, Called, HostRan, opening, one-more, askedNumbers, bookNumbers, historyNumbers, Nine}
+use Rattle.host_ledger.specs.Called.{counted, Called, HostRan, opening, one-more, askedNumbers, bookNumbers, historyNumbers}
 use Rattle.host_ledger.proofs.Kept.{call-kept}
 use Rattle.host_ledger.proofs.rk_ledger_open.Reads as opens
 use Rattle.host_ledger.proofs.rk_ledger_open.Kinds as opens-kinds
@@ -62,23 +61,38 @@ module _ (w : List ℕ) (call : Call) where
   same-next : (callTold w call .number ≡ 0 → ⊥) → (callTold w call .number ≡ 12 → ⊥) → bookIn (wordsAfter w call) ≡ nextOf b call
   same-next z f = ap bookIn (call-kept w call z f) ∙ sym (keeps b call .same (ne-eqb _ 0 z) (ne-eqb _ 12 f))
 
-  -- where the next ledger is stored: beside 0 and 12
+  -- where the next ledger is stored
   stored-next : StateRules b → wordsAfter w call ≡ wordsOf (ledgerOf (nextOf b call)) → bookIn (wordsAfter w call) ≡ nextOf b call
   stored-next r e = ap bookIn e ∙ book-back (nextOf b call) (rules-kept b call r)
 
   stored-0 : callTold w call .number ≡ 0 → wordsAfter w call ≡ wordsOf (ledgerOf (nextOf b call))
-  unfolding wordsAfter keptBy
-  stored-0 e = rw e
+  unfolding wordsAfter keptBy answerTo nextOf
+  stored-0 e = rw e (ap wordsOf (done-by bookOf ledgerOf (ledgerIn w) call e))
 
-  stored-12 : callTold w call .number ≡ 12 → wordsAfter w call ≡ wordsOf (ledgerOf (nextOf b call))
-  unfolding wordsAfter keptBy
-  stored-12 e = rw e
+  -- 12 stores the very ledger, its top raised
+  abbrev far : Ledger
+  far = topped (ledgerIn w) (max (ledgerIn w .top .0) (offered call))
+
+  far-stored : callTold w call .number ≡ 12 → wordsAfter w call ≡ wordsOf far
+  unfolding wordsAfter keptBy answerTo
+  far-stored e = rw e (ap wordsOf (far-by bookOf ledgerOf (ledgerIn w) call e))
+
+  far-book : callTold w call .number ≡ 12 → bookOf far ≡ nextOf b call
+  unfolding answerTo nextOf raised bookOf
+  far-book e = rw e
+
+  far-four : length (far .map .words) ≡ 4
+  unfolding ledgerIn
+  far-four = refl
+
+  far-next : StateRules b → callTold w call .number ≡ 12 → bookIn (wordsAfter w call) ≡ nextOf b call
+  far-next r e = ap bookIn (far-stored e) ∙ ap bookOf (words-back far far-four (rw (far-book e) (rules-kept b call r))) ∙ far-book e
 
   sound-next : StateRules b → bookIn (wordsAfter w call) ≡ nextOf b call
   sound-next r =
       ⊎-elim (λ (z : callTold w call .number ≡ 0). stored-next r (stored-0 z))
       (λ (z : callTold w call .number ≡ 0 → ⊥).
-      ⊎-elim (λ (f : callTold w call .number ≡ 12). stored-next r (stored-12 f))
+      ⊎-elim (λ (f : callTold w call .number ≡ 12). far-next r f)
       (λ (f : callTold w call .number ≡ 12 → ⊥). same-next z f)
       (same (callTold w call .number) 12))
       (same (callTold w call .number) 0)
@@ -230,31 +244,10 @@ count-is b call e f = let z : numberTo b call ≡ 0 = one-number f in ap (λ (y 
 
 -- ======== A refused tick
 
-module _ (w : List ℕ) (n : Nine w) where
-  four-in : Words (ledgerIn w .map .words)
-  unfolding ledgerIn
-  four-in = record { four = refl; low = at }
-    where
-      at : (i : ℕ) → Fits w64 (getD (getD w 3 0 ∷ getD w 4 0 ∷ getD w 5 0 ∷ getD w 6 0 ∷ []) i 0)
-      at zero = n .low 3
-      at (suc zero) = n .low 4
-      at (suc (suc zero)) = n .low 5
-      at (suc (suc (suc zero))) = n .low 6
-      at (suc (suc (suc (suc i)))) = record { fits = lit< tt }
-
-  third-word : (channel tick : ℕ) → callTold w (Tick channel tick) .number ≡ 12 → wordsAfter w (Tick channel tick) ≡ take 2 w ++ (max (getD w 2 0) tick ∷ drop 3 w)
-  unfolding answerTo wordsOf
-  third-word channel tick f =
-      let r : StateRules (bookIn w) = given-12 (bookIn w) channel tick .0 f .rules in
-      let e : wordsOf (ledgerIn w) ≡ w = words-fore w (n .nine) r in
-      let g = far-words (ledgerIn w) four-in r channel tick (rw e f) in
-      ap (λ (y : List ℕ). wordsAfter y (Tick channel tick)) (sym e) ∙ g
-      ∙ ap (λ (y : List ℕ). take 2 y ++ (max (getD y 2 0) tick ∷ drop 3 y)) e
-
 module _ (κs : Lfts 2) (a : Dens κs tick-kinds.ps) (x : resT tick-kinds.r κs .Denot) (s : AtExit (endedOf 2 tick-kinds.ps tick-kinds.r) κs) (p : tick.Post κs a x s) where
   -- 12 changes the third word alone, the top: it is raised to the tick, if it was lower
-  pub tick-12-raises-third : Nine (now (a .0)) → x ≡ 12 → now (s .0) ≡ take 2 (now (a .0)) ++ (max (getD (now (a .0)) 2 0) (a .1 .1 .0) ∷ drop 3 (now (a .0)))
-  tick-12-raises-third n e = p .1 ∙ third-word (now (a .0)) n (a .1 .0) (a .1 .1 .0) (sym (p .0 .answered) ∙ e)
+  pub tick-12-raises-third : x ≡ 12 → now (s .0) ≡ withTop (now (a .0)) (max (getD (now (a .0)) 2 0) (a .1 .1 .0))
+  tick-12-raises-third e = p .1 ∙ far-words (now (a .0)) (a .1 .0) (a .1 .1 .0) (sym (p .0 .answered) ∙ e)
 
   -- any other refusal changes none
   pub tick-refused-leaves : (x ≡ 0 → ⊥) → (x ≡ 12 → ⊥) → now (s .0) ≡ now (a .0)

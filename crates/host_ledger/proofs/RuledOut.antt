@@ -1,6 +1,6 @@
 -- For each function that a host may call on a ledger: wrong answers that its promise rules out, as tables of what is given and what is then wrong.
 -- A ledger is nine words: channel, floor, top, the map's four, and the pending range. Assumes nothing.
-use Prim.Native.Nat.{ℕ}
+use Prim.Native.Nat.{ℕ, _^_}
 use mathlib.Core.Path.{_≡_, refl, ap₂}
 use mathlib.Core.List.{List, [], _∷_}
 use denote.Ref.{now}
@@ -8,9 +8,10 @@ use lib.Count.{ones, trailingZeros}
 use Rattle.terms.specs.Paper.{Paper}
 use Rattle.terms.specs.RuledOut.{Row, _never_, _only_, Kept, RulesOut, ruled, numbers, lists, beside}
 use Rattle.map.specs.Bits.{valueOf, mapOf, run}
+use Rattle.map.specs.Ring.{rotated}
 use Rattle.book.specs.State.{has, rangeRules, mapRules, soundOf}
-use Rattle.book.specs.Calls.{Call, Tick, Announce, Request, Reply, openNumber, ownNumber, checkedOf, numberTo, passes, taken, raised, waiting, asked, done, missingCount, heldCount, valuesOf, answerTo, nextOf, fresh, openOf}
-use Rattle.ledger.specs.State.{bookOf, ledgerOf}
+use Rattle.book.specs.Calls.{Call, Tick, Announce, Request, Reply, openNumber, ownNumber, checkedOf, numberTo, passes, taken, raised, waiting, asked, done, missingCount, heldCount, valuesOf, answerTo, fresh, openOf}
+use Rattle.ledger.specs.State.{bookOf, ledgerOf, nextBy}
 use Rattle.words.specs.Words.{wordsOf, pendingIn, ledgerIn}
 use Rattle.words.specs.Calls.{keptBy, callTold, wordsAfter}
 use Rattle.words.specs.Told.{toldBy, Tells}
@@ -28,7 +29,7 @@ use Rattle.host_ledger.proofs.rk_ledger_reply.Kinds as rk-reply-kinds
 use Rattle.host_ledger.proofs.rk_ledger_told.Reads as rk-told
 use Rattle.host_ledger.proofs.rk_ledger_told.Kinds as rk-told-kinds
 
--- the words of channel 100: floor, top, the map's first word, and the pending range, 0 and 0 where there is none
+-- the words of channel 100: floor, top, the map's first word (2 ^ 7 is number 7), and the pending range, 0 and 0 where there is none
 abbrev words : ℕ → ℕ → ℕ → ℕ → ℕ → List ℕ
 words floor top held first last = 100 ∷ floor ∷ top ∷ held ∷ 0 ∷ 0 ∷ 0 ∷ first ∷ last ∷ []
 
@@ -57,7 +58,7 @@ rk-ledger-open-wrong =
     ∷ []
 
 pub rk-ledger-open-rules-out : RulesOut (Kept _ rk-open-kinds.ps rk-open-kinds.r rk-open.Post) (λ c. (c .args .0, now (c .args .1 .0))) (λ c. shown (c .result) [] (now (c .exit .1 .0))) rk-ledger-open-wrong
-unfolding bookOf ledgerOf mapOf valueOf numberTo ownNumber checkedOf soundOf mapRules rangeRules has passes taken raised waiting asked done missingCount heldCount valuesOf answerTo nextOf fresh openOf run trailingZeros ones wordsOf pendingIn ledgerIn keptBy wordsAfter toldBy openWords ledgerTold
+unfolding bookOf ledgerOf nextBy rotated mapOf valueOf numberTo ownNumber checkedOf soundOf mapRules rangeRules has passes taken raised waiting asked done missingCount heldCount valuesOf answerTo fresh openOf run trailingZeros ones wordsOf pendingIn ledgerIn keptBy wordsAfter toldBy openWords ledgerTold
 rk-ledger-open-rules-out = ruled (beside numbers (beside lists lists)) (λ (i : ℕ × List ℕ). shown (openNumber (i .0)) [] (openWords (i .0) (i .1))) (λ c p. plain p) _ refl
 
 -- CALLS: the words, a call, and the told row before
@@ -69,11 +70,13 @@ rk-ledger-tick-wrong =
     (words 1 1 0 0 0, (Tick 100 2, 7 ∷ 7 ∷ [])) never shown 0 (2 ∷ 0 ∷ []) (words 1 2 0 0 0)  -- a ledger that nods after the first tick
     ∷ (words 1 1 0 0 0, (Tick 100 2, 7 ∷ 7 ∷ [])) only shown 0 (2 ∷ 1 ∷ []) (words 2 2 0 0 0)
     ∷ (words 0 0 0 0 0, (Tick 100 257, 7 ∷ 7 ∷ [])) only shown 12 (7 ∷ 7 ∷ []) (words 0 257 0 0 0)  -- 12 raises the top, and tells nothing
+    ∷ (words 5 9 0 0 0, (Tick 100 7, 7 ∷ 7 ∷ [])) never shown 0 (6 ∷ 0 ∷ []) (words 5 9 (2 ^ 1) 0 0)  -- kept at its distance from the floor, as it once was
+    ∷ (words 5 9 0 0 0, (Tick 100 7, 7 ∷ 7 ∷ [])) only shown 0 (6 ∷ 0 ∷ []) (words 5 9 (2 ^ 7) 0 0)
     ∷ (words 0 0 0 0 0, (Tick 101 1, 7 ∷ 7 ∷ [])) only shown 18 (7 ∷ 7 ∷ []) (words 0 0 0 0 0)
     ∷ []
 
 pub rk-ledger-tick-rules-out : RulesOut (Kept _ rk-tick-kinds.ps rk-tick-kinds.r rk-tick.Post) (λ c. (now (c .args .0), (Tick (c .args .1 .0) (c .args .1 .1 .0), now (c .args .1 .1 .1 .0)))) (λ c. shown (c .result) (now (c .exit .1 .1 .1 .0)) (now (c .exit .0))) rk-ledger-tick-wrong
-unfolding bookOf ledgerOf mapOf valueOf numberTo ownNumber checkedOf soundOf mapRules rangeRules has passes taken raised waiting asked done missingCount heldCount valuesOf answerTo nextOf fresh openOf run trailingZeros ones wordsOf pendingIn ledgerIn keptBy wordsAfter toldBy openWords ledgerTold
+unfolding bookOf ledgerOf nextBy rotated mapOf valueOf numberTo ownNumber checkedOf soundOf mapRules rangeRules has passes taken raised waiting asked done missingCount heldCount valuesOf answerTo fresh openOf run trailingZeros ones wordsOf pendingIn ledgerIn keptBy wordsAfter toldBy openWords ledgerTold
 rk-ledger-tick-rules-out = ruled (beside numbers (beside lists lists)) (λ (i : Input). tells (callTold (i .0) (i .1 .0)) (i .1 .1) (wordsAfter (i .0) (i .1 .0))) (λ c p. said p) _ refl
 
 abbrev pub rk-ledger-request-wrong : List (Row Input Outcome)
@@ -84,7 +87,7 @@ rk-ledger-request-wrong =
     ∷ []
 
 pub rk-ledger-request-rules-out : RulesOut (Kept _ rk-request-kinds.ps rk-request-kinds.r rk-request.Post) (λ c. (now (c .args .0), (Request (c .args .1 .0), now (c .args .1 .1 .0)))) (λ c. shown (c .result) (now (c .exit .1 .1 .0)) (now (c .exit .0))) rk-ledger-request-wrong
-unfolding bookOf ledgerOf mapOf valueOf numberTo ownNumber checkedOf soundOf mapRules rangeRules has passes taken raised waiting asked done missingCount heldCount valuesOf answerTo nextOf fresh openOf run trailingZeros ones wordsOf pendingIn ledgerIn keptBy wordsAfter toldBy openWords ledgerTold
+unfolding bookOf ledgerOf nextBy rotated mapOf valueOf numberTo ownNumber checkedOf soundOf mapRules rangeRules has passes taken raised waiting asked done missingCount heldCount valuesOf answerTo fresh openOf run trailingZeros ones wordsOf pendingIn ledgerIn keptBy wordsAfter toldBy openWords ledgerTold
 rk-ledger-request-rules-out = ruled (beside numbers (beside lists lists)) (λ (i : Input). tells (callTold (i .0) (i .1 .0)) (i .1 .1) (wordsAfter (i .0) (i .1 .0))) (λ c p. said p) _ refl
 
 -- two that tell nothing
@@ -95,7 +98,7 @@ rk-ledger-announce-wrong =
     ∷ []
 
 pub rk-ledger-announce-rules-out : RulesOut (Kept _ rk-announce-kinds.ps rk-announce-kinds.r rk-announce.Post) (λ c. (now (c .args .0), Announce (c .args .1 .0) (c .args .1 .1 .0))) (λ c. shown (c .result) [] (now (c .exit .0))) rk-ledger-announce-wrong
-unfolding bookOf ledgerOf mapOf valueOf numberTo ownNumber checkedOf soundOf mapRules rangeRules has passes taken raised waiting asked done missingCount heldCount valuesOf answerTo nextOf fresh openOf run trailingZeros ones wordsOf pendingIn ledgerIn keptBy wordsAfter toldBy openWords ledgerTold
+unfolding bookOf ledgerOf nextBy rotated mapOf valueOf numberTo ownNumber checkedOf soundOf mapRules rangeRules has passes taken raised waiting asked done missingCount heldCount valuesOf answerTo fresh openOf run trailingZeros ones wordsOf pendingIn ledgerIn keptBy wordsAfter toldBy openWords ledgerTold
 rk-ledger-announce-rules-out = ruled (beside numbers (beside lists lists)) (λ (i : List ℕ × Call). shown (callTold (i .0) (i .1) .number) [] (wordsAfter (i .0) (i .1))) (λ c p. plain p) _ refl
 
 abbrev pub rk-ledger-reply-wrong : List (Row (List ℕ × Call) Outcome)
@@ -106,17 +109,17 @@ rk-ledger-reply-wrong =
     ∷ []
 
 pub rk-ledger-reply-rules-out : RulesOut (Kept _ rk-reply-kinds.ps rk-reply-kinds.r rk-reply.Post) (λ c. (now (c .args .0), Reply (c .args .1 .0) (c .args .1 .1 .0) (c .args .1 .1 .1 .0))) (λ c. shown (c .result) [] (now (c .exit .0))) rk-ledger-reply-wrong
-unfolding bookOf ledgerOf mapOf valueOf numberTo ownNumber checkedOf soundOf mapRules rangeRules has passes taken raised waiting asked done missingCount heldCount valuesOf answerTo nextOf fresh openOf run trailingZeros ones wordsOf pendingIn ledgerIn keptBy wordsAfter toldBy openWords ledgerTold
+unfolding bookOf ledgerOf nextBy rotated mapOf valueOf numberTo ownNumber checkedOf soundOf mapRules rangeRules has passes taken raised waiting asked done missingCount heldCount valuesOf answerTo fresh openOf run trailingZeros ones wordsOf pendingIn ledgerIn keptBy wordsAfter toldBy openWords ledgerTold
 rk-ledger-reply-rules-out = ruled (beside numbers (beside lists lists)) (λ (i : List ℕ × Call). shown (callTold (i .0) (i .1) .number) [] (wordsAfter (i .0) (i .1))) (λ c p. plain p) _ refl
 
 -- TOLD: the words, and the told row before
 abbrev pub rk-ledger-told-wrong : List (Row (List ℕ × List ℕ) (ℕ × List ℕ))
 rk-ledger-told-wrong =
-    (words 5 9 2 6 6, 7 ∷ []) never (0, 100 ∷ 5 ∷ 9 ∷ 4 ∷ 1 ∷ 6 ∷ 6 ∷ [])  -- held numbers counted as missing
-    ∷ (words 5 9 2 6 6, 7 ∷ []) only (0, 100 ∷ 5 ∷ 9 ∷ 3 ∷ 1 ∷ 6 ∷ 6 ∷ [])
-    ∷ (words 5 9 1 0 0, 7 ∷ []) only (13, 7 ∷ [])  -- words that stand for no state tell nothing
+    (words 5 9 (2 ^ 7) 6 6, 7 ∷ []) never (0, 100 ∷ 5 ∷ 9 ∷ 4 ∷ 1 ∷ 6 ∷ 6 ∷ [])  -- held numbers counted as missing
+    ∷ (words 5 9 (2 ^ 7) 6 6, 7 ∷ []) only (0, 100 ∷ 5 ∷ 9 ∷ 3 ∷ 1 ∷ 6 ∷ 6 ∷ [])
+    ∷ (words 5 9 (2 ^ 6) 0 0, 7 ∷ []) only (13, 7 ∷ [])  -- words that stand for no state tell nothing
     ∷ []
 
 pub rk-ledger-told-rules-out : RulesOut (Kept _ rk-told-kinds.ps rk-told-kinds.r rk-told.Post) (λ c. (now (c .args .0), now (c .args .1 .0))) (λ c. (c .result, now (c .exit .1 .0))) rk-ledger-told-wrong
-unfolding bookOf ledgerOf mapOf valueOf numberTo ownNumber checkedOf soundOf mapRules rangeRules has passes taken raised waiting asked done missingCount heldCount valuesOf answerTo nextOf fresh openOf run trailingZeros ones wordsOf pendingIn ledgerIn keptBy wordsAfter toldBy openWords ledgerTold
+unfolding bookOf ledgerOf nextBy rotated mapOf valueOf numberTo ownNumber checkedOf soundOf mapRules rangeRules has passes taken raised waiting asked done missingCount heldCount valuesOf answerTo fresh openOf run trailingZeros ones wordsOf pendingIn ledgerIn keptBy wordsAfter toldBy openWords ledgerTold
 rk-ledger-told-rules-out = ruled (beside numbers lists) (λ (i : List ℕ × List ℕ). (ledgerTold (i .0) .number, toldBy (ledgerTold (i .0)) (i .1))) (λ c p. ap₂ (λ (n : ℕ) (r : List ℕ). (n, r)) (p .answered) (p .told)) _ refl

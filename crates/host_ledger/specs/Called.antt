@@ -4,9 +4,7 @@ use Prim.Native.Nat.{ℕ}
 use mathlib.Core.Path.{_≡_}
 use mathlib.Core.List.{List, [], _∷_}
 use lib.Dec.{eqb}
-use lib.ListN.{length, getD}
-use mir.Syntax.{w64}
-use mir.Val.{Fits}
+use lib.ListN.{length}
 use Rattle.terms.specs.Paper.{Paper, answer, pick}
 use Rattle.book.specs.State.{Asked, nothing, range, Book, StateRules}
 use Rattle.book.specs.Calls.{Call, numberTo, answerTo, nextOf, fresh, missingCount, heldCount}
@@ -47,8 +45,3 @@ bookNumbers b = b .channel ∷ b .floor ∷ b .top ∷ missingCount b ∷ heldCo
 -- the same from the calls and their answers alone
 abbrev pub historyNumbers : ℕ → History → List ℕ
 historyNumbers channel h = channel ∷ length (handedOut h) ∷ knownTop h ∷ count (missing h) (knownTop h) ∷ count (held h) (knownTop h) ∷ askedNumbers (pending h)
-
--- what owning an array of nine words tells of its list
-pub record Nine (w : List ℕ) : Type 0 where
-  pub nine : length w ≡ 9
-  pub low : (i : ℕ) → Fits w64 (getD w i 0)

@@ -1,4 +1,5 @@
 pub mod OneAnswer
 pub mod Promised
+pub mod SameMap
 pub mod Seam
 pub mod RuledOut

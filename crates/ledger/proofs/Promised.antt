@@ -3,25 +3,22 @@
 use mathlib.Core.Path.{_≡_, refl, sym, ap, ap₂, _∙_}
 use mathlib.Core.List.{[]}
 use mathlib.Core.Bool.{true, false}
-use Prim.Native.Nat.{ℕ, _≤_, _<_, max}
+use Prim.Native.Nat.{ℕ, _^_, _≤_, _<_, max}
 use borrow.Fn.Kinds.{Dens, endedOf, resT}
-use borrow.Author.Tests.{le-ltb, lt-ltb}
+use borrow.Author.Tests.{eqb-true, le-ltb, lt-ltb}
 use contract.Lifetimes.{Lfts}
 use denote.Triple.Clauses.{AtExit}
-use Rattle.terms.specs.Counters.{tickOf}
 use Rattle.terms.specs.Paper.{Paper, answer}
-use Rattle.map.specs.Bits.{Words}
 use Rattle.book.specs.State.{Book}
-use Rattle.ledger.specs.State.{bookOf, ledgerOf}
-use Rattle.book.specs.Calls.{Call, Tick, Announce, Request, Reply, Missing, Held, answerTo, nextOf, fresh, openOf}
+use Rattle.ledger.specs.State.{bookOf, ledgerOf, topped, nextBy}
+use Rattle.book.specs.Calls.{Call, Tick, Announce, Request, Reply, Missing, Held, raised, answerTo, nextOf, fresh, openOf}
 use Rattle.ledger.specs.Papers.{tickPaper, requestPaper, replyPaper, paperOf, countPaper}
 use Rattle.book.specs.Trace.{Calls, _▸_, after, History, _▸_⇒_, trace}
-use Rattle.ledger.specs.Trace.{Promise, Ran, opening, one-more}
+use Rattle.ledger.specs.Trace.{Promise, RanBy, Ran, opening, one-more}
 use Rattle.book.specs.Words.{answered}
 use Rattle.book.specs.Demand3.{Demand3}
 use Rattle.ledger.specs.declared.Ledger.{Ledger}
-use Rattle.book.proofs.Answers.{keeps, far-raises}
-use Rattle.ledger.proofs.Seam.{book-of, ledger-of, raised-of}
+use Rattle.ledger.proofs.Seam.{book-of, topped-of, far-by, same-by, next-keeps}
 use Rattle.book.proofs.Agree.{agrees}
 use Rattle.book.proofs.Demand3.{demand-3}
 use Rattle.ledger.proofs.Ledger.opened.Reads as opened
@@ -76,31 +73,39 @@ unfolding openOf
 opened-refused κs a x s h p = (p .0 ∙ simp (lt-ltb _ _ h), p .1 ∙ simp (lt-ltb _ _ h))
 
 -- a refusal other than 12 gives back the very ledger that was passed in, sound or not
-pub refused-gives-back : (l next : Ledger) (call : Call) (paper : Paper) → Words (l .map .words) → Promise l call next paper
+pub refused-gives-back : (l next : Ledger) (call : Call) (paper : Paper) → Promise l call next paper
     → answered paper 0 ≡ false → answered paper 12 ≡ false → next ≡ l
-refused-gives-back l next call paper w p e f =
-    let k = keeps (bookOf l) call in
-    p .next-is ∙ ap ledgerOf (k .same (ap (λ (a : Paper). answered a 0) (sym (p .paper-is)) ∙ e) (ap (λ (a : Paper). answered a 12) (sym (p .paper-is)) ∙ f)) ∙ ledger-of l w
+unfolding answerTo
+refused-gives-back l next call paper p e f =
+    p .next-is ∙ same-by bookOf ledgerOf l call (ap (λ (a : Paper). answered a 0) (sym (p .paper-is)) ∙ e) (ap (λ (a : Paper). answered a 12) (sym (p .paper-is)) ∙ f)
 
 -- a tick answered 12 gives back the ledger that was passed in, its top raised to the tick if it was lower
-pub far-raises-top : (l next : Ledger) (channel n : ℕ) (paper : Paper) → Words (l .map .words) → Promise l (Tick channel n) next paper
-    → answered paper 12 ≡ true → next ≡ record { channel = l .channel; floor = l .floor; top = tickOf (max (l .top .0) n); map = l .map; pending = l .pending }
-far-raises-top l next channel n paper w p e =
-    p .next-is ∙ ap ledgerOf (far-raises (bookOf l) (Tick channel n) (ap (λ (a : Paper). answered a 12) (sym (p .paper-is)) ∙ e))
-    ∙ sym (raised-of l w n (tickOf (max (l .top .0) n)) refl)
+pub far-raises-top : (l next : Ledger) (channel n : ℕ) (paper : Paper) → Promise l (Tick channel n) next paper
+    → answered paper 12 ≡ true → next ≡ topped l (max (l .top .0) n)
+unfolding answerTo
+far-raises-top l next channel n paper p e = p .next-is ∙ far-by bookOf ledgerOf l (Tick channel n) (eqb-true _ 12 (ap (λ (a : Paper). answered a 12) (sym (p .paper-is)) ∙ e))
 
 -- ---- a whole row of calls
 
-pub ran-is-trace : (channel : ℕ) → channel ≤ 9999 → {calls : Calls} {l : Ledger} {h : History} → Ran channel calls l h
-    → (l ≡ ledgerOf (after channel calls)) × (h ≡ trace channel calls)
+-- however a ledger keeps a book, if the book can be read again and its top stands for itself
+pub ran-by-is-trace : (read : Ledger → Book) (keep : Book → Ledger) → ((b : Book) → b .bits < 2 ^ 256 → read (keep b) ≡ b)
+    → ((b : Book) (n : ℕ) → topped (keep b) (max (keep b .top .0) n) ≡ keep (raised b n))
+    → (channel : ℕ) → channel ≤ 9999 → {calls : Calls} {l : Ledger} {h : History} → RanBy read keep channel calls l h
+    → (l ≡ keep (after channel calls)) × (h ≡ trace channel calls)
 unfolding trace
-ran-is-trace channel small (opening e) = (e, refl)
-ran-is-trace channel small (one-more {calls} {l} {next} {h} {paper} call r p) =
-    let q = ran-is-trace channel small r in
-    let e : bookOf l ≡ after channel calls = ap bookOf (q .0) ∙ book-of (after channel calls) (agrees channel small calls .rules .places) in (
-      p .next-is ∙ ap (λ (b : Book). ledgerOf (nextOf b call)) e,
+ran-by-is-trace read keep back up channel small (opening e) = (e, refl)
+ran-by-is-trace read keep back up channel small (one-more {calls} {l} {next} {h} {paper} call r p) =
+    let q = ran-by-is-trace read keep back up channel small r in
+    let b = after channel calls in
+    let k : read (keep b) ≡ b = back b (agrees channel small calls .rules .places) in
+    let e : read l ≡ b = ap read (q .0) ∙ k in (
+      p .next-is ∙ ap (λ (x : Ledger). nextBy read keep x call) (q .0) ∙ next-keeps read keep b k (up b) call,
       ap₂ (λ (x : History) (y : Paper). x ▸ call ⇒ y) (q .1) (p .paper-is ∙ ap (λ (b : Book). answerTo b call) e),
     )
+
+pub ran-is-trace : (channel : ℕ) → channel ≤ 9999 → {calls : Calls} {l : Ledger} {h : History} → Ran channel calls l h
+    → (l ≡ ledgerOf (after channel calls)) × (h ≡ trace channel calls)
+ran-is-trace channel small r = ran-by-is-trace bookOf ledgerOf book-of topped-of channel small r
 
 -- For every row of calls of the code on a ledger that it opened, refusals included, demand 3 holds of the calls and answers and of the ledger.
 pub ran-demand-3 : (channel : ℕ) → channel ≤ 9999 → {calls : Calls} {l : Ledger} {h : History} → Ran channel calls l h → Demand3 h channel (bookOf l)

@@ -1,14 +1,16 @@
 -- For each call of a ledger: wrong answers that its promise rules out, as tables of what is given and what is then wrong. Assumes nothing.
-use Prim.Native.Nat.{ℕ, _^_}
+use Prim.Native.Nat.{ℕ, _+_, _^_}
 use mathlib.Core.Path.{_≡_, refl, ap, ap₂, _∙_}
 use mathlib.Core.List.{List, [], _∷_}
 use lib.Count.{ones, trailingZeros}
 use Rattle.terms.specs.Paper.{Paper, answer, refusal}
 use Rattle.terms.specs.RuledOut.{Row, _never_, _only_, Kept, RulesOut, ruled, numbers, lists, papers, beside}
-use Rattle.map.specs.Bits.{valueOf, mapOf, run}
-use Rattle.book.specs.State.{Asked, nothing, range, Book, has, rangeRules, mapRules, soundOf}
-use Rattle.book.specs.Calls.{Call, Tick, Announce, Request, Reply, Missing, Held, ownNumber, checkedOf, numberTo, passes, taken, raised, waiting, asked, done, missingCount, heldCount, valuesOf, answerTo, nextOf, fresh, openNumber, openOf}
-use Rattle.ledger.specs.State.{bookOf, ledgerOf}
+use Rattle.terms.specs.Counters.{tickOf, channelOf}
+use Rattle.map.specs.Bits.{valueOf, bitsIn, mapOf, run}
+use Rattle.map.specs.Ring.{rotated}
+use Rattle.book.specs.State.{Asked, nothing, range, has, rangeRules, mapRules, soundOf}
+use Rattle.book.specs.Calls.{Call, Tick, Announce, Request, Reply, Missing, Held, ownNumber, checkedOf, numberTo, passes, taken, raised, waiting, asked, done, missingCount, heldCount, valuesOf, answerTo, fresh, openNumber, openOf}
+use Rattle.ledger.specs.State.{bookOf, pendingOf, ledgerOf, nextBy, nextIn}
 use Rattle.ledger.specs.Papers.{tickPaper, requestPaper, replyPaper, paperOf, countPaper, pendingPaper, askedPaper}
 use Rattle.ledger.specs.declared.Ledger.{Ledger}
 use Rattle.ledger.specs.declared.Pending.{Pending}
@@ -38,30 +40,26 @@ use Rattle.ledger.proofs.Ledger.top.Kinds as top-kinds
 use Rattle.ledger.proofs.Ledger.pending.Reads as pending-reads
 use Rattle.ledger.proofs.Ledger.pending.Kinds as pending-kinds
 
--- a ledger of channel 100: floor, top, the held numbers as one number (digit i stands for floor + 1 + i), and the pending range
-abbrev book : ℕ → ℕ → ℕ → Asked → Book
-book floor top bits pending = record { channel = 100; floor = floor; top = top; bits = bits; pending = pending }
+-- a ledger of channel 100: floor, top, the places held as one number (number n has place n % 256, so that 2 ^ 7 is number 7), and the pending range
+abbrev ledger : ℕ → ℕ → ℕ → Asked → Ledger
+ledger floor top places pending = record { channel = channelOf 100; floor = tickOf floor; top = tickOf top; map = mapOf places; pending = pendingOf pending }
 
 -- the same as a row of numbers: what is seen of the ledger that stands beside an answer
-abbrev pending : Asked → List ℕ
-pending nothing = []
-pending (range first last) = first ∷ last ∷ []
-
-abbrev seen : Book → List ℕ
-seen b = b .channel ∷ b .floor ∷ b .top ∷ b .bits ∷ pending (b .pending)
+abbrev seen : Ledger → List ℕ
+seen l = l .channel .0 ∷ l .floor .0 ∷ l .top .0 ∷ bitsIn (l .map) ∷ pendingPaper (l .pending) .values
 
 -- a call on a ledger, and what the definitions say of it: the answer, and the ledger beside it
 abbrev Input : Type 0
-Input = Book × Call
+Input = Ledger × Call
 
 abbrev Outcome : Type 0
 Outcome = Paper × List ℕ
 
 abbrev shown : Paper → Ledger → Outcome
-shown p l = (p, seen (bookOf l))
+shown p l = (p, seen l)
 
 abbrev answered : Input → Outcome
-answered i = shown (answerTo (i .0) (i .1)) (ledgerOf (nextOf (i .0) (i .1)))
+answered i = shown (answerTo (bookOf (i .0)) (i .1)) (nextIn (i .0) (i .1))
 
 -- each call promises its paper and its ledger
 both : {p q : Paper} {l m : Ledger} → (p ≡ q) × (l ≡ m) → shown p l ≡ shown q m
@@ -69,128 +67,136 @@ both e = ap₂ shown (e .0) (e .1)
 
 abbrev pub Ledger-tick-wrong : List (Row Input Outcome)
 Ledger-tick-wrong =
-    (book 0 0 0 nothing, Tick 100 1) only (answer 0 (1 ∷ 1 ∷ []), seen (book 1 1 0 nothing))  -- tick 1 on a fresh ledger
-    ∷ (book 1 1 0 nothing, Tick 100 2) never (answer 0 (2 ∷ 0 ∷ []), seen (book 1 1 0 nothing))  -- tick 2 behind it: a ledger that nods later, and holds nothing
-    ∷ (book 1 1 0 nothing, Tick 100 2) never (answer 0 (2 ∷ 0 ∷ []), seen (book 1 2 0 nothing))  -- the same, with the top raised
-    ∷ (book 1 1 0 nothing, Tick 100 2) only (answer 0 (2 ∷ 1 ∷ []), seen (book 2 2 0 nothing))
-    ∷ (book 0 0 0 nothing, Tick 100 257) only (refusal 12, seen (book 0 257 0 nothing))  -- floor + 257 is not accepted, and 12 raises the top
-    ∷ (book 0 300 0 nothing, Tick 100 100) only (answer 0 (1 ∷ 0 ∷ []), seen (book 0 300 (2 ^ 99) nothing))  -- a number not above the largest known is not ignored
-    ∷ (book 0 2 2 nothing, Tick 100 1) only (answer 0 (1 ∷ 2 ∷ []), seen (book 2 2 0 nothing))  -- the floor passes what is held, and its places are free again
+    (ledger 0 0 0 nothing, Tick 100 1) only (answer 0 (1 ∷ 1 ∷ []), seen (ledger 1 1 0 nothing))  -- tick 1 on a fresh ledger
+    ∷ (ledger 1 1 0 nothing, Tick 100 2) never (answer 0 (2 ∷ 0 ∷ []), seen (ledger 1 1 0 nothing))  -- tick 2 behind it: a ledger that nods later, and holds nothing
+    ∷ (ledger 1 1 0 nothing, Tick 100 2) never (answer 0 (2 ∷ 0 ∷ []), seen (ledger 1 2 0 nothing))  -- the same, with the top raised
+    ∷ (ledger 1 1 0 nothing, Tick 100 2) only (answer 0 (2 ∷ 1 ∷ []), seen (ledger 2 2 0 nothing))
+    ∷ (ledger 0 0 0 nothing, Tick 100 257) only (refusal 12, seen (ledger 0 257 0 nothing))  -- floor + 257 is not accepted, and 12 raises the top
+    ∷ (ledger 0 300 0 nothing, Tick 100 100) only (answer 0 (1 ∷ 0 ∷ []), seen (ledger 0 300 (2 ^ 100) nothing))  -- a number not above the largest known is not ignored
+    ∷ (ledger 0 0 0 nothing, Tick 100 257) never (answer 0 (1 ∷ 0 ∷ []), seen (ledger 0 257 (2 ^ 1) nothing))  -- taken, because its place is free
+    ∷ (ledger 0 2 (2 ^ 2) nothing, Tick 100 1) never (answer 0 (1 ∷ 0 ∷ []), seen (ledger 0 2 0 nothing))  -- places cleared before they are counted
+    ∷ (ledger 0 2 (2 ^ 2) nothing, Tick 100 1) only (answer 0 (1 ∷ 2 ∷ []), seen (ledger 2 2 0 nothing))  -- the floor passes what is held, and its places are free again
+    ∷ (ledger 255 255 0 nothing, Tick 100 256) never (answer 0 (256 ∷ 1 ∷ []), seen (ledger 256 256 1 nothing))  -- the place of a number that the floor has passed is not cleared
+    ∷ (ledger 250 250 0 nothing, Tick 100 300) never (answer 0 (251 ∷ 0 ∷ []), seen (ledger 250 300 (2 ^ 45) nothing))  -- the place is the remainder by 255
+    ∷ (ledger 250 250 0 nothing, Tick 100 300) never (answer 0 (251 ∷ 0 ∷ []), seen (ledger 250 300 (2 ^ 49) nothing))  -- the place is the distance from the floor, as it once was
+    ∷ (ledger 250 250 0 nothing, Tick 100 300) only (answer 0 (251 ∷ 0 ∷ []), seen (ledger 250 300 (2 ^ 44) nothing))
+    ∷ (ledger 1 1 0 nothing, Tick 100 257) never (refusal 11, seen (ledger 1 1 0 nothing))  -- a tick 256 numbers behind one that was passed is repeated
+    ∷ (ledger 0 3 (2 ^ 9) nothing, Tick 100 2) only (refusal 13, seen (ledger 0 3 (2 ^ 9) nothing))  -- a number above the top is not held
+    ∷ (ledger 0 3 (2 ^ 1) nothing, Tick 100 2) only (refusal 13, seen (ledger 0 3 (2 ^ 1) nothing))  -- nor is floor + 1; and a refusal gives back the ledger as it is
+    ∷ (ledger 5 9 (2 ^ 7) nothing, Tick 100 7) only (refusal 11, seen (ledger 5 9 (2 ^ 7) nothing))
     ∷ []
 
-pub Ledger-tick-rules-out : RulesOut (Kept _ tick-kinds.ps tick-kinds.r tick.Post) (λ c. (bookOf (c .args .0), Tick (c .args .1 .0 .0) (c .args .1 .1 .0 .0))) (λ c. shown (tickPaper (c .result .answer)) (c .result .next)) Ledger-tick-wrong
-unfolding bookOf ledgerOf mapOf valueOf numberTo ownNumber checkedOf soundOf mapRules rangeRules has passes taken raised waiting asked done missingCount valuesOf answerTo nextOf fresh run trailingZeros
+pub Ledger-tick-rules-out : RulesOut (Kept _ tick-kinds.ps tick-kinds.r tick.Post) (λ c. (c .args .0, Tick (c .args .1 .0 .0) (c .args .1 .1 .0 .0))) (λ c. shown (tickPaper (c .result .answer)) (c .result .next)) Ledger-tick-wrong
+unfolding bookOf ledgerOf nextBy rotated mapOf valueOf numberTo ownNumber checkedOf soundOf mapRules rangeRules has passes taken raised waiting asked done missingCount valuesOf answerTo fresh run trailingZeros
 Ledger-tick-rules-out = ruled (beside papers lists) answered (λ c p. both p) _ refl
 
 abbrev pub Ledger-announce-wrong : List (Row Input Outcome)
 Ledger-announce-wrong =
-    (book 0 9 0 nothing, Announce 100 3) never (answer 0 [], seen (book 0 3 0 nothing))  -- the top lowered
-    ∷ (book 0 0 0 nothing, Announce 100 3) never (answer 0 [], seen (book 3 3 0 nothing))  -- numbers received because they are announced
-    ∷ (book 0 0 0 nothing, Announce 100 999999999999999999) only (answer 0 [], seen (book 0 999999999999999999 0 nothing))  -- the largest number of 18 digits is not refused
+    (ledger 0 9 0 nothing, Announce 100 3) never (answer 0 [], seen (ledger 0 3 0 nothing))  -- the top lowered
+    ∷ (ledger 0 0 0 nothing, Announce 100 3) never (answer 0 [], seen (ledger 3 3 0 nothing))  -- numbers received because they are announced
+    ∷ (ledger 0 0 0 nothing, Announce 100 999999999999999999) only (answer 0 [], seen (ledger 0 999999999999999999 0 nothing))  -- the largest number of 18 digits is not refused
     ∷ []
 
-pub Ledger-announce-rules-out : RulesOut (Kept _ announce-kinds.ps announce-kinds.r announce.Post) (λ c. (bookOf (c .args .0), Announce (c .args .1 .0 .0) (c .args .1 .1 .0 .0))) (λ c. shown (paperOf (c .result .answer)) (c .result .next)) Ledger-announce-wrong
-unfolding bookOf ledgerOf mapOf valueOf numberTo ownNumber checkedOf soundOf mapRules rangeRules raised done valuesOf answerTo nextOf
+pub Ledger-announce-rules-out : RulesOut (Kept _ announce-kinds.ps announce-kinds.r announce.Post) (λ c. (c .args .0, Announce (c .args .1 .0 .0) (c .args .1 .1 .0 .0))) (λ c. shown (paperOf (c .result .answer)) (c .result .next)) Ledger-announce-wrong
+unfolding bookOf ledgerOf nextBy rotated mapOf valueOf numberTo ownNumber checkedOf soundOf mapRules rangeRules raised done valuesOf answerTo
 Ledger-announce-rules-out = ruled (beside papers lists) answered (λ c p. both p) _ refl
 
 abbrev pub Ledger-request-wrong : List (Row Input Outcome)
 Ledger-request-wrong =
-    (book 0 257 0 nothing, Request 100) never (answer 0 (1 ∷ 201 ∷ []), seen (book 0 257 0 (range 1 201)))  -- more than 200 numbers asked for
-    ∷ (book 0 257 0 nothing, Request 100) only (answer 0 (1 ∷ 200 ∷ []), seen (book 0 257 0 (range 1 200)))
-    ∷ (book 0 300 (2 ^ 99) nothing, Request 100) never (answer 0 (1 ∷ 200 ∷ []), seen (book 0 300 (2 ^ 99) (range 1 200)))  -- run past a held number: 100
-    ∷ (book 0 300 (2 ^ 99) nothing, Request 100) only (answer 0 (1 ∷ 99 ∷ []), seen (book 0 300 (2 ^ 99) (range 1 99)))
-    ∷ (book 0 2 2 (range 1 1), Request 100) only (refusal 14, seen (book 0 2 2 (range 1 1)))  -- not asked again while a request is pending
-    ∷ (book 0 0 0 nothing, Request 100) only (refusal 15, seen (book 0 0 0 nothing))  -- nothing asked for where nothing is missing
+    (ledger 0 257 0 nothing, Request 100) never (answer 0 (1 ∷ 201 ∷ []), seen (ledger 0 257 0 (range 1 201)))  -- more than 200 numbers asked for
+    ∷ (ledger 0 257 0 nothing, Request 100) only (answer 0 (1 ∷ 200 ∷ []), seen (ledger 0 257 0 (range 1 200)))
+    ∷ (ledger 0 300 (2 ^ 100) nothing, Request 100) never (answer 0 (1 ∷ 200 ∷ []), seen (ledger 0 300 (2 ^ 100) (range 1 200)))  -- run past a held number: 100
+    ∷ (ledger 0 300 (2 ^ 100) nothing, Request 100) only (answer 0 (1 ∷ 99 ∷ []), seen (ledger 0 300 (2 ^ 100) (range 1 99)))
+    ∷ (ledger 0 2 (2 ^ 2) (range 1 1), Request 100) only (refusal 14, seen (ledger 0 2 (2 ^ 2) (range 1 1)))  -- not asked again while a request is pending
+    ∷ (ledger 0 0 0 nothing, Request 100) only (refusal 15, seen (ledger 0 0 0 nothing))  -- nothing asked for where nothing is missing
     ∷ []
 
-pub Ledger-request-rules-out : RulesOut (Kept _ request-kinds.ps request-kinds.r request.Post) (λ c. (bookOf (c .args .0), Request (c .args .1 .0 .0))) (λ c. shown (requestPaper (c .result .answer)) (c .result .next)) Ledger-request-wrong
-unfolding bookOf ledgerOf mapOf valueOf numberTo ownNumber checkedOf soundOf mapRules rangeRules waiting asked done valuesOf answerTo nextOf trailingZeros
+pub Ledger-request-rules-out : RulesOut (Kept _ request-kinds.ps request-kinds.r request.Post) (λ c. (c .args .0, Request (c .args .1 .0 .0))) (λ c. shown (requestPaper (c .result .answer)) (c .result .next)) Ledger-request-wrong
+unfolding bookOf ledgerOf nextBy rotated mapOf valueOf numberTo ownNumber checkedOf soundOf mapRules rangeRules waiting asked done valuesOf answerTo trailingZeros
 Ledger-request-rules-out = ruled (beside papers lists) answered (λ c p. both p) _ refl
 
 abbrev pub Ledger-reply-wrong : List (Row Input Outcome)
 Ledger-reply-wrong =
-    (book 0 3 0 (range 1 3), Reply 100 1 1) never (answer 0 [], seen (book 3 3 0 nothing))  -- numbers received because a reply says so
-    ∷ (book 0 3 0 (range 1 3), Reply 100 1 1) only (answer 0 [], seen (book 0 3 0 nothing))
-    ∷ (book 0 3 0 (range 1 3), Reply 100 2 1) only (refusal 16, seen (book 0 3 0 (range 1 3)))  -- not cleared by a reply with another first number
-    ∷ (book 0 3 0 (range 1 3), Reply 100 1 6) only (refusal 17, seen (book 0 3 0 (range 1 3)))
+    (ledger 0 3 0 (range 1 3), Reply 100 1 1) never (answer 0 [], seen (ledger 3 3 0 nothing))  -- numbers received because a reply says so
+    ∷ (ledger 0 3 0 (range 1 3), Reply 100 1 1) only (answer 0 [], seen (ledger 0 3 0 nothing))
+    ∷ (ledger 0 3 0 (range 1 3), Reply 100 2 1) only (refusal 16, seen (ledger 0 3 0 (range 1 3)))  -- not cleared by a reply with another first number
+    ∷ (ledger 0 3 0 (range 1 3), Reply 100 1 6) only (refusal 17, seen (ledger 0 3 0 (range 1 3)))
     ∷ []
 
-pub Ledger-reply-rules-out : RulesOut (Kept _ reply-kinds.ps reply-kinds.r reply.Post) (λ c. (bookOf (c .args .0), Reply (c .args .1 .0 .0) (c .args .1 .1 .0 .0) (c .args .1 .1 .1 .0))) (λ c. shown (replyPaper (c .result .answer)) (c .result .next)) Ledger-reply-wrong
-unfolding bookOf ledgerOf mapOf valueOf numberTo ownNumber checkedOf soundOf mapRules rangeRules waiting done valuesOf answerTo nextOf
+pub Ledger-reply-rules-out : RulesOut (Kept _ reply-kinds.ps reply-kinds.r reply.Post) (λ c. (c .args .0, Reply (c .args .1 .0 .0) (c .args .1 .1 .0 .0) (c .args .1 .1 .1 .0))) (λ c. shown (replyPaper (c .result .answer)) (c .result .next)) Ledger-reply-wrong
+unfolding bookOf ledgerOf nextBy rotated mapOf valueOf numberTo ownNumber checkedOf soundOf mapRules rangeRules waiting done valuesOf answerTo
 Ledger-reply-rules-out = ruled (beside papers lists) answered (λ c p. both p) _ refl
 
 abbrev pub Ledger-missing-wrong : List (Row Input Outcome)
 Ledger-missing-wrong =
-    (book 0 3 0 nothing, Missing) never (answer 0 (2 ∷ []), seen (book 0 3 0 nothing))  -- announce 3, missing 2: a count that is invented
-    ∷ (book 0 3 0 nothing, Missing) only (answer 0 (3 ∷ []), seen (book 0 3 0 nothing))
-    ∷ (book 5 9 2 nothing, Missing) never (answer 0 (8 ∷ []), seen (book 5 9 2 nothing))  -- delivered numbers counted as missing
-    ∷ (book 5 9 2 nothing, Missing) only (answer 0 (3 ∷ []), seen (book 5 9 2 nothing))  -- held ones are not missing
-    ∷ (book 0 1 1 nothing, Missing) only (answer 13 (0 ∷ []), seen (book 0 1 1 nothing))  -- a state that holds floor + 1 is no state, and no count stands beside 13
+    (ledger 0 3 0 nothing, Missing) never (answer 0 (2 ∷ []), seen (ledger 0 3 0 nothing))  -- announce 3, missing 2: a count that is invented
+    ∷ (ledger 0 3 0 nothing, Missing) only (answer 0 (3 ∷ []), seen (ledger 0 3 0 nothing))
+    ∷ (ledger 5 9 (2 ^ 7) nothing, Missing) never (answer 0 (8 ∷ []), seen (ledger 5 9 (2 ^ 7) nothing))  -- delivered numbers counted as missing
+    ∷ (ledger 5 9 (2 ^ 7) nothing, Missing) only (answer 0 (3 ∷ []), seen (ledger 5 9 (2 ^ 7) nothing))  -- held ones are not missing
+    ∷ (ledger 0 1 (2 ^ 1) nothing, Missing) only (answer 13 (0 ∷ []), seen (ledger 0 1 (2 ^ 1) nothing))  -- a state that holds floor + 1 is no state, and no count stands beside 13
     ∷ []
 
-pub Ledger-missing-rules-out : RulesOut (Kept _ missing-kinds.ps missing-kinds.r missing.Post) (λ c. (bookOf (c .args .0), Missing)) (λ c. shown (countPaper (c .result .answer) (c .result .count)) (c .result .next)) Ledger-missing-wrong
-unfolding bookOf ledgerOf mapOf valueOf numberTo ownNumber checkedOf soundOf mapRules rangeRules done missingCount valuesOf answerTo nextOf ones
+pub Ledger-missing-rules-out : RulesOut (Kept _ missing-kinds.ps missing-kinds.r missing.Post) (λ c. (c .args .0, Missing)) (λ c. shown (countPaper (c .result .answer) (c .result .count)) (c .result .next)) Ledger-missing-wrong
+unfolding bookOf ledgerOf nextBy rotated mapOf valueOf numberTo ownNumber checkedOf soundOf mapRules rangeRules done missingCount valuesOf answerTo ones
 Ledger-missing-rules-out = ruled (beside papers lists) answered (λ c p. both p) _ refl
 
 abbrev pub Ledger-held-wrong : List (Row Input Outcome)
 Ledger-held-wrong =
-    (book 0 3 2 nothing, Held) never (answer 0 (0 ∷ []), seen (book 0 3 2 nothing))  -- nothing is ever held
-    ∷ (book 0 3 2 nothing, Held) only (answer 0 (1 ∷ []), seen (book 0 3 2 nothing))
-    ∷ (book 0 300 0x202 nothing, Held) only (answer 0 (2 ∷ []), seen (book 0 300 0x202 nothing))
+    (ledger 0 3 (2 ^ 2) nothing, Held) never (answer 0 (0 ∷ []), seen (ledger 0 3 (2 ^ 2) nothing))  -- nothing is ever held
+    ∷ (ledger 0 3 (2 ^ 2) nothing, Held) only (answer 0 (1 ∷ []), seen (ledger 0 3 (2 ^ 2) nothing))
+    ∷ (ledger 0 300 (2 ^ 2 + 2 ^ 10) nothing, Held) only (answer 0 (2 ∷ []), seen (ledger 0 300 (2 ^ 2 + 2 ^ 10) nothing))
     ∷ []
 
-pub Ledger-held-rules-out : RulesOut (Kept _ held-kinds.ps held-kinds.r held.Post) (λ c. (bookOf (c .args .0), Held)) (λ c. shown (countPaper (c .result .answer) (c .result .count)) (c .result .next)) Ledger-held-wrong
-unfolding bookOf ledgerOf mapOf valueOf numberTo ownNumber checkedOf soundOf mapRules rangeRules done heldCount valuesOf answerTo nextOf ones
+pub Ledger-held-rules-out : RulesOut (Kept _ held-kinds.ps held-kinds.r held.Post) (λ c. (c .args .0, Held)) (λ c. shown (countPaper (c .result .answer) (c .result .count)) (c .result .next)) Ledger-held-wrong
+unfolding bookOf ledgerOf nextBy rotated mapOf valueOf numberTo ownNumber checkedOf soundOf mapRules rangeRules done heldCount valuesOf answerTo ones
 Ledger-held-rules-out = ruled (beside papers lists) answered (λ c p. both p) _ refl
 
 abbrev pub Ledger-opened-wrong : List (Row ℕ Outcome)
 Ledger-opened-wrong =
-    100 only (answer 0 [], seen (book 0 0 0 nothing))
+    100 only (answer 0 [], seen (ledger 0 0 0 nothing))
     ∷ 10000 never (refusal 18, 0 ∷ 0 ∷ 0 ∷ 0 ∷ [])  -- a channel above 9,999 refused by 18
     ∷ 10000 only (refusal 10, 0 ∷ 0 ∷ 0 ∷ 0 ∷ [])  -- beside 10 a ledger for channel 0
     ∷ []
 
 pub Ledger-opened-rules-out : RulesOut (Kept _ opened-kinds.ps opened-kinds.r opened-reads.Post) (λ c. c .args .0 .0) (λ c. shown (paperOf (c .result .answer)) (c .result .next)) Ledger-opened-wrong
-unfolding bookOf ledgerOf mapOf valueOf fresh openOf
+unfolding ledgerOf rotated mapOf valueOf fresh openOf
 Ledger-opened-rules-out = ruled (beside papers lists) (λ (n : ℕ). shown (answer (openNumber n) []) (ledgerOf (openOf n))) (λ c p. both p) _ refl
 
 -- WHAT A LEDGER TELLS: one of its parts
-abbrev pub Ledger-channel-wrong : List (Row Book ℕ)
+abbrev pub Ledger-channel-wrong : List (Row Ledger ℕ)
 Ledger-channel-wrong =
-    book 0 0 0 nothing only 100
-    ∷ record { channel = 7; floor = 0; top = 0; bits = 0; pending = nothing } never 100  -- one channel for all
+    ledger 0 0 0 nothing only 100
+    ∷ record { channel = channelOf 7; floor = tickOf 0; top = tickOf 0; map = mapOf 0; pending = Nothing } never 100  -- one channel for all
     ∷ []
 
-pub Ledger-channel-rules-out : RulesOut (Kept _ channel-kinds.ps channel-kinds.r channel-reads.Post) (λ c. bookOf (c .args .0)) (λ c. c .result .0) Ledger-channel-wrong
-unfolding bookOf
-Ledger-channel-rules-out = ruled numbers (λ (b : Book). b .channel) (λ c p. ap (λ (n : ChannelNumber). n .0) p) _ refl
+pub Ledger-channel-rules-out : RulesOut (Kept _ channel-kinds.ps channel-kinds.r channel-reads.Post) (λ c. c .args .0) (λ c. c .result .0) Ledger-channel-wrong
+Ledger-channel-rules-out = ruled numbers (λ (l : Ledger). l .channel .0) (λ c p. ap (λ (n : ChannelNumber). n .0) p) _ refl
 
-abbrev pub Ledger-floor-wrong : List (Row Book ℕ)
+abbrev pub Ledger-floor-wrong : List (Row Ledger ℕ)
 Ledger-floor-wrong =
-    book 5 9 0 nothing never 9  -- the top for the floor
-    ∷ book 5 9 0 nothing only 5
+    ledger 5 9 0 nothing never 9  -- the top for the floor
+    ∷ ledger 5 9 0 nothing only 5
     ∷ []
 
-pub Ledger-floor-rules-out : RulesOut (Kept _ floor-kinds.ps floor-kinds.r floor-reads.Post) (λ c. bookOf (c .args .0)) (λ c. c .result .0) Ledger-floor-wrong
-unfolding bookOf
-Ledger-floor-rules-out = ruled numbers (λ (b : Book). b .floor) (λ c p. ap (λ (n : TickNumber). n .0) p) _ refl
+pub Ledger-floor-rules-out : RulesOut (Kept _ floor-kinds.ps floor-kinds.r floor-reads.Post) (λ c. c .args .0) (λ c. c .result .0) Ledger-floor-wrong
+Ledger-floor-rules-out = ruled numbers (λ (l : Ledger). l .floor .0) (λ c p. ap (λ (n : TickNumber). n .0) p) _ refl
 
-abbrev pub Ledger-top-wrong : List (Row Book ℕ)
+abbrev pub Ledger-top-wrong : List (Row Ledger ℕ)
 Ledger-top-wrong =
-    book 5 9 0 nothing never 5  -- the floor for the top
-    ∷ book 5 9 0 nothing only 9
+    ledger 5 9 0 nothing never 5  -- the floor for the top
+    ∷ ledger 5 9 0 nothing only 9
     ∷ []
 
-pub Ledger-top-rules-out : RulesOut (Kept _ top-kinds.ps top-kinds.r top-reads.Post) (λ c. bookOf (c .args .0)) (λ c. c .result .0) Ledger-top-wrong
-unfolding bookOf
-Ledger-top-rules-out = ruled numbers (λ (b : Book). b .top) (λ c p. ap (λ (n : TickNumber). n .0) p) _ refl
+pub Ledger-top-rules-out : RulesOut (Kept _ top-kinds.ps top-kinds.r top-reads.Post) (λ c. c .args .0) (λ c. c .result .0) Ledger-top-wrong
+Ledger-top-rules-out = ruled numbers (λ (l : Ledger). l .top .0) (λ c p. ap (λ (n : TickNumber). n .0) p) _ refl
 
-abbrev pub Ledger-pending-wrong : List (Row Book Paper)
+abbrev pub Ledger-pending-wrong : List (Row Ledger Paper)
 Ledger-pending-wrong =
-    book 5 9 0 (range 6 9) never answer 0 []  -- nothing is ever pending
-    ∷ book 5 9 0 (range 6 9) never answer 0 (5 ∷ 9 ∷ [])  -- a range from the floor on
-    ∷ book 5 9 0 nothing only answer 0 []
+    ledger 5 9 0 (range 6 9) never answer 0 []  -- nothing is ever pending
+    ∷ ledger 5 9 0 (range 6 9) never answer 0 (5 ∷ 9 ∷ [])  -- a range from the floor on
+    ∷ ledger 5 9 0 nothing only answer 0 []
     ∷ []
 
-pub Ledger-pending-rules-out : RulesOut (Kept _ pending-kinds.ps pending-kinds.r pending-reads.Post) (λ c. bookOf (c .args .0)) (λ c. pendingPaper (c .result)) Ledger-pending-wrong
-Ledger-pending-rules-out = ruled papers (λ (b : Book). askedPaper (b .pending)) (λ c p. p) _ refl
+pub Ledger-pending-rules-out : RulesOut (Kept _ pending-kinds.ps pending-kinds.r pending-reads.Post) (λ c. c .args .0) (λ c. pendingPaper (c .result)) Ledger-pending-wrong
+unfolding bookOf
+Ledger-pending-rules-out = ruled papers (λ (l : Ledger). askedPaper (bookOf l .pending)) (λ c p. p) _ refl

@@ -1,3 +1,5 @@
 pub mod State
+pub mod Old
 pub mod Papers
 pub mod Trace
+pub mod SameMap

@@ -1,7 +1,13 @@
--- How the code keeps a book: only `bookOf` and `ledgerOf` know it.
+-- How the code keeps a book: only `bookOf` and `ledgerOf` know it. A number's place in the map is its remainder by 256, so that the map is read
+-- round from the place of floor + 1, and laid back so; `place-is` of proofs/SameMap.antt says it of each number.
 use Rattle.terms.specs.Counters.{tickOf, channelOf}
+use Prim.Native.Nat.{ℕ, _+_, max}
+use lib.Dec.{eqb}
+use Rattle.terms.specs.Paper.{pick}
 use Rattle.map.specs.Bits.{bitsIn, mapOf}
+use Rattle.map.specs.Ring.{rotated, laid}
 use Rattle.book.specs.State.{Asked, nothing, range, Book}
+use Rattle.book.specs.Calls.{Call, offered, numberTo, done}
 use Rattle.ledger.specs.declared.Ledger.{Ledger}
 use Rattle.ledger.specs.declared.Pending.{Pending}
 use Rattle.ledger.specs.declared.Pending.the-variants.{Nothing, Range}
@@ -20,7 +26,7 @@ bookOf l =
       channel = l .channel .0;
       floor = l .floor .0;
       top = l .top .0;
-      bits = bitsIn (l .map);
+      bits = rotated (l .floor .0 + 1) (bitsIn (l .map));
       pending = askedOf (l .pending);
     }
 
@@ -30,6 +36,22 @@ ledgerOf b =
       channel = channelOf (b .channel);
       floor = tickOf (b .floor);
       top = tickOf (b .top);
-      map = mapOf (b .bits);
+      map = mapOf (laid (b .floor + 1) (b .bits));
       pending = pendingOf (b .pending);
     }
+
+-- ---- the ledger beside an answer
+
+-- the ledger with another top
+abbrev pub topped : Ledger → ℕ → Ledger
+topped l n = record { channel = l .channel; floor = l .floor; top = tickOf n; map = l .map; pending = l .pending }
+
+-- however a ledger keeps a book: a call that is done gives the ledger of its book. A refused one gives back the very ledger, sound or not, save that
+-- 12 gives it with its top raised.
+unfoldable pub nextBy : (Ledger → Book) → (Book → Ledger) → Ledger → Call → Ledger
+nextBy read keep l call =
+    pick (eqb (numberTo (read l) call) 0) (keep (done (read l) call))
+    (pick (eqb (numberTo (read l) call) 12) (topped l (max (l .top .0) (offered call))) l)
+
+abbrev pub nextIn : Ledger → Call → Ledger
+nextIn l call = nextBy bookOf ledgerOf l call

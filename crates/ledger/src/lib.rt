@@ -8,9 +8,10 @@ ghost use lib.Dec.{eqb};
 ghost use Rattle.terms.specs.Paper.{answer, refusal, pick};
 ghost use Rattle.terms.specs.Refusals.{numberOf};
 ghost use Rattle.map.specs.Bits.{bitsIn};
+ghost use Rattle.map.specs.Ring.{rotated};
 ghost use Rattle.book.specs.State.{range, largest, rangeRules, mapRules, soundOf};
-ghost use Rattle.ledger.specs.State.{askedOf, bookOf, ledgerOf};
-ghost use Rattle.book.specs.Calls.{Tick, Announce, Request, Reply, Missing, Held, replyStatus, startsAt, ownNumber, checkedOf, passes, taken, raised, waiting, asked, answerTo, nextOf, openNumber, openOf, fresh};
+ghost use Rattle.ledger.specs.State.{askedOf, bookOf, ledgerOf, topped, nextIn};
+ghost use Rattle.book.specs.Calls.{Tick, Announce, Request, Reply, Missing, Held, replyStatus, startsAt, ownNumber, checkedOf, passes, taken, waiting, asked, answerTo, openNumber, openOf, fresh};
 ghost use Rattle.ledger.specs.Papers.{tickPaper, requestPaper, replyPaper, paperOf, countPaper, verdictNumber, pendingPaper, askedPaper};
 use map::Map;
 use terms::ChannelNumber;
@@ -30,7 +31,7 @@ pub struct Ledger {
     pub floor: TickNumber,
     // The largest number offered and not refused by 18 or 10, or announced.
     pub top: TickNumber,
-    // Place i stands for floor + 1 + i.
+    // A number's place is its remainder by 256: of the numbers above the floor, for the 256 next ones.
     pub map: Map,
     pub pending: Pending,
 }
@@ -139,14 +140,21 @@ fn right(first: u64, last: u64, floor: u64, top: u64) -> bool
     last - first < 200
 }
 
-// Whether the map keeps the state rules, where `known` numbers lie above the floor and not above the top.
-fn map_sound(map: Map, known: u64) -> bool
-    ensures { λ r. ⌜ r ≡ mapRules (bitsIn map) known ⌝ }
+// Whether the map, read round from `from`, keeps the state rules, where `known` numbers lie above the floor and not above the top.
+// A map has 256 places: where fewer numbers are known, one scan from behind them round to `from` finds all places clear.
+fn map_sound(map: Map, from: u64, known: u64) -> bool
+    ensures { λ r. ⌜ r ≡ mapRules (rotated from (bitsIn map)) known ⌝ }
 {
-    if map.holds(0) {
+    if 256 <= known {
+        return !map.holds(from % 256);
+    }
+    if map.empty() {
+        return true;
+    }
+    if known == 0 {
         return false;
     }
-    map.dropped(known).empty()
+    257 - known <= map.first_from(from % 256 + known)
 }
 
 impl Pending {
@@ -190,7 +198,7 @@ impl Ledger {
         if LARGEST < top {
             return false;
         }
-        if !map_sound(map, top - floor) {
+        if !map_sound(map, floor + 1, top - floor) {
             return false;
         }
         pending.sound(floor, top)
@@ -242,7 +250,7 @@ impl Ledger {
 
     // The top raised to n, if it was lower.
     fn raised(mut self, n: u64) -> Ledger
-        ensures { λ r. ⌜ r ≡ ledgerOf (raised (bookOf self) n) ⌝ }
+        ensures { λ r. ⌜ r ≡ topped self (max (self .top .0) n) ⌝ }
     {
         let top = self.top.value();
         self.top = TickNumber::new(larger(top, n));
@@ -266,7 +274,7 @@ impl Ledger {
         }
     }
 
-    // 10, 11, 12 of a tick.
+    // 10, 11, 12 of a tick. Beyond floor + 256 its place is another number's, and it is not held.
     fn tick_verdict(self, n: u64) -> Verdict
         ensures { λ r. ⌜ verdictNumber r ≡ ownNumber (bookOf self) (Tick 0 n) ⌝ }
     {
@@ -281,16 +289,16 @@ impl Ledger {
         if n <= floor {
             return Verdict::Bad(Refusal::Repeat);
         }
-        if map.holds(n - floor - 1) {
-            return Verdict::Bad(Refusal::Repeat);
-        }
         if 256 < n - floor {
             return Verdict::Bad(Refusal::Far);
+        }
+        if map.holds(n % 256) {
+            return Verdict::Bad(Refusal::Repeat);
         }
         Verdict::Fine
     }
 
-    // A tick that is taken: its place is marked, and the floor passes the run of held places above it.
+    // A tick that is taken: its place is marked, and the floor passes the run of held places above it, which are then free for the numbers 256 above.
     fn taken(self, n: u64) -> Ticked
         requires { ⌜ (self .floor .0 < n) × (n ≤ self .floor .0 + 256) × (n ≤ largest) ⌝ }
         ensures { λ r. ⌜ (tickPaper (r .answer) ≡ answer 0 ((self .floor .0 + 1) ∷ passes (bookOf self) n ∷ []))
@@ -301,14 +309,14 @@ impl Ledger {
         let pending = self.pending;
         let floor = self.floor.value();
         let top = self.top.value();
-        let marked = map.with(n - floor - 1);
-        let count = marked.run();
+        let marked = map.with(n % 256);
+        let count = marked.run_from(floor + 1);
         Ticked {
             next: Ledger {
                 channel,
                 floor: TickNumber::new(floor + count),
                 top: TickNumber::new(larger(top, n)),
-                map: marked.dropped(count),
+                map: marked.cleared(floor + 1, count),
                 pending,
             },
             answer: TickAnswer::Passed {
@@ -321,7 +329,7 @@ impl Ledger {
     // A tick that is refused: 12 raises the top, any other refusal changes nothing.
     fn tick_refused(self, n: u64, why: Refusal) -> Ticked
         ensures { λ r. ⌜ (tickPaper (r .answer) ≡ refusal (numberOf why))
-            × (r .next ≡ ledgerOf (pick (eqb (numberOf why) 12) (raised (bookOf self) n) (bookOf self))) ⌝ }
+            × (r .next ≡ pick (eqb (numberOf why) 12) (topped self (max (self .top .0) n)) self) ⌝ }
     {
         if why.number() == 12 {
             return Ticked {
@@ -338,7 +346,7 @@ impl Ledger {
     // The tick is marked received, and the floor moves to just below the first number not received. 13, 18, 10, 11, 12.
     pub fn tick(self, channel: ChannelNumber, number: TickNumber) -> Ticked
         ensures { λ r. ⌜ (tickPaper (r .answer) ≡ answerTo (bookOf self) (Tick (channel .0) (number .0)))
-            × (r .next ≡ ledgerOf (nextOf (bookOf self) (Tick (channel .0) (number .0)))) ⌝ }
+            × (r .next ≡ nextIn self (Tick (channel .0) (number .0))) ⌝ }
     {
         let n = number.value();
         let verdict = self.checked(channel, self.tick_verdict(n));
@@ -361,7 +369,7 @@ impl Ledger {
     // The top becomes the larger of the two. 13, 18, 10.
     pub fn announce(self, channel: ChannelNumber, last: TickNumber) -> Noted
         ensures { λ r. ⌜ (paperOf (r .answer) ≡ answerTo (bookOf self) (Announce (channel .0) (last .0)))
-            × (r .next ≡ ledgerOf (nextOf (bookOf self) (Announce (channel .0) (last .0)))) ⌝ }
+            × (r .next ≡ nextIn self (Announce (channel .0) (last .0))) ⌝ }
     {
         let n = last.value();
         let verdict = self.checked(channel, self.announce_verdict(n));
@@ -405,7 +413,7 @@ impl Ledger {
         let top = self.top.value();
         let map = self.map;
         let known = top - floor;
-        let clear = map.first_held();
+        let clear = map.first_from(floor + 1);
         let count = smaller(smaller(known, clear), 200);
         let first = TickNumber::new(floor + 1);
         let last = TickNumber::new(floor + count);
@@ -418,7 +426,7 @@ impl Ledger {
     // The range to ask for, pending from now on. 13, 18, 14, 15.
     pub fn request(self, channel: ChannelNumber) -> Requested
         ensures { λ r. ⌜ (requestPaper (r .answer) ≡ answerTo (bookOf self) (Request (channel .0)))
-            × (r .next ≡ ledgerOf (nextOf (bookOf self) (Request (channel .0)))) ⌝ }
+            × (r .next ≡ nextIn self (Request (channel .0))) ⌝ }
     {
         let verdict = self.checked(channel, self.request_verdict());
         match verdict {
@@ -447,7 +455,7 @@ impl Ledger {
     // The pending request is cleared; nothing is marked received, whatever the status says. 13, 18, 17, 16.
     pub fn reply(self, channel: ChannelNumber, first: TickNumber, status: u8) -> Replied
         ensures { λ r. ⌜ (replyPaper (r .answer) ≡ answerTo (bookOf self) (Reply (channel .0) (first .0) status))
-            × (r .next ≡ ledgerOf (nextOf (bookOf self) (Reply (channel .0) (first .0) status))) ⌝ }
+            × (r .next ≡ nextIn self (Reply (channel .0) (first .0) status)) ⌝ }
     {
         let verdict = self.checked(channel, self.reply_verdict(first.value(), status));
         match verdict {
@@ -465,7 +473,7 @@ impl Ledger {
     // A count of a broken state: 13, and 0 beside it.
     fn uncounted(self) -> Counted
         ensures { λ r. ⌜ (countPaper (r .answer) (r .count) ≡ answer 13 (0 ∷ []))
-            × (r .next ≡ ledgerOf (bookOf self)) ⌝ }
+            × (r .next ≡ self) ⌝ }
     {
         Counted {
             next: self,
@@ -477,7 +485,7 @@ impl Ledger {
     // How many numbers up to the top are missing. 13.
     pub fn missing(self) -> Counted
         ensures { λ r. ⌜ (countPaper (r .answer) (r .count) ≡ answerTo (bookOf self) Missing)
-            × (r .next ≡ ledgerOf (nextOf (bookOf self) Missing)) ⌝ }
+            × (r .next ≡ nextIn self Missing) ⌝ }
     {
         if !self.sound() {
             return self.uncounted();
@@ -496,7 +504,7 @@ impl Ledger {
     // How many numbers above the floor are held. 13.
     pub fn held(self) -> Counted
         ensures { λ r. ⌜ (countPaper (r .answer) (r .count) ≡ answerTo (bookOf self) Held)
-            × (r .next ≡ ledgerOf (nextOf (bookOf self) Held)) ⌝ }
+            × (r .next ≡ nextIn self Held) ⌝ }
     {
         if !self.sound() {
             return self.uncounted();

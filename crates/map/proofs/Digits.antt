@@ -2,12 +2,10 @@
 use mathlib.Core.Path.{_≡_, refl, sym, ap, ap₂, _∙_, subst}
 use mathlib.Core.Logic.{_⊎_, inl, inr}
 use Prim.Native.Nat.{ℕ, zero, suc, _+_, _-_, _*_, _/_, _%_, _^_, _≤_, _<_, suc-le-suc, max}
-use native.Mathlib.Nat.{lt-of-lt-of-le, suc-add, add-assoc, le-of-suc-le-suc, not-suc-le-zero, zero-lt-suc, zero-add, mod-lt, div-one, div-self, div-eq-of-lt, div-add-mod', pow-suc, le-dest, mul-mod-left, eq-zero-or-pos, ne-of-gt, lt-of-le-of-lt}
+use native.Mathlib.Nat.{lt-of-lt-of-le, suc-add, add-assoc, le-of-suc-le-suc, not-suc-le-zero, zero-lt-suc, zero-add, mod-lt, div-one, div-self, div-eq-of-lt, div-add-mod', pow-suc, le-dest, mul-mod-left, lt-of-le-of-lt}
 use native.Mathlib.Decide.{decLt}
 use native.Mathlib.Omega.{arith}
 use native.Mathlib.Numerals.{one-add}
-use borrow.Author.Tests.{eq-eqb, ne-eqb}
-use lib.Dec.{eqb}
 use lib.Arith.{lt-one, digits-mod}
 use lib.Pow.{pow-pos, pow-mono, pow-lt, pow-add, shr-shr, shl-shr, shr-le}
 use lib.Bits.{bitOr, or-shr, or-step}
@@ -136,25 +134,6 @@ trailing-passed = scan-passed 0 under trailingZeros (λ m. refl) (λ k m. refl) 
 pub trailing-stopped : (k m : ℕ) → trailingZeros k m < k → bit m (trailingZeros k m) ≡ 1
 unfolding trailingZeros
 trailing-stopped = scan-stopped 0 under trailingZeros (λ m. refl) (λ k m. refl) under-is
-
--- no digit is set exactly where the scan for the first one passes them all
-pub none-set : (k m : ℕ) → m < 2 ^ k → trailingZeros k m ≤ k → eqb (trailingZeros k m) k ≡ eqb m 0
-none-set k m h l = elim (eq-zero-or-pos m) [ inl e ↦ none e | inr p ↦ some p ]
-  where
-    none : m ≡ 0 → eqb (trailingZeros k m) k ≡ eqb m 0
-    none e = elim (decLt (trailingZeros k m) k) [
-      | yes q ↦ absurd (clear (ap (λ (x : ℕ). x / 2 ^ trailingZeros k m % 2) (sym e) ∙ trailing-stopped k m q))
-      | no q ↦ eq-eqb (trailingZeros k m) k (omega arith) ∙ sym (eq-eqb m 0 e)
-    ]
-      where
-        clear : bit 0 (trailingZeros k m) ≡ 1 → ⊥
-        clear q = let z : bit 0 (trailingZeros k m) ≡ 0 = bit-above 0 (trailingZeros k m) (pow-pos 0) (omega arith) in omega arith
-
-    some : 0 < m → eqb (trailingZeros k m) k ≡ eqb m 0
-    some p = ne-eqb (trailingZeros k m) k (λ e. ne-of-gt p (all e)) ∙ sym (ne-eqb m 0 (ne-of-gt p))
-      where
-        all : trailingZeros k m ≡ k → m ≡ 0
-        all e = bit-ext k m 0 h (pow-pos k) (λ i q. trailing-passed k m i (subst (λ (x : ℕ). i < x) (sym e) q) ∙ sym (bit-above 0 i (pow-pos 0) (omega arith)))
 
 -- ---- counts
 

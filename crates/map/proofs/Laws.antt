@@ -1,13 +1,13 @@
--- Laws of digits that `lib.Count`, `lib.Bits` and `lib.Pow` lack: digits, trailing zeros and runs of a number in two parts. Assumes nothing.
+-- Laws of digits that `lib.Count`, `lib.Bits` and `lib.Pow` lack: digits of a number in two parts, runs and complements. Assumes nothing.
 use mathlib.Core.Path.{_≡_, refl, sym, ap, ap₂, _∙_, subst}
 use mathlib.Core.Logic.{_⊎_, inl, inr}
 use Prim.Native.Nat.{ℕ, zero, suc, _+_, _-_, _*_, _/_, _%_, _^_, _≤_, _<_, zero-le, suc-le-suc}
-use native.Mathlib.Nat.{le-of-suc-le-suc, not-suc-le-zero, le-of-eq, le-trans, suc-inj, suc-ne-zero, add-sub-cancel, add-sub-cancel-left, mul-mod-left, mul-add-mod-self-right, zero-lt-suc, add-zero, add-suc, suc-add, add-comm, mul-assoc, mul-comm, mul-add-div-right, mod-lt, pow-suc, le-dest, div-add-mod', zero-mul, div-eq-of-lt}
+use native.Mathlib.Nat.{le-of-suc-le-suc, not-suc-le-zero, le-of-eq, le-trans, add-sub-cancel, add-sub-cancel-left, zero-lt-suc, add-zero, add-comm, mul-assoc, mul-comm, mul-add-div-right, mod-lt, pow-suc, le-dest, div-add-mod', zero-mul, div-eq-of-lt}
 use native.Mathlib.Omega.{arith}
 use native.Mathlib.Numerals.{add-one}
 use lib.Arith.{digits-div, digits-mod}
-use lib.Pow.{pow-pos, pow-lt, pow-add, shr-lt, shl-shr, mod-pow-add, shr-shr, high, low, split, ones-split, le-ones}
-use lib.Bits.{bitOr, block-half, block-odd, or-block, or-zero-r, or-shifted-r}
+use lib.Pow.{pow-pos, pow-lt, pow-add, shr-shr, high, low, split, ones-split, le-ones}
+use lib.Bits.{bitOr, block-odd, or-block, or-zero-r}
 use lib.Count.{under, trailingZeros}
 use Rattle.map.specs.Bits.{bit, onward, run}
 
@@ -40,7 +40,7 @@ pub parts-lt : {a r : ℕ} (j k : ℕ) → a < 2 ^ j → r < 2 ^ k → a * 2 ^ k
 parts-lt {a} {r} j k p q =
     subst (λ (x : ℕ). a * 2 ^ k + r < 2 ^ x) (add-comm k j) (lt-of-shr (a * 2 ^ k + r) (k + j) (shr-high a k j q ∙ div-eq-of-lt p))
 
--- ---- the trailing zeros and the run of a number in two parts
+-- ---- a scan of digits
 
 pub half-lt : {n : ℕ} (k : ℕ) → n < 2 ^ suc k → n / 2 < 2 ^ k
 half-lt {n} k h = let e : 2 ^ suc k ≡ 2 ^ k * 2 = pow-suc 2 k in omega arith
@@ -49,34 +49,6 @@ half-lt {n} k h = let e : 2 ^ suc k ≡ 2 ^ k * 2 = pow-suc 2 k in omega arith
 -- `trailingZeros` and `run` are the two scans.
 module _ (f : ℕ → ℕ → ℕ) (s : ℕ → ℕ → ℕ) (s-zero : (m : ℕ) → s zero m ≡ zero) (s-suc : (k m : ℕ) → s (suc k) m ≡ f (m % 2) (s k (m / 2)))
     (f-is : (d : ℕ) → ((t : ℕ) → f d t ≡ suc t) ⊎ ((t : ℕ) → f d t ≡ zero)) where
-  -- one step of the scan over a number in two parts
-  scan-step : (j k a r : ℕ) → s (j + suc k) (a * 2 ^ suc k + r) ≡ f (r % 2) (s (j + k) (a * 2 ^ k + r / 2))
-  scan-step j k a r =
-      ap (λ (x : ℕ). s x (a * 2 ^ suc k + r)) (add-suc j k) ∙ s-suc (j + k) (a * 2 ^ suc k + r)
-      ∙ ap₂ (λ (x y : ℕ). f x (s (j + k) y)) (block-odd a k r) (block-half a k r)
-
-  pub scan-low : (j k a r : ℕ) → s k r < k → s (j + k) (a * 2 ^ k + r) ≡ s k r
-  scan-low j zero a r h = absurd (not-suc-le-zero h)
-  scan-low j (suc k) a r h =
-      scan-step j k a r
-      ∙ elim (f-is (r % 2)) [
-        | inl on ↦ on _ ∙ ap suc (scan-low j k a (r / 2) (le-of-suc-le-suc (subst (λ (x : ℕ). x < suc k) (s-suc k r ∙ on _) h))) ∙ sym (on _)
-        | inr off ↦ off _ ∙ sym (off _)
-      ]
-      ∙ sym (s-suc k r)
-
-  pub scan-high : (j k a r : ℕ) → r < 2 ^ k → s k r ≡ k → s (j + k) (a * 2 ^ k + r) ≡ k + s j a
-  scan-high j zero a r l h =
-      let e : a * 2 ^ 0 + r ≡ a = omega arith in
-      let z : zero + s j a ≡ s j a = omega arith in
-      ap₂ s (add-zero j) e ∙ sym z
-  scan-high j (suc k) a r l h =
-      scan-step j k a r
-      ∙ elim (f-is (r % 2)) [
-        | inl on ↦ on _ ∙ ap suc (scan-high j k a (r / 2) (half-lt k l) (suc-inj (sym (on _) ∙ sym (s-suc k r) ∙ h))) ∙ sym (suc-add k (s j a))
-        | inr off ↦ absurd (suc-ne-zero k (sym h ∙ s-suc k r ∙ off _))
-      ]
-
   -- what a scan says of each digit
   pub scan-le : (k m : ℕ) → s k m ≤ k
   scan-le zero m = le-of-eq (s-zero m)
@@ -84,21 +56,9 @@ module _ (f : ℕ → ℕ → ℕ) (s : ℕ → ℕ → ℕ) (s-zero : (m : ℕ)
       le-trans (le-of-eq (s-suc k m))
       (elim (f-is (m % 2)) [ inl on ↦ le-trans (le-of-eq (on _)) (suc-le-suc (scan-le k (m / 2))) | inr off ↦ le-trans (le-of-eq (off _)) zero-le ])
 
-pub under-is : (d : ℕ) → ((t : ℕ) → under d t ≡ suc t) ⊎ ((t : ℕ) → under d t ≡ zero)
-under-is zero = inl (λ t. refl)
-under-is (suc d) = inr (λ t. refl)
-
 pub onward-is : (d : ℕ) → ((t : ℕ) → onward d t ≡ suc t) ⊎ ((t : ℕ) → onward d t ≡ zero)
 onward-is zero = inr (λ t. refl)
 onward-is (suc d) = inl (λ t. refl)
-
-pub trailing-low : (j k a r : ℕ) → trailingZeros k r < k → trailingZeros (j + k) (a * 2 ^ k + r) ≡ trailingZeros k r
-unfolding trailingZeros
-trailing-low = scan-low under trailingZeros (λ m. refl) (λ k m. refl) under-is
-
-pub trailing-high : (j k a r : ℕ) → r < 2 ^ k → trailingZeros k r ≡ k → trailingZeros (j + k) (a * 2 ^ k + r) ≡ k + trailingZeros j a
-unfolding trailingZeros
-trailing-high = scan-high under trailingZeros (λ m. refl) (λ k m. refl) under-is
 
 pub run-le : (k m : ℕ) → run k m ≤ k
 unfolding run
@@ -134,39 +94,6 @@ trailing-not (suc k) m h =
     (ap (λ (x : ℕ). x / 2) parts ∙ digits-div ((2 ^ k - 1) - m / 2) b)
     ∙ ap (under (1 - m % 2)) (trailing-not k (m / 2) (half-lt k h))
     ∙ flip (m % 2) (run k (m / 2)) (mod-lt m (zero-lt-suc 1))
-
--- ---- shifts of a number in two parts
-
--- the order of two shifts
-shr-comm : (n j k : ℕ) → n / 2 ^ j / 2 ^ k ≡ n / 2 ^ k / 2 ^ j
-shr-comm n j k = shr-shr n j k ∙ ap (λ (x : ℕ). n / 2 ^ x) (add-comm j k) ∙ sym (shr-shr n k j)
-
--- a number shifted down, by its k low digits and what its high part becomes
-pub shr-parts : (a k s : ℕ) {r : ℕ} → r < 2 ^ k → (a * 2 ^ k + r) / 2 ^ s ≡ (a / 2 ^ s) * 2 ^ k + (a * 2 ^ k + r) / 2 ^ s % 2 ^ k
-shr-parts a k s {r} h =
-    sym (split ((a * 2 ^ k + r) / 2 ^ s) k)
-    ∙ ap (λ (x : ℕ). x * 2 ^ k + (a * 2 ^ k + r) / 2 ^ s % 2 ^ k) (shr-comm (a * 2 ^ k + r) s k ∙ ap (λ (x : ℕ). x / 2 ^ s) (high a k h))
-
--- `(hi << t) | (lo >> s)`, where s and t make the width
-pub joined-is : (hi lo s t : ℕ) → lo < 2 ^ (t + s) → bitOr (lo / 2 ^ s) ((hi * 2 ^ t) % 2 ^ (t + s)) ≡ (hi * 2 ^ (t + s) + lo) / 2 ^ s % 2 ^ (t + s)
-joined-is hi lo s t h =
-    let l : lo / 2 ^ s < 2 ^ t = shr-lt t s h in
-    let c : 2 ^ (t + s) ≡ 2 ^ (s + t) = ap (λ (x : ℕ). 2 ^ x) (add-comm t s) in
-    let up : (hi * 2 ^ t) % 2 ^ (t + s) ≡ (hi % 2 ^ s) * 2 ^ t =
-    ap (λ (x : ℕ). (hi * 2 ^ t) % x) c ∙ mod-pow-add (hi * 2 ^ t) s t
-    ∙ ap₂ (λ (x y : ℕ). (x % 2 ^ s) * 2 ^ t + y) (shl-shr hi t) (mul-mod-left hi (2 ^ t)) ∙ add-zero _ in
-    let down : (hi * 2 ^ (t + s) + lo) / 2 ^ s % 2 ^ (t + s) ≡ (hi % 2 ^ s) * 2 ^ t + lo / 2 ^ s =
-    ap₂ (λ (x y : ℕ). x % y) (shr-low hi lo t s) c ∙ mod-pow-add (hi * 2 ^ t + lo / 2 ^ s) s t
-    ∙ ap₂ (λ (x y : ℕ). (x % 2 ^ s) * 2 ^ t + y) (high hi t l) (low hi t l) in
-    ap (bitOr (lo / 2 ^ s)) up ∙ or-shifted-r (hi % 2 ^ s) t (lo / 2 ^ s) l ∙ sym down
-
--- the k low digits of a number shifted down by s hang on its k + s low digits alone
-pub shr-near : (x y j k s : ℕ) → (x * 2 ^ (j + k + s) + y) / 2 ^ s % 2 ^ k ≡ y / 2 ^ s % 2 ^ k
-shr-near x y j k s =
-    ap (λ (n : ℕ). n % 2 ^ k) (shr-low x y (j + k) s)
-    ∙ ap (λ (n : ℕ). (x * n + y / 2 ^ s) % 2 ^ k) (pow-add 2 j k)
-    ∙ ap (λ (n : ℕ). (n + y / 2 ^ s) % 2 ^ k) (sym (mul-assoc x (2 ^ j) (2 ^ k)))
-    ∙ mul-add-mod-self-right (x * 2 ^ j) (2 ^ k) (y / 2 ^ s)
 
 -- ---- one digit more, in either part
 

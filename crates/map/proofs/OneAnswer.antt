@@ -9,14 +9,16 @@ use Rattle.map.proofs.Map.holds.Reads as holds
 use Rattle.map.proofs.Map.holds.Kinds as holds-kinds
 use Rattle.map.proofs.Map.with.Reads as with
 use Rattle.map.proofs.Map.with.Kinds as with-kinds
-use Rattle.map.proofs.Map.first_held.Reads as first-held
-use Rattle.map.proofs.Map.first_held.Kinds as first-held-kinds
-use Rattle.map.proofs.Map.run.Reads as run
-use Rattle.map.proofs.Map.run.Kinds as run-kinds
 use Rattle.map.proofs.Map.empty.Reads as empty
 use Rattle.map.proofs.Map.empty.Kinds as empty-kinds
-use Rattle.map.proofs.Map.dropped.Reads as dropped
-use Rattle.map.proofs.Map.dropped.Kinds as dropped-kinds
+use Rattle.map.proofs.Map.first_from.Reads as first-from
+use Rattle.map.proofs.Map.first_from.Kinds as first-from-kinds
+use Rattle.map.proofs.Map.run_from.Reads as run-from
+use Rattle.map.proofs.Map.run_from.Kinds as run-from-kinds
+use Rattle.map.proofs.Map.held_from.Reads as held-from
+use Rattle.map.proofs.Map.held_from.Kinds as held-from-kinds
+use Rattle.map.proofs.Map.cleared.Reads as cleared
+use Rattle.map.proofs.Map.cleared.Kinds as cleared-kinds
 
 pub Map-new-one-answer : OneAnswer _ new-kinds.ps new-kinds.r new.Post
 Map-new-one-answer κs a x y s t p q = p ∙ sym q
@@ -30,14 +32,17 @@ Map-holds-one-answer κs a x y s t p q = p ∙ sym q
 pub Map-with-one-answer : OneAnswer _ with-kinds.ps with-kinds.r with.Post
 Map-with-one-answer κs a x y s t p q = p ∙ sym q
 
-pub Map-first-held-one-answer : OneAnswer _ first-held-kinds.ps first-held-kinds.r first-held.Post
-Map-first-held-one-answer κs a x y s t p q = p ∙ sym q
-
-pub Map-run-one-answer : OneAnswer _ run-kinds.ps run-kinds.r run.Post
-Map-run-one-answer κs a x y s t p q = p ∙ sym q
-
 pub Map-empty-one-answer : OneAnswer _ empty-kinds.ps empty-kinds.r empty.Post
 Map-empty-one-answer κs a x y s t p q = p ∙ sym q
 
-pub Map-dropped-one-answer : OneAnswer _ dropped-kinds.ps dropped-kinds.r dropped.Post
-Map-dropped-one-answer κs a x y s t p q = p ∙ sym q
+pub Map-first-from-one-answer : OneAnswer _ first-from-kinds.ps first-from-kinds.r first-from.Post
+Map-first-from-one-answer κs a x y s t p q = p ∙ sym q
+
+pub Map-run-from-one-answer : OneAnswer _ run-from-kinds.ps run-from-kinds.r run-from.Post
+Map-run-from-one-answer κs a x y s t p q = p ∙ sym q
+
+pub Map-held-from-one-answer : OneAnswer _ held-from-kinds.ps held-from-kinds.r held-from.Post
+Map-held-from-one-answer κs a x y s t p q = p ∙ sym q
+
+pub Map-cleared-one-answer : OneAnswer _ cleared-kinds.ps cleared-kinds.r cleared.Post
+Map-cleared-one-answer κs a x y s t p q = p ∙ sym q

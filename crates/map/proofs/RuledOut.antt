@@ -1,5 +1,5 @@
 -- For each public function: wrong answers that its promise rules out, as tables of what is given and what is then wrong. Assumes nothing.
-use Prim.Native.Nat.{ℕ, _-_, _/_, _%_, _^_}
+use Prim.Native.Nat.{ℕ, _+_, _-_, _%_, _^_}
 use mathlib.Core.Path.{refl, ap}
 use mathlib.Core.Bool.{Bool, true, false}
 use mathlib.Core.List.{List, [], _∷_}
@@ -8,6 +8,7 @@ use lib.Count.{ones, trailingZeros}
 use lib.Dec.{eqb}
 use Rattle.terms.specs.RuledOut.{Row, _never_, _only_, Kept, RulesOut, ruled, numbers, bools}
 use Rattle.map.specs.Bits.{valueOf, bitsIn, mapOf, isSet, run}
+use Rattle.map.specs.Ring.{rotated, without}
 use Rattle.map.specs.declared.Map.{Map}
 use Rattle.map.proofs.Map.new.Reads as new
 use Rattle.map.proofs.Map.new.Kinds as new-kinds
@@ -17,14 +18,16 @@ use Rattle.map.proofs.Map.holds.Reads as holds
 use Rattle.map.proofs.Map.holds.Kinds as holds-kinds
 use Rattle.map.proofs.Map.with.Reads as with-reads
 use Rattle.map.proofs.Map.with.Kinds as with-kinds
-use Rattle.map.proofs.Map.first_held.Reads as first-held
-use Rattle.map.proofs.Map.first_held.Kinds as first-held-kinds
-use Rattle.map.proofs.Map.run.Reads as run-reads
-use Rattle.map.proofs.Map.run.Kinds as run-kinds
+use Rattle.map.proofs.Map.first_from.Reads as first-from
+use Rattle.map.proofs.Map.first_from.Kinds as first-from-kinds
+use Rattle.map.proofs.Map.run_from.Reads as run-from
+use Rattle.map.proofs.Map.run_from.Kinds as run-from-kinds
+use Rattle.map.proofs.Map.held_from.Reads as held-from
+use Rattle.map.proofs.Map.held_from.Kinds as held-from-kinds
 use Rattle.map.proofs.Map.empty.Reads as empty
 use Rattle.map.proofs.Map.empty.Kinds as empty-kinds
-use Rattle.map.proofs.Map.dropped.Reads as dropped
-use Rattle.map.proofs.Map.dropped.Kinds as dropped-kinds
+use Rattle.map.proofs.Map.cleared.Reads as cleared
+use Rattle.map.proofs.Map.cleared.Kinds as cleared-kinds
 
 -- A map is given as one number, whose digit i is place i.
 
@@ -70,25 +73,44 @@ pub Map-with-rules-out : RulesOut (Kept _ with-kinds.ps with-kinds.r with-reads.
 unfolding valueOf mapOf
 Map-with-rules-out = ruled numbers (λ (i : ℕ × ℕ). bitsIn (mapOf (bitOr (i .0) (2 ^ i .1) % 2 ^ 256))) (λ c p. ap bitsIn p) _ refl
 
-abbrev pub Map-first-held-wrong : List (Row ℕ ℕ)
-Map-first-held-wrong =
-    (2 ^ 130) only 130  -- not the place within its word
-    ∷ 0 only 256  -- none is no place
+-- from a place on, counted round: the map and the place
+abbrev pub Map-first-from-wrong : List (Row (ℕ × ℕ) ℕ)
+Map-first-from-wrong =
+    (1, 200) never 256  -- an end at the last word, not gone round
+    ∷ (1, 200) only 56
+    ∷ (2 ^ 64 + 2 ^ 127, 100) never 220  -- the low part of the place's own word looked at before the high one
+    ∷ (2 ^ 64 + 2 ^ 127, 100) only 27
+    ∷ (0, 5) only 256  -- none is no place
     ∷ []
 
-pub Map-first-held-rules-out : RulesOut (Kept _ first-held-kinds.ps first-held-kinds.r first-held.Post) (λ c. bitsIn (c .args .0)) (λ c. c .result) Map-first-held-wrong
-unfolding trailingZeros
-Map-first-held-rules-out = ruled numbers (trailingZeros 256) (λ c p. p) _ refl
+pub Map-first-from-rules-out : RulesOut (Kept _ first-from-kinds.ps first-from-kinds.r first-from.Post) (λ c. (bitsIn (c .args .0), c .args .1 .0)) (λ c. c .result) Map-first-from-wrong
+unfolding rotated trailingZeros
+Map-first-from-rules-out = ruled numbers (λ (i : ℕ × ℕ). trailingZeros 256 (rotated (i .1) (i .0))) (λ c p. p) _ refl
 
-abbrev pub Map-run-wrong : List (Row ℕ ℕ)
-Map-run-wrong =
-    0xB only 2  -- up to the first gap, not all that is held
-    ∷ (2 ^ 70 - 1) never 64  -- an end at the first word
+abbrev pub Map-run-from-wrong : List (Row (ℕ × ℕ) ℕ)
+Map-run-from-wrong =
+    (0xB, 0) only 2  -- up to the first gap, not all that is held
+    ∷ (2 ^ 255 + 1, 255) never 1  -- not gone round
+    ∷ (2 ^ 256 - 1, 7) never 263  -- gone on past 256
+    ∷ (2 ^ 256 - 1, 7) only 256
     ∷ []
 
-pub Map-run-rules-out : RulesOut (Kept _ run-kinds.ps run-kinds.r run-reads.Post) (λ c. bitsIn (c .args .0)) (λ c. c .result) Map-run-wrong
-unfolding run
-Map-run-rules-out = ruled numbers (run 256) (λ c p. p) _ refl
+pub Map-run-from-rules-out : RulesOut (Kept _ run-from-kinds.ps run-from-kinds.r run-from.Post) (λ c. (bitsIn (c .args .0), c .args .1 .0)) (λ c. c .result) Map-run-from-wrong
+unfolding rotated run
+Map-run-from-rules-out = ruled numbers (λ (i : ℕ × ℕ). run 256 (rotated (i .1) (i .0))) (λ c p. p) _ refl
+
+-- the k places from s on, counted round: the map, s and k
+abbrev pub Map-held-from-wrong : List (Row (ℕ × ℕ × ℕ) ℕ)
+Map-held-from-wrong =
+    (5, 0, 3) never 1  -- one place short
+    ∷ (5, 0, 2) never 2  -- the whole word counted
+    ∷ (3, 255, 2) only 1  -- gone round: place 0 is behind place 255
+    ∷ (5, 256, 1000) only 2  -- each place once, and 256 is place 0
+    ∷ []
+
+pub Map-held-from-rules-out : RulesOut (Kept _ held-from-kinds.ps held-from-kinds.r held-from.Post) (λ c. (bitsIn (c .args .0), c .args .1 .0, c .args .1 .1 .0)) (λ c. c .result) Map-held-from-wrong
+unfolding rotated ones
+Map-held-from-rules-out = ruled numbers (λ (i : ℕ × ℕ × ℕ). ones (rotated (i .1) (i .0) % 2 ^ i .2)) (λ c p. p) _ refl
 
 abbrev pub Map-empty-wrong : List (Row ℕ Bool)
 Map-empty-wrong =
@@ -99,13 +121,15 @@ Map-empty-wrong =
 pub Map-empty-rules-out : RulesOut (Kept _ empty-kinds.ps empty-kinds.r empty.Post) (λ c. bitsIn (c .args .0)) (λ c. c .result) Map-empty-wrong
 Map-empty-rules-out = ruled bools (λ (m : ℕ). eqb m 0) (λ c p. p) _ refl
 
-abbrev pub Map-dropped-wrong : List (Row (ℕ × ℕ) ℕ)
-Map-dropped-wrong =
-    (2 ^ 64, 1) only (2 ^ 63)  -- from one word into the next
-    ∷ (2 ^ 255, 255) only 1
-    ∷ (2 ^ 255, 256) never (2 ^ 255)  -- nothing dropped where all is to be
+abbrev pub Map-cleared-wrong : List (Row (ℕ × ℕ × ℕ) ℕ)
+Map-cleared-wrong =
+    (7, 0, 2) never 6  -- a place too few
+    ∷ (7, 0, 2) never 0  -- a place too many
+    ∷ (2 ^ 64 + 1, 64, 1) never (2 ^ 64)  -- in the wrong word
+    ∷ (2 ^ 255 + 3, 255, 2) only 2  -- gone round
+    ∷ (2 ^ 100, 7, 300) only 0  -- beyond 256 nothing is left
     ∷ []
 
-pub Map-dropped-rules-out : RulesOut (Kept _ dropped-kinds.ps dropped-kinds.r dropped.Post) (λ c. (bitsIn (c .args .0), c .args .1 .0)) (λ c. bitsIn (c .result)) Map-dropped-wrong
-unfolding valueOf mapOf
-Map-dropped-rules-out = ruled numbers (λ (i : ℕ × ℕ). bitsIn (mapOf (i .0 / 2 ^ i .1))) (λ c p. ap bitsIn p) _ refl
+pub Map-cleared-rules-out : RulesOut (Kept _ cleared-kinds.ps cleared-kinds.r cleared.Post) (λ c. (bitsIn (c .args .0), c .args .1 .0, c .args .1 .1 .0)) (λ c. bitsIn (c .result)) Map-cleared-wrong
+unfolding valueOf mapOf rotated without
+Map-cleared-rules-out = ruled numbers (λ (i : ℕ × ℕ × ℕ). bitsIn (mapOf (without (i .1) (i .2) (i .0)))) (λ c p. ap bitsIn p) _ refl

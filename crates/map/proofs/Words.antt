@@ -1,18 +1,22 @@
--- The number of four words: its count, its scans, its digits and its shifts, from the words'. Assumes nothing.
-use mathlib.Core.Path.{_≡_, refl, sym, ap, ap₂, _∙_, subst}
+-- The number of four words: its count, its complement and its digits, from the words'. Assumes nothing.
+use mathlib.Core.Path.{_≡_, refl, sym, ap, ap₂, _∙_}
 use mathlib.Core.List.{List, [], _∷_}
-use Prim.Native.Nat.{ℕ, zero, suc, _+_, _-_, _*_, _/_, _%_, _^_, _≤_, _<_}
-use native.Mathlib.Nat.{le-dest, mod-eq-of-lt, lt-of-le-of-lt, zero-add, add-assoc, le-of-lt}
+use mathlib.Core.Logic.{inl, inr}
+use Prim.Native.Nat.{ℕ, zero, suc, _+_, _-_, _*_, _/_, _%_, _^_, _<_}
+use native.Mathlib.Nat.{mod-lt, eq-zero-or-pos, ne-of-gt, mod-eq-of-lt, zero-add, add-assoc}
 use native.Mathlib.Omega.{arith}
 use lib.ListN.{getD, set, length, length-set}
-use lib.Pow.{high, low, split, shr-shr, shr-le, shr-lt}
-use lib.Bits.{bitOr}
+use lib.Pow.{pow-pos, high, low, split, shr-shr, shr-lt}
+use borrow.Author.Tests.{eq-eqb, ne-eqb}
+use lib.Bits.{bitOr, or-add-and, and-le-l, and-le-r}
+use lib.Dec.{eqb, ltb}
 use lib.Count.{ones, ones-cat}
 use mir.Syntax.{w64}
 use mir.Val.{Fits}
+use Rattle.terms.specs.Paper.{pick}
 use Rattle.map.specs.Bits.{over, valueOf, valueOfList, bitsIn, mapOf, bit, Words}
 use Rattle.map.specs.declared.Map.{Map}
-use Rattle.map.proofs.Laws.{shr-high, bit-low, bit-high, shr-parts, shr-near, or-low, or-high, parts-lt, not-parts}
+use Rattle.map.proofs.Laws.{shr-high, bit-low, bit-high, or-low, or-high, parts-lt, not-parts}
 
 -- a list of four is its four elements
 pub as-four : (w : List ℕ) → length w ≡ 4 → w ≡ getD w 0 0 ∷ getD w 1 0 ∷ getD w 2 0 ∷ getD w 3 0 ∷ []
@@ -38,29 +42,13 @@ as-four (a ∷ b ∷ c ∷ d ∷ x ∷ w) e = absurd (no (length w) e)
     no : (n : ℕ) → suc (suc (suc (suc (suc n)))) ≡ 4 → ⊥
     no n e = omega arith
 
-over-zero : (d : ℕ) → over 0 d ≡ d
-over-zero d = omega arith
-
 over-four : (j : ℕ) → suc (suc (suc (suc j))) < 4 → ⊥
 over-four j h = omega arith
-
-two-steps : (x y z W : ℕ) → (x * W + y) * W + z ≡ x * (W * W) + (y * W + z)
-two-steps x y z W = omega arith
-
--- three parts, with the two low ones as one of t + 64 + s digits where s and t make 64
-regroup : (x y z t s : ℕ) → s + t ≡ 64 → over (over x y) z ≡ x * 2 ^ (t + 64 + s) + over y z
-regroup x y z t s e =
-    let f : 128 ≡ t + 64 + s = omega arith in
-    two-steps x y z (2 ^ 64) ∙ ap (λ (n : ℕ). x * 2 ^ n + over y z) f
 
 module _ (a b c d : ℕ) (ha : a < 2 ^ 64) (hb : b < 2 ^ 64) (hc : c < 2 ^ 64) where
   pub value-ones : ones (valueOf a b c d) ≡ ones a + ones b + ones c + ones d
   unfolding valueOf
   value-ones = omega (arith, ones-cat 64 (over (over d c) b) a ha, ones-cat 64 (over d c) b hb, ones-cat 64 d c hc)
-
-  pub value-down : valueOf a b c d / 2 ^ 64 ≡ valueOf b c d 0
-  unfolding valueOf
-  value-down = high (over (over d c) b) 64 ha ∙ ap (λ (x : ℕ). over (over x c) b) (sym (over-zero d))
 
   pub value-lt : d < 2 ^ 64 → valueOf a b c d < 2 ^ 256
   unfolding valueOf
@@ -74,29 +62,6 @@ module _ (a b c d : ℕ) (ha : a < 2 ^ 64) (hb : b < 2 ^ 64) (hc : c < 2 ^ 64) w
       sym (not-parts 192 64 (parts-lt 128 64 (parts-lt 64 64 hd hc) hb) ha
       ∙ ap (λ (x : ℕ). over x ((2 ^ 64 - 1) - a)) (not-parts 128 64 (parts-lt 64 64 hd hc) hb
       ∙ ap (λ (x : ℕ). over x ((2 ^ 64 - 1) - b)) (not-parts 64 64 hd hc)))
-
-  -- a scan of the four words, one after the other
-  module _ (s : ℕ → ℕ → ℕ) (s-low : (j k a r : ℕ) → s k r < k → s (j + k) (a * 2 ^ k + r) ≡ s k r)
-      (s-high : (j k a r : ℕ) → r < 2 ^ k → s k r ≡ k → s (j + k) (a * 2 ^ k + r) ≡ k + s j a) where
-    pub scan-1 : s 64 a < 64 → s 256 (valueOf a b c d) ≡ s 64 a
-    unfolding valueOf
-    scan-1 h = s-low 192 64 (over (over d c) b) a h
-
-    pub scan-2 : s 64 a ≡ 64 → s 64 b < 64 → s 256 (valueOf a b c d) ≡ 64 + s 64 b
-    unfolding valueOf
-    scan-2 e h = s-high 192 64 (over (over d c) b) a ha e ∙ ap (λ (x : ℕ). 64 + x) (s-low 128 64 (over d c) b h)
-
-    pub scan-3 : s 64 a ≡ 64 → s 64 b ≡ 64 → s 64 c < 64 → s 256 (valueOf a b c d) ≡ 128 + s 64 c
-    unfolding valueOf
-    scan-3 e f h =
-        s-high 192 64 (over (over d c) b) a ha e
-        ∙ omega (arith, s-high 128 64 (over d c) b hb f, s-low 64 64 d c h)
-
-    pub scan-4 : s 64 a ≡ 64 → s 64 b ≡ 64 → s 64 c ≡ 64 → s 256 (valueOf a b c d) ≡ 192 + s 64 d
-    unfolding valueOf
-    scan-4 e f g =
-        s-high 192 64 (over (over d c) b) a ha e
-        ∙ omega (arith, s-high 128 64 (over d c) b hb f, s-high 64 64 d c hc g)
 
   -- digit q of word j
   pub value-bit : (j q : ℕ) → j < 4 → q < 64 → bit (valueOf a b c d) (64 * j + q) ≡ bit (getD (a ∷ b ∷ c ∷ d ∷ []) j 0) q
@@ -128,21 +93,37 @@ module _ (a b c d : ℕ) (ha : a < 2 ^ 64) (hb : b < 2 ^ 64) (hc : c < 2 ^ 64) w
       ∙ ap (λ (x : ℕ). over x a) (or-high (over d c) 64 (64 + q) hb ∙ ap (λ (x : ℕ). over x b) (or-high d 64 q hc)))
   value-set (suc (suc (suc (suc j)))) q l h = absurd (over-four j l)
 
-  -- shifted down by less than a word
-  pub value-shr : (s : ℕ) → d < 2 ^ 64 → s < 64
-      → valueOf (over b a / 2 ^ s % 2 ^ 64) (over c b / 2 ^ s % 2 ^ 64) (over d c / 2 ^ s % 2 ^ 64) (over 0 d / 2 ^ s % 2 ^ 64) ≡ valueOf a b c d / 2 ^ s
-  unfolding valueOf
-  value-shr s hd l =
-      let t = le-dest (le-of-lt l) in
-      let near : (x y z : ℕ) → over (over x y) z / 2 ^ s % 2 ^ 64 ≡ over y z / 2 ^ s % 2 ^ 64 =
-      λ x y z. ap (λ (n : ℕ). n / 2 ^ s % 2 ^ 64) (regroup x y z (t .0) s (t .1)) ∙ shr-near x (over y z) (t .0) 64 s in
-      let top : over 0 d / 2 ^ s % 2 ^ 64 ≡ d / 2 ^ s =
-      ap (λ (x : ℕ). x / 2 ^ s % 2 ^ 64) (over-zero d) ∙ mod-eq-of-lt (lt-of-le-of-lt (shr-le d s) hd) in
-      sym (shr-parts (over (over d c) b) 64 s ha
-      ∙ ap₂ over
-      (shr-parts (over d c) 64 s hb
-      ∙ ap₂ over (shr-parts d 64 s hc ∙ ap (λ (x : ℕ). over x (over d c / 2 ^ s % 2 ^ 64)) (sym top)) (near d c b))
-      (near (over d c) b a))
+-- ---- no digit is set exactly where no word has one
+
+zero-or : (a b : ℕ) → bitOr a b ≡ 0 → (a ≡ 0) × (b ≡ 0)
+zero-or a b e = (omega (arith, or-add-and a b, and-le-r a b), omega (arith, or-add-and a b, and-le-l a b))
+
+zero-over : (a r : ℕ) → over a r ≡ 0 → (a ≡ 0) × (r ≡ 0)
+zero-over a r e = (omega arith, omega arith)
+
+pub value-zero : (a b c d : ℕ) → eqb (bitOr (bitOr (bitOr a b) c) d) 0 ≡ eqb (valueOf a b c d) 0
+unfolding valueOf
+value-zero a b c d = same-zero (bitOr (bitOr (bitOr a b) c) d) (over (over (over d c) b) a) none all
+  where
+    none : bitOr (bitOr (bitOr a b) c) d ≡ 0 → over (over (over d c) b) a ≡ 0
+    none e =
+        let x = zero-or (bitOr (bitOr a b) c) d e in
+        let y = zero-or (bitOr a b) c (x .0) in
+        let z = zero-or a b (y .0) in
+        rw (z .0, z .1, y .1, x .1)
+
+    all : over (over (over d c) b) a ≡ 0 → bitOr (bitOr (bitOr a b) c) d ≡ 0
+    all e =
+        let x = zero-over (over (over d c) b) a e in
+        let y = zero-over (over d c) b (x .0) in
+        let z = zero-over d c (y .0) in
+        rw (x .1, y .1, z .1, z .0)
+
+    same-zero : (x y : ℕ) → (x ≡ 0 → y ≡ 0) → (y ≡ 0 → x ≡ 0) → eqb x 0 ≡ eqb y 0
+    same-zero x y f g = elim (eq-zero-or-pos x) [
+      | inl e ↦ eq-eqb x 0 e ∙ sym (eq-eqb y 0 (f e))
+      | inr p ↦ ne-eqb x 0 (ne-of-gt p) ∙ sym (ne-eqb y 0 (λ e. ne-of-gt p (g e)))
+    ]
 
 -- ---- the same of a list of four words
 module _ (w : List ℕ) (h : Words w) where
@@ -172,36 +153,26 @@ module _ (w : List ℕ) (h : Words w) where
       ∙ value-set _ _ _ _ (h .low 0 .fits) (h .low 1 .fits) (h .low 2 .fits) (i / 64) (i % 64) j<4 q<64
       ∙ ap (λ (n : ℕ). bitOr (valueOfList w) (2 ^ n)) (sym at)
 
-  pub list-shr : (s : ℕ) → s < 64
-      → valueOf (over (getD w 1 0) (getD w 0 0) / 2 ^ s % 2 ^ 64) (over (getD w 2 0) (getD w 1 0) / 2 ^ s % 2 ^ 64)
-      (over (getD w 3 0) (getD w 2 0) / 2 ^ s % 2 ^ 64) (over 0 (getD w 3 0) / 2 ^ s % 2 ^ 64)
-      ≡ valueOfList w / 2 ^ s
-  list-shr s l = value-shr _ _ _ _ (h .low 0 .fits) (h .low 1 .fits) (h .low 2 .fits) s (h .low 3 .fits) l
+-- a word chosen by tests
+pub word-of : (w : List ℕ) (j : ℕ) → j < 4
+    → pick (ltb j 2) (pick (eqb j 0) (getD w 0 0) (getD w 1 0)) (pick (eqb j 2) (getD w 2 0) (getD w 3 0)) ≡ getD w j 0
+word-of w zero l = refl
+word-of w (suc zero) l = refl
+word-of w (suc (suc zero)) l = refl
+word-of w (suc (suc (suc zero))) l = refl
+word-of w (suc (suc (suc (suc j)))) l = absurd (over-four j l)
 
-  -- a scan of the words: the result at the first word that stops it
-  module _ (s : ℕ → ℕ → ℕ) (s-low : (j k a r : ℕ) → s k r < k → s (j + k) (a * 2 ^ k + r) ≡ s k r)
-      (s-high : (j k a r : ℕ) → r < 2 ^ k → s k r ≡ k → s (j + k) (a * 2 ^ k + r) ≡ k + s j a) where
-    abbrev at : ℕ → ℕ
-    at i = s 64 (getD w i 0)
-
-    pub list-scan-1 : {x : ℕ} → x ≡ at 0 → x < 64 → x ≡ s 256 (valueOfList w)
-    list-scan-1 e l = e ∙ sym (scan-1 _ _ _ _ (h .low 0 .fits) (h .low 1 .fits) (h .low 2 .fits) s s-low s-high (subst (λ (n : ℕ). n < 64) e l))
-
-    pub list-scan-2 : {x : ℕ} → at 0 ≡ 64 → x ≡ at 1 → x < 64 → 64 + x ≡ s 256 (valueOfList w)
-    list-scan-2 p e l =
-        ap (λ (n : ℕ). 64 + n) e ∙ sym (scan-2 _ _ _ _ (h .low 0 .fits) (h .low 1 .fits) (h .low 2 .fits) s s-low s-high p (subst (λ (n : ℕ). n < 64) e l))
-
-    pub list-scan-3 : {x : ℕ} → at 0 ≡ 64 → at 1 ≡ 64 → x ≡ at 2 → x < 64 → 128 + x ≡ s 256 (valueOfList w)
-    list-scan-3 p q e l =
-        ap (λ (n : ℕ). 128 + n) e ∙ sym (scan-3 _ _ _ _ (h .low 0 .fits) (h .low 1 .fits) (h .low 2 .fits) s s-low s-high p q (subst (λ (n : ℕ). n < 64) e l))
-
-    pub list-scan-4 : {x : ℕ} → at 0 ≡ 64 → at 1 ≡ 64 → at 2 ≡ 64 → x ≡ at 3 → 192 + x ≡ s 256 (valueOfList w)
-    list-scan-4 p q r e =
-        ap (λ (n : ℕ). 192 + n) e ∙ sym (scan-4 _ _ _ _ (h .low 0 .fits) (h .low 1 .fits) (h .low 2 .fits) s s-low s-high p q r)
-
-    -- a scan of a word that did not stop below 64
-    pub full : {x n : ℕ} → (x ≡ n) × (x ≤ 64) → 64 ≤ x → n ≡ 64
-    full e l = omega arith
+-- and put by tests
+pub put-of : (w : List ℕ) (j x : ℕ) → length w ≡ 4 → j < 4
+    → pick (eqb j 0) x (getD w 0 0) ∷ pick (eqb j 1) x (getD w 1 0) ∷ pick (eqb j 2) x (getD w 2 0) ∷ pick (eqb j 3) x (getD w 3 0) ∷ [] ≡ set w j x
+put-of w j x e l = of-four (getD w 0 0) (getD w 1 0) (getD w 2 0) (getD w 3 0) j l ∙ ap (λ (v : List ℕ). set v j x) (sym (as-four w e))
+  where
+    of-four : (a b c d j : ℕ) → j < 4 → pick (eqb j 0) x a ∷ pick (eqb j 1) x b ∷ pick (eqb j 2) x c ∷ pick (eqb j 3) x d ∷ [] ≡ set (a ∷ b ∷ c ∷ d ∷ []) j x
+    of-four a b c d zero l = refl
+    of-four a b c d (suc zero) l = refl
+    of-four a b c d (suc (suc zero)) l = refl
+    of-four a b c d (suc (suc (suc zero))) l = refl
+    of-four a b c d (suc (suc (suc (suc j)))) l = absurd (over-four j l)
 
 -- a word put for another
 pub words-set : (w : List ℕ) (j x : ℕ) → Words w → Fits w64 x → Words (set w j x)
@@ -249,3 +220,15 @@ value-of w h =
 -- a map is the map of its number, however that number is reached
 pub map-at : (m : Map) (n : ℕ) → Words (m .words) → bitsIn m ≡ n → m ≡ mapOf n
 map-at m n h e = map-of m h ∙ ap mapOf e
+
+-- and its words are words
+pub map-words : (n : ℕ) → Words (mapOf n .words)
+unfolding mapOf
+map-words n = record { four = refl; low = low-of }
+  where
+    low-of : (i : ℕ) → Fits w64 (getD (n % 2 ^ 64 ∷ n / 2 ^ 64 % 2 ^ 64 ∷ n / 2 ^ 128 % 2 ^ 64 ∷ n / 2 ^ 192 % 2 ^ 64 ∷ []) i 0)
+    low-of zero = record { fits = mod-lt n (pow-pos 64) }
+    low-of (suc zero) = record { fits = mod-lt (n / 2 ^ 64) (pow-pos 64) }
+    low-of (suc (suc zero)) = record { fits = mod-lt (n / 2 ^ 128) (pow-pos 64) }
+    low-of (suc (suc (suc zero))) = record { fits = mod-lt (n / 2 ^ 192) (pow-pos 64) }
+    low-of (suc (suc (suc (suc i)))) = record { fits = pow-pos 64 }

@@ -1,10 +1,14 @@
 // 256 bits in four words, as one number: place i is digit i of it, bit i % 64 (the low bit first) of word i / 64.
+// A map is read round from any place: the place behind 255 is 0.
 ghost use mathlib.Core.Path.{_≡_};
-ghost use Prim.Native.Nat.{_+_, _-_, _/_, _%_, _^_, _<_, _≤_};
+ghost use Prim.Native.Nat.{_+_, _-_, _*_, _/_, _%_, _^_, _<_, _≤_, min};
 ghost use lib.Bits.{bitOr};
 ghost use lib.Count.{ones, trailingZeros};
 ghost use lib.Dec.{eqb};
-ghost use Rattle.map.specs.Bits.{over, isSet, run, bitsIn, mapOf};
+ghost use lib.ListN.{getD, set};
+ghost use Rattle.terms.specs.Paper.{pick};
+ghost use Rattle.map.specs.Bits.{isSet, run, bitsIn, mapOf};
+ghost use Rattle.map.specs.Ring.{rotated, without};
 
 // How many digits of a word are set.
 fn ones_in(w: u64) -> u64
@@ -18,6 +22,13 @@ fn zeros_in(w: u64) -> u64
     ensures { λ r. ⌜ (r ≡ trailingZeros 64 w) × (r ≤ 64) ⌝ }
 {
     u64::trailing_zeros(w) as u64
+}
+
+// A choice without a branch.
+fn either(t: bool, a: u64, b: u64) -> u64
+    ensures { λ r. ⌜ r ≡ pick t a b ⌝ }
+{
+    if t { a } else { b }
 }
 
 fn bit_in(w: u64, i: u64) -> bool
@@ -34,15 +45,26 @@ fn set_in(w: u64, i: u64) -> u64
     w | 1u64 << i
 }
 
-// The low word of two words that are shifted down together. A shift by 64 is none, so no shift is a case of its own.
-fn joined(lo: u64, hi: u64, s: u64) -> u64
-    requires { ⌜ s < 64 ⌝ }
-    ensures { λ r. ⌜ r ≡ over hi lo / 2 ^ s % 2 ^ 64 ⌝ }
+fn smaller(a: u64, b: u64) -> u64
+    ensures { λ r. ⌜ r ≡ min a b ⌝ }
 {
-    if s == 0 {
-        return lo;
-    }
-    lo >> s | hi << (64 - s)
+    if a < b { a } else { b }
+}
+
+// The n digits of a word from digit q on. A shift by 64 is none, so n is not 0.
+fn part_of(w: u64, q: u64, n: u64) -> u64
+    requires { ⌜ (0 < n) × (q + n ≤ 64) ⌝ }
+    ensures { λ r. ⌜ r ≡ w / 2 ^ q % 2 ^ n ⌝ }
+{
+    w >> q << (64 - n) >> (64 - n)
+}
+
+// The word without its n digits from digit q on.
+fn part_out(w: u64, q: u64, n: u64) -> u64
+    requires { ⌜ (0 < n) × (q + n ≤ 64) ⌝ }
+    ensures { λ r. ⌜ r ≡ w - (w / 2 ^ q % 2 ^ n) * 2 ^ q ⌝ }
+{
+    w - (part_of(w, q, n) << q)
 }
 
 // The lowest word first.
@@ -56,6 +78,31 @@ impl Map {
         ensures { λ r. ⌜ r ≡ mapOf 0 ⌝ }
     {
         Map { words: [0; 4] }
+    }
+
+    // Word j: chosen and not looked up, so that the four words stay in registers.
+    fn word(self, j: u64) -> u64
+        requires { ⌜ j < 4 ⌝ }
+        ensures { λ r. ⌜ r ≡ getD (self .words) j 0 ⌝ }
+    {
+        let low = either(j == 0, self.words[0], self.words[1]);
+        let high = either(j == 2, self.words[2], self.words[3]);
+        either(j < 2, low, high)
+    }
+
+    // The map with x for word j.
+    fn put(self, j: u64, x: u64) -> Map
+        requires { ⌜ j < 4 ⌝ }
+        ensures { λ r. ⌜ r .words ≡ set (self .words) j x ⌝ }
+    {
+        Map {
+            words: [
+                either(j == 0, x, self.words[0]),
+                either(j == 1, x, self.words[1]),
+                either(j == 2, x, self.words[2]),
+                either(j == 3, x, self.words[3]),
+            ],
+        }
     }
 
     // How many places are held.
@@ -80,34 +127,13 @@ impl Map {
     }
 
     // Place i held too; from 256 on there is no place, and nothing changes.
-    pub fn with(mut self, i: u64) -> Map
+    pub fn with(self, i: u64) -> Map
         ensures { λ r. ⌜ r ≡ mapOf (bitOr (bitsIn self) (2 ^ i) % 2 ^ 256) ⌝ }
     {
         if 256 <= i {
             return self;
         }
-        let j = (i / 64) as usize;
-        self.words[j] = set_in(self.words[j], i % 64);
-        self
-    }
-
-    // The lowest held place, or 256.
-    pub fn first_held(self) -> u64
-        ensures { λ r. ⌜ r ≡ trailingZeros 256 (bitsIn self) ⌝ }
-    {
-        let a = zeros_in(self.words[0]);
-        if a < 64 {
-            return a;
-        }
-        let b = zeros_in(self.words[1]);
-        if b < 64 {
-            return 64 + b;
-        }
-        let c = zeros_in(self.words[2]);
-        if c < 64 {
-            return 128 + c;
-        }
-        192 + zeros_in(self.words[3])
+        self.put(i / 64, set_in(self.word(i / 64), i % 64))
     }
 
     // The complement: held where this map is not.
@@ -124,61 +150,77 @@ impl Map {
         }
     }
 
-    // How many places from 0 on are held without a break: the trailing zeros of the complement.
-    pub fn run(self) -> u64
-        ensures { λ r. ⌜ r ≡ run 256 (bitsIn self) ⌝ }
-    {
-        self.flipped().first_held()
-    }
-
     // Whether no place is held.
     pub fn empty(self) -> bool
         ensures { λ r. ⌜ r ≡ eqb (bitsIn self) 0 ⌝ }
     {
-        self.first_held() == 256
+        let w = self.words;
+        w[0] | w[1] | w[2] | w[3] == 0
     }
 
-    // The map without its lowest word.
-    fn word_down(self) -> Map
-        ensures { λ r. ⌜ bitsIn r ≡ bitsIn self / 2 ^ 64 ⌝ }
+    // How many places from s on are clear, counted round: 256 where none is held.
+    // The place's own word is the first one, and the last: by then its places from s on are known to be clear.
+    pub fn first_from(self, s: u64) -> u64
+        ensures { λ r. ⌜ r ≡ trailingZeros 256 (rotated s (bitsIn self)) ⌝ }
     {
-        Map {
-            words: [self.words[1], self.words[2], self.words[3], 0],
+        let m = self;
+        let q = s % 64;
+        let mut j = s / 64 % 4;
+        let near = zeros_in(m.word(j) >> q);
+        if near < 64 {
+            return near;
         }
+        let mut passed = 64 - q;
+        while passed < 256 {
+            j = (j + 1) % 4;
+            let z = zeros_in(m.word(j));
+            if z < 64 {
+                return passed + z;
+            }
+            passed += 64;
+        }
+        256
     }
 
-    // The map shifted down by less than a word.
-    fn part_down(self, s: u64) -> Map
-        requires { ⌜ s < 64 ⌝ }
-        ensures { λ r. ⌜ bitsIn r ≡ bitsIn self / 2 ^ s ⌝ }
+    // How many places from s on are held without a break, counted round: the clear places of the complement.
+    pub fn run_from(self, s: u64) -> u64
+        ensures { λ r. ⌜ r ≡ run 256 (rotated s (bitsIn self)) ⌝ }
     {
-        let a = self.words[0];
-        let b = self.words[1];
-        let c = self.words[2];
-        let d = self.words[3];
-        Map {
-            words: [
-                joined(a, b, s),
-                joined(b, c, s),
-                joined(c, d, s),
-                joined(d, 0, s),
-            ],
-        }
+        self.flipped().first_from(s)
     }
 
-    // The map without its k lowest places: place i is what place k + i was. Beyond 256 nothing is left.
-    pub fn dropped(self, k: u64) -> Map
-        ensures { λ r. ⌜ r ≡ mapOf (bitsIn self / 2 ^ k) ⌝ }
+    // How many of the k places from s on are held, counted round; beyond 256 there is no place.
+    pub fn held_from(self, s: u64, k: u64) -> u64
+        ensures { λ r. ⌜ r ≡ ones (rotated s (bitsIn self) % 2 ^ k) ⌝ }
     {
-        if 256 < k {
-            return Map::new();
+        let m = self;
+        let mut at = s % 256;
+        let mut left = smaller(k, 256);
+        let mut count = 0;
+        while 0 < left {
+            let q = at % 64;
+            let n = smaller(64 - q, left);
+            count += ones_in(part_of(m.word(at / 64), q, n));
+            at = (at + n) % 256;
+            left -= n;
         }
+        count
+    }
+
+    // The map without the k places from s on, counted round; beyond 256 nothing is left.
+    pub fn cleared(self, s: u64, k: u64) -> Map
+        ensures { λ r. ⌜ r ≡ mapOf (without s k (bitsIn self)) ⌝ }
+    {
         let mut m = self;
-        let mut left = k;
-        while left >= 64 {
-            m = m.word_down();
-            left -= 64;
+        let mut at = s % 256;
+        let mut left = smaller(k, 256);
+        while 0 < left {
+            let q = at % 64;
+            let n = smaller(64 - q, left);
+            m = m.put(at / 64, part_out(m.word(at / 64), q, n));
+            at = (at + n) % 256;
+            left -= n;
         }
-        m.part_down(left)
+        m
     }
 }

@@ -7,6 +7,7 @@ use Rattle.terms.specs.Counters.{sessionOf, tickOf, channelOf}
 use Rattle.terms.specs.RuledOut.{Row, _never_, _only_, Kept, RulesOut, ruled, numbers, lists, beside}
 use Rattle.rules.specs.Table.{kindOf}
 use Rattle.map.specs.Bits.{valueOf, mapOf, run}
+use Rattle.map.specs.Ring.{rotated}
 use Rattle.book.specs.State.{Asked, nothing, range, Book, has, rangeRules, mapRules, soundOf}
 use Rattle.book.specs.Calls.{ownNumber, checkedOf, numberTo, passes, taken, raised, done, nextOf}
 use Rattle.ledger.specs.State.{bookOf, ledgerOf}
@@ -40,5 +41,5 @@ offer-wrong =
     ∷ []
 
 pub offer-rules-out : RulesOut (Kept _ offer-kinds.ps offer-kinds.r offer.Post) (λ c. (bookOf (c .args .0), c .args .1 .0)) (λ c. shown (c .result .answer) (c .result .ledger)) offer-wrong
-unfolding kindOf valueOf mapOf run trailingZeros has rangeRules mapRules soundOf ownNumber checkedOf numberTo passes taken raised done nextOf bookOf ledgerOf callsBy answered offerOf
+unfolding kindOf valueOf mapOf rotated run trailingZeros has rangeRules mapRules soundOf ownNumber checkedOf numberTo passes taken raised done nextOf bookOf ledgerOf callsBy answered offerOf
 offer-rules-out = ruled (beside numbers lists) (λ (i : Book × Seen). shown (offerOf (i .0) (i .1) .number) (ledgerOf (offerOf (i .0) (i .1) .book))) (λ c p. ap₂ shown (p .0) (p .1)) _ refl

@@ -32,7 +32,6 @@ use Rattle.entries.specs.declared.Answer.{Answer as EntryAnswer}
 use Rattle.entries.specs.declared.Answer.the-variants as entry
 use Rattle.entries.specs.declared.Entry.the-variants as an
 use Rattle.entries.specs.Papers.{answerPaper}
-use Rattle.map.specs.Bits.{Words}
 use Rattle.ledger.specs.declared.Ledger.{Ledger}
 use Rattle.ledger.specs.declared.Answer.{Answer}
 use Rattle.ledger.specs.declared.Answer.the-variants as plain
@@ -186,10 +185,11 @@ map-answers =
     let Map-held-one-answer = map.Map-held-one-answer in
     let Map-holds-one-answer = map.Map-holds-one-answer in
     let Map-with-one-answer = map.Map-with-one-answer in
-    let Map-first-held-one-answer = map.Map-first-held-one-answer in
-    let Map-run-one-answer = map.Map-run-one-answer in
     let Map-empty-one-answer = map.Map-empty-one-answer in
-    let Map-dropped-one-answer = map.Map-dropped-one-answer in
+    let Map-first-from-one-answer = map.Map-first-from-one-answer in
+    let Map-run-from-one-answer = map.Map-run-from-one-answer in
+    let Map-held-from-one-answer = map.Map-held-from-one-answer in
+    let Map-cleared-one-answer = map.Map-cleared-one-answer in
     named
 
 -- ledger
@@ -562,11 +562,11 @@ follow-buffers =
 -- For every state that is passed in, sound or not, and every call of the ledger that meets its promise: a refusal other than 12 gives back the
 -- very ledger; 12 gives it back with its top raised to that tick if it was lower, and nothing else changed.
 
-pub refusals-keep-the-ledger : (l next : Ledger) (call : Call) (paper : Paper) → Words (l .map .words) → Promise l call next paper
+pub refusals-keep-the-ledger : (l next : Ledger) (call : Call) (paper : Paper) → Promise l call next paper
     → answered paper 0 ≡ false → answered paper 12 ≡ false → next ≡ l
 refusals-keep-the-ledger = refused-gives-back
 
-pub far-raises-the-top : (l next : Ledger) (channel n : ℕ) (paper : Paper) → Words (l .map .words) → Promise l (Tick channel n) next paper
+pub far-raises-the-top : (l next : Ledger) (channel n : ℕ) (paper : Paper) → Promise l (Tick channel n) next paper
     → answered paper 12 ≡ true → next ≡ record { channel = l .channel; floor = l .floor; top = tickOf (max (l .top .0) n); map = l .map; pending = l .pending }
 far-raises-the-top = far-raises-top
 

@@ -9,3 +9,4 @@ pub mod Cuttings
 pub mod Marked
 pub mod Parts
 pub mod Pieces
+pub mod SameMap

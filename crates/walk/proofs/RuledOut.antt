@@ -14,6 +14,7 @@ use Rattle.wire.specs.Frame.{checked, readOf, bodyRead}
 use Rattle.wire.specs.Examples.{startOfA, frameA, frameB, four, capture}
 use Rattle.view.specs.View.{viewOf}
 use Rattle.map.specs.Bits.{valueOf, mapOf}
+use Rattle.map.specs.Ring.{rotated}
 use Rattle.book.specs.State.{Asked, nothing, range, Book, rangeRules, mapRules, soundOf}
 use Rattle.book.specs.Calls.{ownNumber, checkedOf, numberTo, raised, done, nextOf, fresh}
 use Rattle.ledger.specs.State.{bookOf, ledgerOf}
@@ -56,7 +57,7 @@ walk-wrong =
     ∷ []
 
 pub walk-rules-out : RulesOut (Kept _ walk-kinds.ps walk-kinds.r walk.Post) (λ c. (now (c .args .0), now (c .args .1 .0))) (λ c. shown (walkPaper (c .result)) (c .result .ledger) (now (c .exit .1 .0))) walk-wrong
-unfolding frameA startOfA frameB checked readOf bodyRead numeral digitsOf laid sum8 sumOf kindOf suits measureOf p001Ok fieldsOk realTime realParts daysIn leap judgeOf viewOf valueOf mapOf rangeRules mapRules soundOf ownNumber checkedOf numberTo raised done nextOf fresh bookOf ledgerOf after next found noted sightsOf joined eachOf Account.accountOf Account.walkOf firstHalf secondHalf recordOf blankOf seenOf saysOf callsBy answered offerOf madeOf recordBy bookBy accepts refuses framesOf refusedOf fitsIn walkAnswer walkBook walkLeaves
+unfolding frameA startOfA frameB checked readOf bodyRead numeral digitsOf laid sum8 sumOf kindOf suits measureOf p001Ok fieldsOk realTime realParts daysIn leap judgeOf viewOf valueOf mapOf rotated rangeRules mapRules soundOf ownNumber checkedOf numberTo raised done nextOf fresh bookOf ledgerOf after next found noted sightsOf joined eachOf Account.accountOf Account.walkOf firstHalf secondHalf recordOf blankOf seenOf saysOf callsBy answered offerOf madeOf recordBy bookBy accepts refuses framesOf refusedOf fitsIn walkAnswer walkBook walkLeaves
 walk-rules-out =
     ruled (beside papers (beside lists lists)) (λ (i : List ℕ × List ℕ). shown (walkAnswer (i .0) (length (i .1))) (ledgerOf (walkBook (i .0) (length (i .1)))) (walkLeaves (i .0) (i .1)))
     (λ c p. ap₂ (λ (x : Paper) (y : List ℕ × List ℕ). (x, y)) (p .0) (ap₂ (λ (l : Ledger) (d : List ℕ). (seen (bookOf l), d)) (p .1 .0) (p .1 .1)))

@@ -13,9 +13,9 @@ use Rattle.book.specs.State.{range, Book, StateRules}
 use Rattle.ledger.specs.declared.Ledger.{Ledger}
 use Rattle.ledger.specs.declared.Pending.{Pending}
 use Rattle.ledger.specs.declared.Pending.the-variants.{Nothing, Range}
-use Rattle.ledger.specs.State.{askedOf, bookOf, ledgerOf}
+use Rattle.ledger.specs.State.{askedOf, bookOf, ledgerOf, topped}
 use Rattle.ledger.proofs.Seam.{book-of}
-use Rattle.words.specs.Words.{firstAsked, lastAsked, wordsOf, pendingIn, ledgerIn, bookIn}
+use Rattle.words.specs.Words.{firstAsked, lastAsked, wordsOf, pendingIn, ledgerIn, withTop, bookIn}
 
 -- A ROW OF NUMBERS IS ITS ELEMENTS
 
@@ -62,12 +62,16 @@ asked-back first last =
     (λ (f : first ≡ 0 → ⊥). rw (ne-eqb first 0 f) (refl, refl))
     (same first 0)
 
-pub words-fore : (w : List ℕ) → length w ≡ 9 → StateRules (bookIn w) → wordsOf (ledgerIn w) ≡ w
+pub top-words : (w : List ℕ) (top : ℕ) → StateRules (bookIn w) → wordsOf (topped (ledgerIn w) top) ≡ withTop w top
 unfolding wordsOf ledgerIn bookOf
-words-fore w nine r =
+top-words w top r =
     let e : min (getD w 0 0) 65535 ≡ getD w 0 0 = omega (arith, r .channel-small) in
     let p = asked-back (getD w 7 0) (getD w 8 0) in
-    rw (e, p .0, p .1) (sym (all-of 9 0 w nine))
+    rw (e, p .0, p .1)
+
+pub words-fore : (w : List ℕ) → length w ≡ 9 → StateRules (bookIn w) → wordsOf (ledgerIn w) ≡ w
+unfolding ledgerIn
+words-fore w nine r = top-words w (getD w 2 0) r ∙ sym (all-of 9 0 w nine)
 
 -- a channel above 9,999 breaks the rules, however large
 pub channel-too-large : (w : List ℕ) → 9999 < getD w 0 0 → StateRules (bookIn w) → ⊥

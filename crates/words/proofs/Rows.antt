@@ -1,24 +1,21 @@
 -- The words of a sound ledger stand for it (`words-back`), so a call through the host is that call on the ledger. Words that break the state rules are refused by 13. Assumes nothing.
 use Prim.Native.Nat.{ℕ, max, _<_}
-use mathlib.Core.Path.{_≡_, refl, sym, ap, _∙_}
+use mathlib.Core.Path.{_≡_, ap, ap₂, _∙_}
 use mathlib.Core.Bool.{true, false}
 use mathlib.Core.Logic.{⊎-elim, _↔_}
 use mathlib.Core.List.{List}
 use lib.Dec.{eqb}
 use lib.ListN.{getD}
-use borrow.Author.Tests.{eq-eqb}
 use Rattle.terms.specs.Cases.{two}
-use Rattle.terms.specs.Counters.{tickOf}
-use Rattle.map.specs.Bits.{Words}
 use Rattle.book.specs.State.{Book, StateRules}
 use Rattle.book.specs.Calls.{Call, Tick, answerTo, nextOf}
 use Rattle.book.proofs.Answers.{keeps}
-use Rattle.book.proofs.Given.{given-13}
+use Rattle.book.proofs.Given.{given-12, given-13}
 use Rattle.ledger.specs.declared.Ledger.{Ledger}
-use Rattle.ledger.specs.State.{bookOf, ledgerOf}
-use Rattle.ledger.proofs.Promised.{far-raises-top}
-use Rattle.words.proofs.Back.{words-back, book-back, channel-too-large}
-use Rattle.words.specs.Words.{wordsOf, bookIn}
+use Rattle.ledger.specs.State.{bookOf, ledgerOf, nextIn}
+use Rattle.ledger.proofs.Seam.{book-of, topped-of, far-by, next-keeps}
+use Rattle.words.proofs.Back.{book-words, top-words, channel-too-large}
+use Rattle.words.specs.Words.{wordsOf, ledgerIn, withTop, bookIn}
 use Rattle.words.specs.Calls.{keptBy, callTold, wordsAfter}
 
 -- A CALL ON THE WORDS OF A SOUND LEDGER IS THE CALL ON THE LEDGER
@@ -43,16 +40,14 @@ module _ (b : Book) (r : StateRules b) (call : Call) where
 
   pub call-words : wordsAfter words call ≡ next
   unfolding wordsAfter
-  call-words = ap (λ (x : Book). keptBy (answerTo x call .number) (ledgerOf (nextOf x call)) words) (book-back b r) ∙ kept
+  call-words =
+      ap (λ (l : Ledger). keptBy (answerTo (bookOf l) call .number) (nextIn l call) words) (book-words b r)
+      ∙ ap₂ (λ (x : Book) (l : Ledger). keptBy (answerTo x call .number) l words) (book-of b (r .places)) (next-keeps bookOf ledgerOf b (book-of b (r .places)) (topped-of b) call) ∙ kept
 
 -- 12 changes the third word alone, the top: it is raised to the tick, if it was lower
-pub far-words : (l : Ledger) → Words (l .map .words) → StateRules (bookOf l) → (channel n : ℕ) → callTold (wordsOf l) (Tick channel n) .number ≡ 12
-    → wordsAfter (wordsOf l) (Tick channel n) ≡ wordsOf (record { channel = l .channel; floor = l .floor; top = tickOf (max (l .top .0) n); map = l .map; pending = l .pending })
-unfolding wordsAfter keptBy
-far-words l w r channel n f =
-    let e : bookIn (wordsOf l) ≡ bookOf l = ap bookOf (words-back l (w .four) r) in
-    let g : answerTo (bookOf l) (Tick channel n) .number ≡ 12 = sym (ap (λ (b : Book). answerTo b (Tick channel n) .number) e) ∙ f in
-    rw (e, g) (ap wordsOf (far-raises-top l _ channel n _ w (record { paper-is = refl; next-is = refl }) (eq-eqb _ 12 g)))
+pub far-words : (w : List ℕ) (channel n : ℕ) → callTold w (Tick channel n) .number ≡ 12 → wordsAfter w (Tick channel n) ≡ withTop w (max (getD w 2 0) n)
+unfolding wordsAfter keptBy answerTo ledgerIn
+far-words w channel n f = rw f (ap wordsOf (far-by bookOf ledgerOf (ledgerIn w) (Tick channel n) f) ∙ top-words w (max (getD w 2 0) n) (given-12 (bookIn w) channel n .0 f .rules))
 
 -- WORDS THAT BREAK THE STATE RULES ARE REFUSED
 

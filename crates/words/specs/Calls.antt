@@ -5,10 +5,10 @@ use mathlib.Core.List.{List}
 use lib.Dec.{eqb}
 use borrow.Author.Tests.{ne-eqb}
 use Rattle.terms.specs.Paper.{Paper, pick}
-use Rattle.book.specs.Calls.{Call, answerTo, nextOf}
+use Rattle.book.specs.Calls.{Call, answerTo}
 use Rattle.ledger.specs.declared.Ledger.{Ledger}
-use Rattle.ledger.specs.State.{ledgerOf}
-use Rattle.words.specs.Words.{wordsOf, bookIn}
+use Rattle.ledger.specs.State.{nextIn}
+use Rattle.words.specs.Words.{wordsOf, ledgerIn, bookIn}
 
 -- the words after an answer beside which the ledger next stands: 0 and 12 store it, any other refusal leaves them as they were
 unfoldable pub keptBy : ℕ → Ledger → List ℕ → List ℕ
@@ -19,7 +19,7 @@ abbrev pub callTold : List ℕ → Call → Paper
 callTold w call = answerTo (bookIn w) call
 
 unfoldable pub wordsAfter : List ℕ → Call → List ℕ
-wordsAfter w call = keptBy (answerTo (bookIn w) call .number) (ledgerOf (nextOf (bookIn w) call)) w
+wordsAfter w call = keptBy (answerTo (bookIn w) call .number) (nextIn (ledgerIn w) call) w
 
 -- PROOFS
 

@@ -44,5 +44,10 @@ ledgerIn w =
       pending = pendingIn (getD w 7 0) (getD w 8 0);
     }
 
+-- nine words with another third one, the top
+abbrev pub withTop : List ℕ → ℕ → List ℕ
+withTop w top =
+    getD w 0 0 ∷ getD w 1 0 ∷ top ∷ getD w 3 0 ∷ getD w 4 0 ∷ getD w 5 0 ∷ getD w 6 0 ∷ getD w 7 0 ∷ getD w 8 0 ∷ []
+
 abbrev pub bookIn : List ℕ → Book
 bookIn w = bookOf (ledgerIn w)

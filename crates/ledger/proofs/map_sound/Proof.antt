@@ -1,13 +1,15 @@
--- The code drops as many places as are known, however many: beyond 256 both leave nothing. Assumes nothing.
-use mathlib.Core.Path.{_≡_, sym, ap, _∙_}
-use mathlib.Core.Bool.{false}
+-- With 256 numbers known the first place alone decides; nothing held keeps the rules, something held where nothing is known breaks them; else the
+-- scan from behind what is known tells. Assumes nothing.
+use mathlib.Core.Path.{sym, ap, _∙_}
+use mathlib.Core.Bool.{not}
+use Prim.Native.Nat.{_-_, _<_}
+use native.Mathlib.Omega.{arith}
+use borrow.Author.Tests.{eqb-true, eqb-false}
 use borrow.Author.Needs.{needs}
-use lib.Dec.{eqb}
-use Rattle.map.specs.Bits.{Words, bitsIn, isSet}
-use Rattle.map.specs.declared.Map.{Map}
+use lib.Dec.{leb}
+use Rattle.map.specs.Bits.{Words}
 use Rattle.map.proofs.Words.{list-lt}
-use Rattle.book.specs.State.{mapRules}
-use Rattle.ledger.proofs.Seam.{dropped-empty}
+use Rattle.ledger.proofs.Seam.{rules-empty, rules-none, rules-all, rules-scan}
 use Rattle.ledger.proofs.map_sound.Statement.{statement}
 use Rattle.ledger.proofs.map_sound.Tie as tie
 
@@ -18,22 +20,49 @@ holds-requires : tie.Need-holds-requires
 holds-requires c κs = search needs
 
 returns : tie.Need-returns
-unfolding mapRules
-returns c = simp (sym (c .before .holds .ensures) ∙ c .if1 .taken)
-
-dropped-requires : tie.Need-dropped-requires
-dropped-requires c κs = search needs
+returns c =
+    let s = c .before .before in
+    ap not (c .holds .ensures) ∙ rules-all (s .args .from) (s .args .known) _ (list-lt _ (words s)) (c .before .if1 .taken)
 
 empty-requires : tie.Need-empty-requires
 empty-requires c κs = search needs
 
 returns-2 : tie.Need-returns-2
-unfolding mapRules
 returns-2 c =
+    let s = c .before .before .before in
+    rules-empty (s .args .from) (s .args .known) _ (list-lt _ (words s)) (eqb-true _ 0 (sym (c .before .empty .ensures) ∙ c .if2 .taken))
+
+returns-3 : tie.Need-returns-3
+returns-3 c =
     let s = c .before .before .before .before in
-    let e : isSet (bitsIn (s .args .map)) 0 ≡ false = sym (c .before .before .before .holds .ensures) ∙ c .before .before .if1 .left in
-    simp e (c .empty .ensures ∙ ap (λ (m : Map). eqb (bitsIn m) 0) (c .before .dropped .ensures) ∙ dropped-empty (bitsIn (s .args .map)) (s .args .known) (list-lt _ (words s)))
+    rules-none (s .args .from) (s .args .known) _ (list-lt _ (words s)) (eqb-false _ 0 (sym (c .before .before .empty .ensures) ∙ c .before .if2 .left)) (c .if3 .taken)
+
+sub-result : tie.Need-sub-result
+sub-result c = search needs
+
+add-first-from : tie.Need-add-first-from
+add-first-from c = search needs
+
+first-from-requires : tie.Need-first-from-requires
+first-from-requires c κs = search needs
+
+returns-4 : tie.Need-returns-4
+returns-4 c =
+    let s = c .before .before .before .before .before in
+    let some : 0 < s .args .known = omega arith in
+    let few : s .args .known < 256 = omega arith in
+    ap (leb (257 - s .args .known)) (c .«first-from» .ensures) ∙ rules-scan (s .args .from) (s .args .known) _ (list-lt _ (words s)) some few
 
 pub map-sound-spec : {M : Type 1} → statement M
 map-sound-spec =
-    tie.close (tie.spec holds-requires returns dropped-requires empty-requires returns-2)
+    tie.close
+    (tie.spec
+    holds-requires
+    returns
+    empty-requires
+    returns-2
+    returns-3
+    sub-result
+    add-first-from
+    first-from-requires
+    returns-4)

@@ -2,10 +2,15 @@
 use mathlib.Core.Path.{sym, ap, _∙_}
 use borrow.Author.Needs.{needs}
 use Rattle.terms.specs.Paper.{one-number}
+use Rattle.map.specs.Bits.{Words}
 use Rattle.book.specs.Calls.{answerTo}
+use Rattle.ledger.proofs.Seam.{next-of}
 use Rattle.ledger.specs.Papers.{paperOf}
 use Rattle.offers.proofs.announced.Statement.{statement}
 use Rattle.offers.proofs.announced.Tie as tie
+
+words : (c : tie.Start) → Words (c .args .ledger .map .words)
+words c = record { four = search needs; low = λ i. search needs }
 
 announce-requires : tie.Need-announce-requires
 announce-requires c κs = search needs
@@ -21,11 +26,11 @@ number-requires c κs = search needs
 
 returns : tie.Need-returns
 unfolding answerTo
-returns c = (one-number (sym (ap paperOf (c .enum-told .given .1)) ∙ c .before .before .before .announce .ensures .0), c .before .before .before .announce .ensures .1)
+returns c = (one-number (sym (ap paperOf (c .enum-told .given .1)) ∙ c .before .before .before .announce .ensures .0), c .before .before .before .announce .ensures .1 ∙ next-of _ (words (c .before .before .before .before)) _)
 
 returns-2 : tie.Need-returns-2
 unfolding answerTo
-returns-2 c = (c .number .ensures ∙ one-number (sym (ap paperOf (c .before .before .answer .given .1)) ∙ c .before .before .before .before .before .announce .ensures .0), c .before .before .before .before .before .announce .ensures .1)
+returns-2 c = (c .number .ensures ∙ one-number (sym (ap paperOf (c .before .before .answer .given .1)) ∙ c .before .before .before .before .before .announce .ensures .0), c .before .before .before .before .before .announce .ensures .1 ∙ next-of _ (words (c .before .before .before .before .before .before)) _)
 
 pub announced-spec : {M : Type 1} → statement M
 announced-spec =

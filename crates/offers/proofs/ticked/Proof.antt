@@ -2,10 +2,15 @@
 use mathlib.Core.Path.{sym, ap, _∙_}
 use borrow.Author.Needs.{needs}
 use Rattle.terms.specs.Paper.{one-number}
+use Rattle.map.specs.Bits.{Words}
 use Rattle.book.specs.Calls.{answerTo}
+use Rattle.ledger.proofs.Seam.{next-of}
 use Rattle.ledger.specs.Papers.{tickPaper}
 use Rattle.offers.proofs.ticked.Statement.{statement}
 use Rattle.offers.proofs.ticked.Tie as tie
+
+words : (c : tie.Start) → Words (c .args .ledger .map .words)
+words c = record { four = search needs; low = λ i. search needs }
 
 tick-requires : tie.Need-tick-requires
 tick-requires c κs = search needs
@@ -21,11 +26,11 @@ number-requires c κs = search needs
 
 returns : tie.Need-returns
 unfolding answerTo
-returns c = (one-number (sym (ap tickPaper (c .enum-told .given .1)) ∙ c .before .before .before .tick .ensures .0), c .before .before .before .tick .ensures .1)
+returns c = (one-number (sym (ap tickPaper (c .enum-told .given .1)) ∙ c .before .before .before .tick .ensures .0), c .before .before .before .tick .ensures .1 ∙ next-of _ (words (c .before .before .before .before)) _)
 
 returns-2 : tie.Need-returns-2
 unfolding answerTo
-returns-2 c = (c .number .ensures ∙ one-number (sym (ap tickPaper (c .before .before .answer .given .1)) ∙ c .before .before .before .before .before .tick .ensures .0), c .before .before .before .before .before .tick .ensures .1)
+returns-2 c = (c .number .ensures ∙ one-number (sym (ap tickPaper (c .before .before .answer .given .1)) ∙ c .before .before .before .before .before .tick .ensures .0), c .before .before .before .before .before .tick .ensures .1 ∙ next-of _ (words (c .before .before .before .before .before .before)) _)
 
 pub ticked-spec : {M : Type 1} → statement M
 ticked-spec =

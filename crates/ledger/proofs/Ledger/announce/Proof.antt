@@ -8,7 +8,7 @@ use Rattle.book.specs.State.{Book}
 use Rattle.ledger.specs.State.{bookOf, ledgerOf}
 use Rattle.book.specs.Calls.{Call, ownNumber, numberTo, valuesOf, done, raised, Announce}
 use Rattle.ledger.specs.Papers.{verdictNumber}
-use Rattle.ledger.proofs.Seam.{ledger-of, judged, done-answer, done-next, refused-answer, refused-same, announce-not-12}
+use Rattle.ledger.proofs.Seam.{raised-of, judged, done-answer, refused-answer, done-in, same-in, announce-not-12}
 use Rattle.ledger.proofs.Ledger.announce.Statement.{statement}
 use Rattle.ledger.proofs.Ledger.announce.Tie as tie
 
@@ -55,14 +55,17 @@ returns c =
     let k = c .before .before .before in
     let why = c .before .verdict .given .0 .0 in
     let e : numberOf why ≡ numberTo (book k) (call k) = sym (ap verdictNumber (c .before .verdict .given .1)) ∙ number k in
-    (refused-answer (book k) (call k) why e, sym (ledger-of (start k .args .self) (words (start k))) ∙ ap ledgerOf (refused-same (book k) (call k) why e (announce-not-12 (book k) _ _)))
+    (refused-answer (book k) (call k) why e, same-in (start k .args .self) (call k) why e (announce-not-12 (book k) _ _))
 
 returns-2 : tie.Need-returns-2
 unfolding valuesOf done
 returns-2 c =
     let k = c .before .before .before in
     let e : 0 ≡ numberTo (book k) (call k) = sym (ap verdictNumber (c .before .enum-told .given .1)) ∙ number k in
-    (done-answer (book k) (call k) e, c .raised .ensures ∙ ap (λ (x : ℕ). ledgerOf (raised (book k) x)) (k .before .before .value .ensures) ∙ ap ledgerOf (done-next (book k) (call k) e))
+    let l = start k .args .self in (
+      done-answer (book k) (call k) e,
+      c .raised .ensures ∙ raised-of l (words (start k)) (k .before .before .value .result) ∙ ap (λ (x : ℕ). ledgerOf (raised (book k) x)) (k .before .before .value .ensures) ∙ done-in l (call k) e,
+    )
 
 pub announce-spec : {M : Type 1} → statement M
 announce-spec =

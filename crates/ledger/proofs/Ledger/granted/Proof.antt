@@ -3,9 +3,12 @@ use mathlib.Core.Path.{_≡_, ap, _∙_, ap₂}
 use mathlib.Core.List.{[], _∷_}
 use Prim.Native.Nat.{ℕ, _+_, _-_, min}
 use borrow.Author.Needs.{needs}
+use lib.Count.{trailingZeros}
 use Rattle.terms.specs.declared.TickNumber.{TickNumber}
 use Rattle.terms.specs.Counters.{tickOf}
 use Rattle.terms.specs.Paper.{answer}
+use Rattle.map.specs.Bits.{bitsIn}
+use Rattle.map.specs.Ring.{rotated}
 use Rattle.book.specs.State.{range}
 use Rattle.ledger.specs.State.{bookOf, ledgerOf}
 use Rattle.book.specs.Calls.{waiting, asked}
@@ -21,8 +24,11 @@ value-requires-2 c κs = search needs
 sub-known : tie.Need-sub-known
 sub-known c = search needs
 
-first-held-requires : tie.Need-first-held-requires
-first-held-requires c κs = search needs
+add-first-from : tie.Need-add-first-from
+add-first-from c = search needs
+
+first-from-requires : tie.Need-first-from-requires
+first-from-requires c κs = search needs
 
 smaller-requires : tie.Need-smaller-requires
 smaller-requires c κs = search needs
@@ -54,7 +60,8 @@ unfolding asked bookOf
 last-is c =
     let floor-is = c .before .before .before .before .before .before .before .value .ensures in
     let top-is = c .before .before .before .before .before .before .value2 .ensures in
-    let clear-is = c .before .before .before .before .first-held .ensures in
+    let s = c .before .before .before .before .before .before .before .before in
+    let clear-is = c .before .before .before .before .first-from .ensures ∙ ap (λ (x : ℕ). trailingZeros 256 (rotated (x + 1) (bitsIn (s .args .self .map)))) floor-is in
     let known-is = ap₂ (λ (x y : ℕ). x - y) top-is floor-is in
     let count-is = c .before .before .smaller2 .ensures ∙ ap (λ (x : ℕ). min x 200) (c .before .before .before .smaller .ensures ∙ ap₂ min known-is clear-is) in
     c .new2 .ensures ∙ ap₂ (λ (x y : ℕ). tickOf (x + y)) floor-is count-is
@@ -74,7 +81,8 @@ granted-spec =
     value-requires
     value-requires-2
     sub-known
-    first-held-requires
+    add-first-from
+    first-from-requires
     smaller-requires
     smaller-requires-2
     add-new

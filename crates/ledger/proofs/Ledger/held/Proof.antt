@@ -8,9 +8,9 @@ use borrow.Author.Needs.{needs}
 use Rattle.terms.specs.Paper.{answer}
 use Rattle.map.specs.Bits.{Words}
 use Rattle.book.specs.State.{soundOf}
-use Rattle.ledger.specs.State.{bookOf}
-use Rattle.book.specs.Calls.{ownNumber, checkedOf, numberTo, answerTo, nextOf, valuesOf, done, taken, heldCount}
-use Rattle.ledger.proofs.Seam.{ledger-of}
+use Rattle.ledger.specs.State.{bookOf, nextBy}
+use Rattle.book.specs.Calls.{ownNumber, checkedOf, numberTo, answerTo, valuesOf, done, taken, heldCount}
+use Rattle.ledger.proofs.Seam.{ledger-of, held-of}
 use Rattle.ledger.proofs.Ledger.held.Statement.{statement}
 use Rattle.ledger.proofs.Ledger.held.Tie as tie
 
@@ -27,7 +27,7 @@ uncounted-requires : tie.Need-uncounted-requires
 uncounted-requires c κs = search needs
 
 returns : tie.Need-returns
-unfolding answerTo nextOf numberTo checkedOf
+unfolding answerTo nextBy numberTo checkedOf
 returns c =
     let s = c .before .before .before in
     let e : soundOf (bookOf (s .args .self)) ≡ false = sym (c .before .before .sound .ensures) ∙ not-true _ (c .before .if1 .taken) in
@@ -37,11 +37,11 @@ held-requires : tie.Need-held-requires
 held-requires c κs = search needs
 
 returns-2 : tie.Need-returns-2
-unfolding answerTo nextOf numberTo checkedOf ownNumber valuesOf done heldCount bookOf
+unfolding answerTo nextBy numberTo checkedOf ownNumber valuesOf done heldCount bookOf
 returns-2 c =
     let s = c .before .before .before .before in
     let e : soundOf (bookOf (s .args .self)) ≡ true = sound-is (c .before .before .before) (c .before .before .if1 .left) in
-    (simp e (ap (λ (k : ℕ). answer 0 (k ∷ [])) (c .held .ensures)), sym (ledger-of (s .args .self) (words s)) ∙ simp e)
+    (simp e (ap (λ (k : ℕ). answer 0 (k ∷ [])) (c .held .ensures ∙ held-of (s .args .self) (words s))), sym (ledger-of (s .args .self) (words s)) ∙ simp e)
 
 pub held-spec : {M : Type 1} → statement M
 held-spec = tie.close (tie.spec sound-requires uncounted-requires returns held-requires returns-2)

@@ -9,9 +9,9 @@ use borrow.Author.Needs.{needs}
 use Rattle.terms.specs.Paper.{answer}
 use Rattle.map.specs.Bits.{Words}
 use Rattle.book.specs.State.{soundOf}
-use Rattle.ledger.specs.State.{bookOf}
-use Rattle.book.specs.Calls.{ownNumber, checkedOf, numberTo, answerTo, nextOf, valuesOf, done, taken, missingCount}
-use Rattle.ledger.proofs.Seam.{ledger-of}
+use Rattle.ledger.specs.State.{bookOf, nextBy}
+use Rattle.book.specs.Calls.{ownNumber, checkedOf, numberTo, answerTo, valuesOf, done, taken, missingCount}
+use Rattle.ledger.proofs.Seam.{ledger-of, held-of}
 use Rattle.book.proofs.Rules.{rules-facts, held-fits}
 use Rattle.ledger.proofs.Ledger.missing.Statement.{statement}
 use Rattle.ledger.proofs.Ledger.missing.Tie as tie
@@ -29,7 +29,7 @@ uncounted-requires : tie.Need-uncounted-requires
 uncounted-requires c κs = search needs
 
 returns : tie.Need-returns
-unfolding answerTo nextOf numberTo checkedOf
+unfolding answerTo nextBy numberTo checkedOf
 returns c =
     let s = c .before .before .before in
     let e : soundOf (bookOf (s .args .self)) ≡ false = sym (c .before .before .sound .ensures) ∙ not-true _ (c .before .if1 .taken) in
@@ -57,18 +57,18 @@ unfolding bookOf
 sub-t9 c =
     let s = c .before .before .before .before .before .before in
     let h = held-fits (bookOf (s .args .self)) (rules-facts (bookOf (s .args .self)) (sound-is (c .before .before .before .before .before) (c .before .before .before .before .if1 .left))) in
-    let g : c .held .result ≤ s .args .self .top .0 - s .args .self .floor .0 = omega (arith, c .held .ensures) in
+    let g : c .held .result ≤ s .args .self .top .0 - s .args .self .floor .0 = omega (arith, c .held .ensures, held-of (s .args .self) (words s)) in
     omega arith
 
 returns-2 : tie.Need-returns-2
-unfolding answerTo nextOf numberTo checkedOf ownNumber valuesOf done missingCount bookOf
+unfolding answerTo nextBy numberTo checkedOf ownNumber valuesOf done missingCount bookOf
 returns-2 c =
     let s = c .before .before .before .before .before .before in
     let e : soundOf (bookOf (s .args .self)) ≡ true = sound-is (c .before .before .before .before .before) (c .before .before .before .before .if1 .left) in
     let top-is = c .before .before .value2 .ensures in
     let floor-is = c .before .before .before .value .ensures in
     let known-is = ap₂ (λ (x y : ℕ). x - y) top-is floor-is in
-    (simp e (ap₂ (λ (x y : ℕ). answer 0 ((x - y) ∷ [])) known-is (c .held .ensures)), sym (ledger-of (s .args .self) (words s)) ∙ simp e)
+    (simp e (ap₂ (λ (x y : ℕ). answer 0 ((x - y) ∷ [])) known-is (c .held .ensures ∙ held-of (s .args .self) (words s))), sym (ledger-of (s .args .self) (words s)) ∙ simp e)
 
 pub missing-spec : {M : Type 1} → statement M
 missing-spec =

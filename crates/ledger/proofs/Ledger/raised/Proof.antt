@@ -1,15 +1,11 @@
--- Only the top differs from the ledger of the book. Assumes nothing.
+-- Only the top differs. Assumes nothing.
 use mathlib.Core.Path.{ap, _∙_}
 use Prim.Native.Nat.{ℕ, max}
 use borrow.Author.Needs.{needs}
 use Rattle.terms.specs.Counters.{tickOf}
-use Rattle.map.specs.Bits.{Words}
-use Rattle.ledger.proofs.Seam.{raised-of}
+use Rattle.terms.specs.declared.TickNumber.{TickNumber}
 use Rattle.ledger.proofs.Ledger.raised.Statement.{statement}
 use Rattle.ledger.proofs.Ledger.raised.Tie as tie
-
-words : (c : tie.Start) → Words (c .args .self .map .words)
-words c = record { four = search needs; low = λ i. search needs }
 
 value-requires : tie.Need-value-requires
 value-requires c κs = search needs
@@ -22,7 +18,8 @@ new-requires c κs = search needs
 
 returns : tie.Need-returns
 returns c =
-    raised-of (c .before .before .before .args .self) (words (c .before .before .before)) (c .before .before .before .args .n) (c .new .result)
+    let l = c .before .before .before .args .self in
+    ap (λ (t : TickNumber). record { channel = l .channel; floor = l .floor; top = t; map = l .map; pending = l .pending })
     (c .new .ensures ∙ ap tickOf (c .before .larger .ensures ∙ ap (λ (x : ℕ). max x (c .before .before .before .args .n)) (c .before .before .value .ensures)))
 
 pub raised-spec : {M : Type 1} → statement M

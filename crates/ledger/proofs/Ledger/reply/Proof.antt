@@ -3,17 +3,13 @@ use mathlib.Core.Path.{_≡_, sym, ap, _∙_}
 use Prim.Native.Nat.{ℕ}
 use borrow.Author.Needs.{needs}
 use Rattle.terms.specs.Refusals.{numberOf}
-use Rattle.map.specs.Bits.{Words}
 use Rattle.book.specs.State.{Book}
 use Rattle.ledger.specs.State.{bookOf, ledgerOf}
 use Rattle.book.specs.Calls.{Call, ownNumber, numberTo, valuesOf, done, waiting, Reply}
 use Rattle.ledger.specs.Papers.{verdictNumber}
-use Rattle.ledger.proofs.Seam.{ledger-of, judged, done-answer, done-next, refused-answer, refused-same, reply-not-12}
+use Rattle.ledger.proofs.Seam.{judged, done-answer, refused-answer, done-in, same-in, reply-not-12}
 use Rattle.ledger.proofs.Ledger.reply.Statement.{statement}
 use Rattle.ledger.proofs.Ledger.reply.Tie as tie
-
-words : (c : tie.Start) → Words (c .args .self .map .words)
-words c = record { four = search needs; low = λ i. search needs }
 
 -- the call and its book, seen from behind the checks
 abbrev start : tie.After-checked → tie.Start
@@ -55,14 +51,14 @@ returns c =
     let k = c .before .before .before in
     let why = c .before .verdict .given .0 .0 in
     let e : numberOf why ≡ numberTo (book k) (call k) = sym (ap verdictNumber (c .before .verdict .given .1)) ∙ number k in
-    (refused-answer (book k) (call k) why e, sym (ledger-of (start k .args .self) (words (start k))) ∙ ap ledgerOf (refused-same (book k) (call k) why e (reply-not-12 (book k) _ _ _)))
+    (refused-answer (book k) (call k) why e, same-in (start k .args .self) (call k) why e (reply-not-12 (book k) _ _ _))
 
 returns-2 : tie.Need-returns-2
 unfolding valuesOf done
 returns-2 c =
     let k = c .before .before .before in
     let e : 0 ≡ numberTo (book k) (call k) = sym (ap verdictNumber (c .before .enum-told .given .1)) ∙ number k in
-    (done-answer (book k) (call k) e, c .waiting .ensures ∙ ap ledgerOf (done-next (book k) (call k) e))
+    (done-answer (book k) (call k) e, c .waiting .ensures ∙ done-in (start k .args .self) (call k) e)
 
 pub reply-spec : {M : Type 1} → statement M
 reply-spec =

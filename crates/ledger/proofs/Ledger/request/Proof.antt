@@ -3,18 +3,14 @@ use mathlib.Core.Path.{_≡_, sym, ap, _∙_}
 use native.Mathlib.Omega.{arith}
 use borrow.Author.Needs.{needs}
 use Rattle.terms.specs.Refusals.{numberOf}
-use Rattle.map.specs.Bits.{Words}
 use Rattle.book.specs.State.{Book}
 use Rattle.ledger.specs.State.{bookOf, ledgerOf}
 use Rattle.book.specs.Calls.{Call, ownNumber, numberTo, valuesOf, done, Request}
 use Rattle.ledger.specs.Papers.{verdictNumber}
-use Rattle.ledger.proofs.Seam.{ledger-of, judged, done-answer, done-next, refused-answer, refused-same, request-not-12}
+use Rattle.ledger.proofs.Seam.{judged, done-answer, refused-answer, done-in, same-in, request-not-12}
 use Rattle.book.proofs.Numbers.{checked-facts}
 use Rattle.ledger.proofs.Ledger.request.Statement.{statement}
 use Rattle.ledger.proofs.Ledger.request.Tie as tie
-
-words : (c : tie.Start) → Words (c .args .self .map .words)
-words c = record { four = search needs; low = λ i. search needs }
 
 -- the call and its book, seen from behind the checks
 abbrev start : tie.After-checked → tie.Start
@@ -58,14 +54,14 @@ returns c =
     let k = c .before .before .before in
     let why = c .before .verdict .given .0 .0 in
     let e : numberOf why ≡ numberTo (book k) (call k) = sym (ap verdictNumber (c .before .verdict .given .1)) ∙ number k in
-    (refused-answer (book k) (call k) why e, sym (ledger-of (start k .args .self) (words (start k))) ∙ ap ledgerOf (refused-same (book k) (call k) why e (request-not-12 (book k) _)))
+    (refused-answer (book k) (call k) why e, same-in (start k .args .self) (call k) why e (request-not-12 (book k) _))
 
 returns-2 : tie.Need-returns-2
 unfolding valuesOf done bookOf
 returns-2 c =
     let k = c .before .before .before in
     let e : 0 ≡ numberTo (book k) (call k) = sym (ap verdictNumber (c .before .enum-told .given .1)) ∙ number k in
-    (c .granted .ensures .0 ∙ done-answer (book k) (call k) e, c .granted .ensures .1 ∙ ap ledgerOf (done-next (book k) (call k) e))
+    (c .granted .ensures .0 ∙ done-answer (book k) (call k) e, c .granted .ensures .1 ∙ done-in (start k .args .self) (call k) e)
 
 pub request-spec : {M : Type 1} → statement M
 request-spec =

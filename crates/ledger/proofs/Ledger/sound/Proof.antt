@@ -1,10 +1,11 @@
 -- Each return is one part of the rule. Assumes nothing.
 use mathlib.Core.Path.{_≡_, sym, _∙_, ap₂}
-use Prim.Native.Nat.{ℕ, _-_, _≤_, _<_}
+use Prim.Native.Nat.{ℕ, _+_, _-_, _≤_, _<_}
 use native.Mathlib.Omega.{arith}
 use borrow.Author.Tests.{not-true, not-false, le-leb, lt-leb}
 use borrow.Author.Needs.{needs}
 use Rattle.map.specs.Bits.{bitsIn}
+use Rattle.map.specs.Ring.{rotated}
 use Rattle.book.specs.State.{largest, rangeRules, mapRules, soundOf}
 use Rattle.ledger.specs.State.{bookOf, askedOf}
 use Rattle.ledger.proofs.Ledger.sound.Statement.{statement}
@@ -15,10 +16,10 @@ abbrev start : tie.After-value3 → tie.Start
 start c = c .before .before .before .before .before
 
 -- what the code asks of the map is what the rule says
-map-is : (c : tie.After-map-sound) → mapRules (bitsIn (start (c .before .before .before .before) .args .self .map)) (start (c .before .before .before .before) .args .self .top .0 - start (c .before .before .before .before) .args .self .floor .0) ≡ c .«map-sound» .result
+map-is : (c : tie.After-map-sound) → mapRules (rotated (start (c .before .before .before .before) .args .self .floor .0 + 1) (bitsIn (start (c .before .before .before .before) .args .self .map))) (start (c .before .before .before .before) .args .self .top .0 - start (c .before .before .before .before) .args .self .floor .0) ≡ c .«map-sound» .result
 map-is c =
     let v = c .before .before .before .before in
-    sym (c .«map-sound» .ensures ∙ ap₂ (λ (x y : ℕ). mapRules (bitsIn (start v .args .self .map)) (x - y)) (v .before .before .value2 .ensures) (v .before .before .before .value .ensures))
+    sym (c .«map-sound» .ensures ∙ ap₂ (λ (x y : ℕ). mapRules (rotated (y + 1) (bitsIn (start v .args .self .map))) (x - y)) (v .before .before .value2 .ensures) (v .before .before .before .value .ensures))
 
 value-requires : tie.Need-value-requires
 value-requires c κs = search needs
@@ -51,6 +52,9 @@ returns-3 c =
     let q : s .floor .0 ≤ s .top .0 = omega arith in
     let t : largest < s .top .0 = omega arith in
     simp (le-leb _ _ p, le-leb _ _ q, lt-leb _ _ t)
+
+add-map-sound : tie.Need-add-map-sound
+add-map-sound c = search needs
 
 map-sound-requires : tie.Need-map-sound-requires
 map-sound-requires c κs = search needs
@@ -88,6 +92,7 @@ sound-spec =
     returns
     returns-2
     returns-3
+    add-map-sound
     map-sound-requires
     returns-4
     sound-requires

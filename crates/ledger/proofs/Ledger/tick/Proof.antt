@@ -1,17 +1,18 @@
 -- The verdict has the call's number. Where it is 0, the checks before it give what a taken tick requires. Assumes nothing.
 use mathlib.Core.Path.{_≡_, sym, ap, _∙_}
 use mathlib.Core.List.{[], _∷_}
-use Prim.Native.Nat.{ℕ, _+_, _≤_, _<_}
+use Prim.Native.Nat.{ℕ, _+_, _≤_, _<_, max}
 use native.Mathlib.Omega.{arith}
 use borrow.Author.Needs.{needs}
 use lib.Dec.{eqb}
 use Rattle.terms.specs.Paper.{answer, pick}
 use Rattle.terms.specs.Refusals.{numberOf}
 use Rattle.book.specs.State.{Book, largest}
-use Rattle.ledger.specs.State.{bookOf, ledgerOf}
-use Rattle.book.specs.Calls.{Call, ownNumber, numberTo, valuesOf, done, raised, taken, passes, Tick}
+use Rattle.ledger.specs.State.{bookOf, ledgerOf, topped}
+use Rattle.ledger.specs.declared.Ledger.{Ledger}
+use Rattle.book.specs.Calls.{Call, ownNumber, numberTo, valuesOf, done, taken, passes, Tick}
 use Rattle.ledger.specs.Papers.{verdictNumber}
-use Rattle.ledger.proofs.Seam.{judged, done-answer, done-next, refused-answer, refused-next}
+use Rattle.ledger.proofs.Seam.{judged, done-answer, refused-answer, done-in, refused-in}
 use Rattle.book.proofs.Rules.{above-floor}
 use Rattle.book.proofs.Numbers.{tick-done}
 use Rattle.ledger.proofs.Ledger.tick.Statement.{statement}
@@ -24,8 +25,11 @@ start c = c .before .before .before
 abbrev call : tie.After-checked → Call
 call c = Tick (start c .args .channel .0) (start c .args .number .0)
 
+abbrev self : tie.After-checked → Ledger
+self c = start c .args .self
+
 abbrev book : tie.After-checked → Book
-book c = bookOf (start c .args .self)
+book c = bookOf (self c)
 
 -- the verdict has the number of the call
 number : (c : tie.After-checked) → verdictNumber (c .checked .result) ≡ numberTo (book c) (call c)
@@ -72,7 +76,7 @@ returns c =
     let e : numberOf why ≡ numberTo (book k) (call k) = sym (ap verdictNumber (c .before .before .verdict .given .1)) ∙ number k in
     let v : k .before .before .value .result ≡ start k .args .number .0 = k .before .before .value .ensures in (
       c .«tick-refused» .ensures .0 ∙ refused-answer (book k) (call k) why e,
-      c .«tick-refused» .ensures .1 ∙ ap (λ (x : ℕ). ledgerOf (pick (eqb (numberOf why) 12) (raised (book k) x) (book k))) v ∙ ap ledgerOf (refused-next (book k) (call k) why e),
+      c .«tick-refused» .ensures .1 ∙ ap (λ (x : ℕ). pick (eqb (numberOf why) 12) (topped (self k) (max (self k .top .0) x)) (self k)) v ∙ refused-in (self k) (call k) why e,
     )
 
 returns-2 : tie.Need-returns-2
@@ -82,7 +86,7 @@ returns-2 c =
     let e : 0 ≡ numberTo (book k) (call k) = sym (ap verdictNumber (c .before .enum-told .given .1)) ∙ number k in
     let v : k .before .before .value .result ≡ start k .args .number .0 = k .before .before .value .ensures in (
       c .taken .ensures .0 ∙ ap (λ (x : ℕ). answer 0 ((start k .args .self .floor .0 + 1) ∷ passes (book k) x ∷ [])) v ∙ done-answer (book k) (call k) e,
-      c .taken .ensures .1 ∙ ap (λ (x : ℕ). ledgerOf (taken (book k) x)) v ∙ ap ledgerOf (done-next (book k) (call k) e),
+      c .taken .ensures .1 ∙ ap (λ (x : ℕ). ledgerOf (taken (book k) x)) v ∙ done-in (self k) (call k) e,
     )
 
 pub tick-spec : {M : Type 1} → statement M

@@ -1,23 +1,30 @@
--- No place is held exactly where the scan for the first one passes all 256. Assumes nothing.
-use mathlib.Core.Path.{_∙_, ap}
-use Prim.Native.Nat.{ℕ}
+-- No place is held exactly where no word has a digit set. Assumes nothing.
 use borrow.Author.Needs.{needs}
-use lib.Count.{trailing-le}
-use lib.Dec.{eqb}
-use Rattle.map.specs.Bits.{Words}
-use Rattle.map.proofs.Digits.{none-set}
-use Rattle.map.proofs.Words.{list-lt}
+use Rattle.map.proofs.Words.{value-zero}
 use Rattle.map.proofs.Map.empty.Statement.{statement}
 use Rattle.map.proofs.Map.empty.Tie as tie
 
-first-held-requires : tie.Need-first-held-requires
-first-held-requires c κs = search needs
+array-read-result : tie.Need-array-read-result
+array-read-result c = search needs
 
-words : (c : tie.Start) → Words (c .args .self .words)
-words c = record { four = search needs; low = λ i. search needs }
+array-read-result-2 : tie.Need-array-read-result-2
+array-read-result-2 c = search needs
+
+array-read-result-3 : tie.Need-array-read-result-3
+array-read-result-3 c = search needs
+
+array-read-result-4 : tie.Need-array-read-result-4
+array-read-result-4 c = search needs
 
 returns : tie.Need-returns
-returns c = ap (λ (x : ℕ). eqb x 256) (c .«first-held» .ensures) ∙ none-set 256 _ (list-lt _ (words (c .before))) (trailing-le 256 _)
+returns c = value-zero _ _ _ _
 
 pub empty-spec : {M : Type 1} → statement M
-empty-spec = tie.close (tie.spec first-held-requires returns)
+empty-spec =
+    tie.close
+    (tie.spec
+    array-read-result
+    array-read-result-2
+    array-read-result-3
+    array-read-result-4
+    returns)
