@@ -352,7 +352,7 @@ fn over_all(size: usize) -> [f64; 7] {
             &mut || done(host::walk(black_box(&capture), &mut fitting)),
             &mut || done(host::listing(black_box(&records), &walked, &mut text)),
             &mut || done(host::clean(black_box(&capture), &mut out)),
-            &mut || done(host::is_clean(black_box(&clean))),
+            &mut || done(host::first_unclean(black_box(&clean))),
             &mut || done(host::walk(black_box(&noise), &mut [0; host::RECORD])),
         ],
     )

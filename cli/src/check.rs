@@ -2,7 +2,7 @@
 
 use std::ffi::OsStr;
 
-use rietknoest_host::{is_clean, private_spans, read, Frame, HEADER};
+use rietknoest_host::{first_unclean, private_spans, read, Frame, HEADER};
 
 use crate::capture::Capture;
 use crate::{names, print, Status, Trouble};
@@ -11,7 +11,7 @@ use crate::{names, print, Status, Trouble};
 /// there.
 pub fn check(file: &OsStr) -> Result<Status, Trouble> {
     let capture = Capture::read(file)?;
-    let Some(place) = is_clean(&capture.bytes) else {
+    let Some(place) = first_unclean(&capture.bytes) else {
         print(format!("{}: clean\n", capture.name))?;
         return Ok(Status::Well);
     };
@@ -33,8 +33,9 @@ fn standing_at(capture: &Capture, place: usize) -> Result<String, Trouble> {
         match read(&capture.bytes, at) {
             Ok(frame) => last = Some((at, frame)),
             Err(refusal) => {
+                let answer = names::answer(refusal);
                 return Ok(format!(
-                    "stray bytes from {at} on, where reading answers {refusal}"
+                    "stray bytes from {at} on, where reading answers {answer}"
                 ));
             }
         }

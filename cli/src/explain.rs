@@ -23,7 +23,10 @@ pub fn explain(file: &OsStr, place: usize) -> Result<Status, Trouble> {
     let answer = read(&capture.bytes, place);
     let why = match &answer {
         Ok(_) => "a frame reads here, 0 (done): every check passes".to_string(),
-        Err(refusal) => format!("refused, {refusal}: {}", names::reason(*refusal)),
+        Err(refusal) => {
+            let (answer, reason) = (names::answer(*refusal), names::reason(*refusal));
+            format!("refused, {answer}: {reason}")
+        }
     };
     let more = match (&answer, seen) {
         (Ok(frame), Some(at)) if at == place => fields(&capture, &walk, place, frame),

@@ -50,8 +50,8 @@ fn lines<'a>(
     walked: &Walked,
     room: &'a mut [u8],
 ) -> Result<(&'a [u8], Status), Trouble> {
-    let told =
-        listing(records, walked, room).and_then(|bytes| Ok((bytes, walked.ledger.told()?.missing)));
+    let told = listing(records, walked, room)
+        .and_then(|bytes| Ok((bytes, walked.ledger.status()?.missing)));
     let (bytes, missing) = told.map_err(|refusal| Trouble::refused(name, refusal))?;
     let status = Status::amiss(walked.refused > 0 || missing > 0);
     Ok((&room[..bytes], status))

@@ -58,7 +58,8 @@ impl Trouble {
 
     /// No call here is refused: each has the room that it needs.
     fn refused(name: &str, refusal: Refusal) -> Trouble {
-        Trouble::File(name.to_string(), format!("refused, {refusal}"))
+        let what = format!("refused, {}", names::answer(refusal));
+        Trouble::File(name.to_string(), what)
     }
 }
 

@@ -51,6 +51,11 @@ pub fn public_fields(frame: &Frame) -> Vec<(&'static str, u64)> {
     }
 }
 
+/// A refusal's number and name in the table.
+pub fn answer(refusal: Refusal) -> String {
+    format!("{} ({})", refusal.number(), refusal.name())
+}
+
 /// Why reading refuses, in the table's words.
 pub fn reason(refusal: Refusal) -> &'static str {
     match refusal {

@@ -1,10 +1,26 @@
-//! The library's functions as include/rietknoest.h declares them, and a safe function for each.
-//! They are safe for the same reasons: a slice is passed as its pointer and length, a struct as a
-//! pointer to a `repr(C)` struct of the same size; the library keeps no pointer and stays within
-//! its arguments; and what it writes to is borrowed by nobody else. tests/declarations.rs checks
-//! the declarations.
+//! The library's functions as include/rietknoest.h declares them, and a safe function for each:
+//! everything unsafe is here. tests/declarations.rs checks the declarations against the header, the
+//! library and the proved sources.
+//!
+//! The header says what a caller must guarantee. Each `SAFETY` below says how its call does; these
+//! hold for all of them:
+//!
+//! - a slice's pointer is not null, and its bytes may be read, and written if it is `&mut`;
+//! - nothing else borrows what a `&mut` borrows, so nothing overlaps what the library writes;
+//! - a row is a `repr(C)` or transparent type of 64-bit numbers only: it has the header's layout,
+//!   and any numbers that the library writes are a value of its type;
+//! - the library stays within its arguments and keeps no pointer: its language and its proofs see
+//!   to that in the source, and tests of the compiled library with known bytes around each buffer;
+//! - it does not unwind or call back, and it probes each page of a large stack frame, so a thread
+//!   with too little stack stops at its guard page, as in Rust.
 
-use super::{Cleaned, Entry, Fed, Frame, Ledger, Passed, Request, Span, Stream, Told, KEPT};
+#![deny(clippy::undocumented_unsafe_blocks)]
+
+use crate::captures::Cleaned;
+use crate::frames::{Frame, Span};
+use crate::ledger::{Ledger, Passed, Request};
+use crate::numbers::{ChannelNumber, SessionNumber, TickNumber};
+use crate::stream::{Fed, KEPT};
 
 /// A place, or none if `any` is 0.
 #[derive(Default)]
@@ -18,6 +34,31 @@ impl Found {
     pub fn place(self) -> Option<usize> {
         (self.any != 0).then_some(self.place as usize)
     }
+}
+
+/// An entry of an M102 body; `is_short` is 1 for one of MD001, whose size and position are 0.
+#[derive(Default)]
+#[repr(C)]
+pub struct EntryRow {
+    pub is_short: u64,
+    pub kind: u64,
+    pub price: u64,
+    pub size: u64,
+    pub position: u64,
+    pub behind: u64,
+}
+
+/// What a ledger holds; `asked_first` and `asked_last` are 0 if nothing is pending.
+#[derive(Default)]
+#[repr(C)]
+pub struct StatusRow {
+    pub channel: u64,
+    pub floor: u64,
+    pub top: u64,
+    pub missing: u64,
+    pub held: u64,
+    pub asked_first: u64,
+    pub asked_last: u64,
 }
 
 /// The counts of a walk.
@@ -37,13 +78,13 @@ extern "C" {
     fn rk_scrub(frame: *mut u8, len: usize, told: *mut u64) -> u32;
     fn rk_private(msg_type: u32, body: *const u8, len: usize, i: usize, told: *mut Span) -> u32;
     fn rk_entries(body: *const u8, len: usize, told: *mut u64) -> u32;
-    fn rk_entry(body: *const u8, len: usize, place: usize, told: *mut Entry) -> u32;
+    fn rk_entry(body: *const u8, len: usize, place: usize, told: *mut EntryRow) -> u32;
     fn rk_ledger_open(channel: u16, state: *mut Ledger) -> u32;
     fn rk_ledger_tick(state: *mut Ledger, channel: u16, number: u64, told: *mut Passed) -> u32;
     fn rk_ledger_announce(state: *mut Ledger, channel: u16, last: u64) -> u32;
     fn rk_ledger_request(state: *mut Ledger, channel: u16, told: *mut Request) -> u32;
     fn rk_ledger_reply(state: *mut Ledger, channel: u16, first: u64, status: u8) -> u32;
-    fn rk_ledger_told(state: *const Ledger, told: *mut Told) -> u32;
+    fn rk_ledger_told(state: *const Ledger, told: *mut StatusRow) -> u32;
     fn rk_walk(capture: *const u8, len: usize, records: *mut u8, records_len: usize, state: *mut Ledger, told: *mut Counts) -> u32;
     fn rk_listing(records: *const u8, records_len: usize, frames: u64, refused: u64, state: *const Ledger, text: *mut u8, text_len: usize, told: *mut u64) -> u32;
     fn rk_clean(capture: *const u8, len: usize, out: *mut u8, out_len: usize, told: *mut Cleaned) -> u32;
@@ -53,87 +94,112 @@ extern "C" {
     fn rk_stream_close(words: *mut [u64; 6], ledger: *mut Ledger, kept: *mut [u8; KEPT], records: *mut u8, records_len: usize, told: *mut Fed) -> u32;
 }
 
+// FRAMES
+
 pub fn read(bytes: &[u8], place: usize, told: &mut Frame) -> u32 {
+    // SAFETY: `bytes` is passed with its own length and only read; any place is allowed, also
+    // beyond the end; `told` is a row of nine.
     unsafe { rk_read(bytes.as_ptr(), bytes.len(), place, told) }
 }
 
 pub fn write(
     msg_type: u32,
     time: u64,
-    seq: u64,
+    seq: SessionNumber,
     body: &[u8],
     out: &mut [u8],
     told: &mut u64,
 ) -> u32 {
-    unsafe {
-        rk_write(
-            msg_type,
-            time,
-            seq,
-            body.as_ptr(),
-            body.len(),
-            out.as_mut_ptr(),
-            out.len(),
-            told,
-        )
-    }
+    let (read, len) = (body.as_ptr(), body.len());
+    let (written, room) = (out.as_mut_ptr(), out.len());
+    // SAFETY: `body` is passed with its own length and only read, `out` with its own length;
+    // `told` is one number. `body` and `told` are not in `out`: nothing else borrows that.
+    unsafe { rk_write(msg_type, time, seq.value(), read, len, written, room, told) }
 }
 
 pub fn search(bytes: &[u8], from: usize, told: &mut Found) -> u32 {
+    // SAFETY: `bytes` is passed with its own length and only read; any start is allowed, also
+    // beyond the end; `told` is a row of two.
     unsafe { rk_search(bytes.as_ptr(), bytes.len(), from, told) }
 }
 
 pub fn scrub(frame: &mut [u8], told: &mut u64) -> u32 {
+    // SAFETY: `frame` is passed with its own length; `told` is one number, and not in `frame`:
+    // nothing else borrows that.
     unsafe { rk_scrub(frame.as_mut_ptr(), frame.len(), told) }
 }
 
 pub fn private(msg_type: u32, body: &[u8], i: usize, told: &mut Span) -> u32 {
+    // SAFETY: `body` is passed with its own length and only read; any `i` is allowed; `told` is a
+    // row of three.
     unsafe { rk_private(msg_type, body.as_ptr(), body.len(), i, told) }
 }
 
 pub fn entries(body: &[u8], told: &mut u64) -> u32 {
+    // SAFETY: `body` is passed with its own length and only read; `told` is one number.
     unsafe { rk_entries(body.as_ptr(), body.len(), told) }
 }
 
-pub fn entry(body: &[u8], place: usize, told: &mut Entry) -> u32 {
+pub fn entry(body: &[u8], place: usize, told: &mut EntryRow) -> u32 {
+    // SAFETY: `body` is passed with its own length and only read; any place is allowed, also
+    // beyond the end; `told` is a row of six.
     unsafe { rk_entry(body.as_ptr(), body.len(), place, told) }
 }
 
-pub fn ledger_open(channel: u16, state: &mut Ledger) -> u32 {
-    unsafe { rk_ledger_open(channel, state) }
+// THE LEDGER
+
+pub fn ledger_open(channel: ChannelNumber, state: &mut Ledger) -> u32 {
+    // SAFETY: `state` is a row of nine; any channel is allowed.
+    unsafe { rk_ledger_open(channel.value(), state) }
 }
 
-pub fn ledger_tick(state: &mut Ledger, channel: u16, number: u64, told: &mut Passed) -> u32 {
-    unsafe { rk_ledger_tick(state, channel, number, told) }
+pub fn ledger_tick(
+    state: &mut Ledger,
+    channel: ChannelNumber,
+    number: TickNumber,
+    told: &mut Passed,
+) -> u32 {
+    // SAFETY: `state` is a row of nine, `told` one of two, and two `&mut` do not overlap. Any
+    // words are allowed: those that break the state rules get 13.
+    unsafe { rk_ledger_tick(state, channel.value(), number.value(), told) }
 }
 
-pub fn ledger_announce(state: &mut Ledger, channel: u16, last: u64) -> u32 {
-    unsafe { rk_ledger_announce(state, channel, last) }
+pub fn ledger_announce(state: &mut Ledger, channel: ChannelNumber, last: TickNumber) -> u32 {
+    // SAFETY: `state` is a row of nine, and any words in it are allowed.
+    unsafe { rk_ledger_announce(state, channel.value(), last.value()) }
 }
 
-pub fn ledger_request(state: &mut Ledger, channel: u16, told: &mut Request) -> u32 {
-    unsafe { rk_ledger_request(state, channel, told) }
+pub fn ledger_request(state: &mut Ledger, channel: ChannelNumber, told: &mut Request) -> u32 {
+    // SAFETY: `state` is a row of nine, with any words in it, `told` one of two, and two `&mut`
+    // do not overlap.
+    unsafe { rk_ledger_request(state, channel.value(), told) }
 }
 
-pub fn ledger_reply(state: &mut Ledger, channel: u16, first: u64, status: u8) -> u32 {
-    unsafe { rk_ledger_reply(state, channel, first, status) }
+pub fn ledger_reply(
+    state: &mut Ledger,
+    channel: ChannelNumber,
+    first: TickNumber,
+    status: u8,
+) -> u32 {
+    // SAFETY: `state` is a row of nine, and any words in it are allowed.
+    unsafe { rk_ledger_reply(state, channel.value(), first.value(), status) }
 }
 
-pub fn ledger_told(state: &Ledger, told: &mut Told) -> u32 {
+pub fn ledger_told(state: &Ledger, told: &mut StatusRow) -> u32 {
+    // SAFETY: `state` is a row of nine, with any words in it, and only read; `told` is a row of
+    // seven, which `state` can't overlap: it is `&mut`.
     unsafe { rk_ledger_told(state, told) }
 }
 
+// CAPTURES
+
 pub fn walk(capture: &[u8], records: &mut [u8], state: &mut Ledger, told: &mut Counts) -> u32 {
-    unsafe {
-        rk_walk(
-            capture.as_ptr(),
-            capture.len(),
-            records.as_mut_ptr(),
-            records.len(),
-            state,
-            told,
-        )
-    }
+    let (read, len) = (capture.as_ptr(), capture.len());
+    let (written, room) = (records.as_mut_ptr(), records.len());
+    // SAFETY: `capture` is passed with its own length and only read, `records` with its own
+    // length; `state` is a row of nine, `told` one of three. The last three are `&mut`: none
+    // overlaps another argument.
+    unsafe { rk_walk(read, len, written, room, state, told) }
 }
 
 pub fn listing(
@@ -144,64 +210,61 @@ pub fn listing(
     text: &mut [u8],
     told: &mut u64,
 ) -> u32 {
-    unsafe {
-        rk_listing(
-            records.as_ptr(),
-            records.len(),
-            frames,
-            refused,
-            state,
-            text.as_mut_ptr(),
-            text.len(),
-            told,
-        )
-    }
+    let (read, len) = (records.as_ptr(), records.len());
+    let (written, room) = (text.as_mut_ptr(), text.len());
+    // SAFETY: `records` is passed with its own length and only read, any bytes in it; `state` is
+    // a row of nine, and only read; `text` is passed with its own length; `told` is one number.
+    // The last two are `&mut`: neither overlaps another argument.
+    unsafe { rk_listing(read, len, frames, refused, state, written, room, told) }
 }
 
 pub fn clean(capture: &[u8], out: &mut [u8], told: &mut Cleaned) -> u32 {
-    unsafe {
-        rk_clean(
-            capture.as_ptr(),
-            capture.len(),
-            out.as_mut_ptr(),
-            out.len(),
-            told,
-        )
-    }
+    let (read, len) = (capture.as_ptr(), capture.len());
+    let (written, room) = (out.as_mut_ptr(), out.len());
+    // SAFETY: `capture` is passed with its own length and only read, `out` with its own length;
+    // `told` is a row of three. The last two are `&mut`: neither overlaps another argument.
+    unsafe { rk_clean(read, len, written, room, told) }
 }
 
 pub fn is_clean(capture: &[u8], told: &mut Found) -> u32 {
+    // SAFETY: `capture` is passed with its own length and only read; `told` is a row of two.
     unsafe { rk_is_clean(capture.as_ptr(), capture.len(), told) }
 }
 
-pub fn stream_open(stream: &mut Stream) -> u32 {
-    unsafe { rk_stream_open(&mut stream.words, &mut stream.ledger, &mut stream.kept) }
+// A CAPTURE WHILE IT ARRIVES
+
+pub fn stream_open(words: &mut [u64; 6], ledger: &mut Ledger, kept: &mut [u8; KEPT]) -> u32 {
+    // SAFETY: `words` and `ledger` are rows of six and nine, and `kept` is 8,191 bytes. All are
+    // `&mut`: none overlaps another.
+    unsafe { rk_stream_open(words, ledger, kept) }
 }
 
-pub fn stream_feed(stream: &mut Stream, cut: &[u8], records: &mut [u8], told: &mut Fed) -> u32 {
-    unsafe {
-        rk_stream_feed(
-            &mut stream.words,
-            &mut stream.ledger,
-            &mut stream.kept,
-            cut.as_ptr(),
-            cut.len(),
-            records.as_mut_ptr(),
-            records.len(),
-            told,
-        )
-    }
+pub fn stream_feed(
+    words: &mut [u64; 6],
+    ledger: &mut Ledger,
+    kept: &mut [u8; KEPT],
+    cut: &[u8],
+    records: &mut [u8],
+    told: &mut Fed,
+) -> u32 {
+    let (read, len) = (cut.as_ptr(), cut.len());
+    let (written, room) = (records.as_mut_ptr(), records.len());
+    // SAFETY: `words` and `ledger` are rows of six and nine, and `kept` is 8,191 bytes, with
+    // anything in them; `cut` is passed with its own length and only read, `records` with its own
+    // length; `told` is a row of five. All but `cut` are `&mut`: none overlaps another argument.
+    unsafe { rk_stream_feed(words, ledger, kept, read, len, written, room, told) }
 }
 
-pub fn stream_close(stream: &mut Stream, records: &mut [u8], told: &mut Fed) -> u32 {
-    unsafe {
-        rk_stream_close(
-            &mut stream.words,
-            &mut stream.ledger,
-            &mut stream.kept,
-            records.as_mut_ptr(),
-            records.len(),
-            told,
-        )
-    }
+pub fn stream_close(
+    words: &mut [u64; 6],
+    ledger: &mut Ledger,
+    kept: &mut [u8; KEPT],
+    records: &mut [u8],
+    told: &mut Fed,
+) -> u32 {
+    let (written, room) = (records.as_mut_ptr(), records.len());
+    // SAFETY: `words` and `ledger` are rows of six and nine, and `kept` is 8,191 bytes, with
+    // anything in them; `records` is passed with its own length; `told` is a row of five. All are
+    // `&mut`: none overlaps another.
+    unsafe { rk_stream_close(words, ledger, kept, written, room, told) }
 }

@@ -43,7 +43,7 @@ fn range(first: TickNumber, last: u64) -> Range {
 
 /// A call on the ledger of these words, which are then those that it left.
 fn on<T>(words: &mut Words, call: impl FnOnce(&mut Ledger) -> Result<T, Refusal>) -> Answer<T> {
-    let mut ledger = Ledger::of_words(*words);
+    let mut ledger = Ledger::from_words(*words);
     let answer = call(&mut ledger);
     *words = ledger.to_words();
     plain(answer)
@@ -53,19 +53,23 @@ fn name(msg_type: [u8; 4]) -> u32 {
     u32::from_be_bytes(msg_type)
 }
 
-fn entry_of(e: host::Entry) -> (Entry, u64) {
-    let kind = (e.kind as u16).to_be_bytes();
-    let price = e.price;
-    let entry = match e.short {
-        1 => Entry::Index { kind, price },
-        _ => Entry::Full {
+/// An entry, and the place after it.
+fn entry_of((entry, after): (host::Entry, usize)) -> (Entry, u64) {
+    let entry = match entry {
+        host::Entry::Index { kind, price } => Entry::Index { kind, price },
+        host::Entry::Full {
             kind,
             price,
-            size: e.size,
-            position: e.position as u8,
+            size,
+            position,
+        } => Entry::Full {
+            kind,
+            price,
+            size,
+            position,
         },
     };
-    (entry, e.behind)
+    (entry, after as u64)
 }
 
 fn fed(fed: host::Fed) -> Fed {
@@ -125,7 +129,12 @@ impl Answers for Library {
     }
 
     fn entries(&self, body: &[u8]) -> Answer<Vec<(Entry, u64)>> {
-        plain(host::entries(body)).map(|steps| steps.map(entry_of).collect())
+        let mut steps = plain(host::entries(body))?;
+        let mut all = Vec::new();
+        while let Some(entry) = steps.next() {
+            all.push(entry_of((entry, steps.place())));
+        }
+        Ok(all)
     }
 
     fn entry(&self, body: &[u8], place: u64) -> Answer<(Entry, u64)> {
@@ -162,14 +171,16 @@ impl Answers for Library {
     }
 
     fn told(&self, words: &Words) -> Answer<Told> {
-        plain(Ledger::of_words(*words).told()).map(|t| Told {
-            channel: u64::from(t.channel.value()),
-            floor: t.floor.value(),
-            top: t.top.value(),
-            missing: t.missing,
-            held: t.held,
-            first: t.asked_first.value(),
-            last: t.asked_last.value(),
+        let status = plain(Ledger::from_words(*words).status())?;
+        let asked = status.pending.unwrap_or_default();
+        Ok(Told {
+            channel: u64::from(status.channel.value()),
+            floor: status.floor.value(),
+            top: status.top.value(),
+            missing: status.missing,
+            held: status.held,
+            first: asked.first.value(),
+            last: asked.last.value(),
         })
     }
 
@@ -190,7 +201,7 @@ impl Answers for Library {
             records: walked.records,
             frames: walked.frames,
             refused: walked.refused,
-            ledger: Ledger::of_words(walked.ledger),
+            ledger: Ledger::from_words(walked.ledger),
         };
         let bytes = plain(host::listing(records, &walked, text))?;
         assert!(
@@ -209,7 +220,7 @@ impl Answers for Library {
     }
 
     fn first_unclean(&self, capture: &[u8]) -> Option<usize> {
-        host::is_clean(capture)
+        host::first_unclean(capture)
     }
 
     fn stream_open(&self) -> Stream {
@@ -217,7 +228,7 @@ impl Answers for Library {
     }
 
     fn stream_of(&self, parts: Parts) -> Stream {
-        Stream::of_parts(parts.words, Ledger::of_words(parts.ledger), parts.kept)
+        Stream::from_parts(parts.words, Ledger::from_words(parts.ledger), parts.kept)
     }
 
     fn parts(&self, stream: &Stream) -> Parts {

@@ -4,7 +4,9 @@
 use oracle::cases::NUMBERS;
 use oracle::made::{self, about, Dice, Ticks};
 use rietknoest_host as host;
-use rietknoest_host::{ChannelNumber, Fed, Ledger, Refusal, SessionNumber, Stream, TickNumber};
+use rietknoest_host::{
+    ChannelNumber, Entry, Fed, Ledger, Refusal, SessionNumber, Stream, TickNumber,
+};
 use std::collections::{BTreeMap, BTreeSet};
 use std::fmt::Write as _;
 use std::fs;
@@ -185,11 +187,9 @@ fn of_wrapper() -> Functions {
     let numbers = |name: &str| match name {
         "Frame" => size_of::<host::Frame>() / 8,
         "Span" => size_of::<host::Span>() / 8,
-        "Entry" => size_of::<host::Entry>() / 8,
         "Ledger" => size_of::<Ledger>() / 8,
         "Passed" => size_of::<host::Passed>() / 8,
         "Request" => size_of::<host::Request>() / 8,
-        "Told" => size_of::<host::Told>() / 8,
         "Cleaned" => size_of::<host::Cleaned>() / 8,
         "Fed" => size_of::<Fed>() / 8,
         "u64" => 1,
@@ -416,18 +416,28 @@ fn entries(s: &mut Script, d: &mut Dice) {
     if d.once_in(20) {
         b.resize(8_165, 0);
     }
-    let answer = host::entries(&b).map(|_| (vec![73], None));
+    let answer = host::entries(&b).map(|steps| (vec![steps.place() as u64], None));
     s.ask("entries", &hex(&b), answer, None);
     let place = 73 + d.len(4) * d.of(&[10, 19]);
-    let answer = host::entry(&b, place).map(|e| {
-        let row = [e.short, e.kind, e.price, e.size, e.position, e.behind];
-        (row.to_vec(), None)
+    let answer = host::entry(&b, place).map(|(entry, behind)| {
+        let spelled = |kind| u64::from(u16::from_be_bytes(kind));
+        let mut row = match entry {
+            Entry::Index { kind, price } => vec![1, spelled(kind), price, 0, 0],
+            Entry::Full {
+                kind,
+                price,
+                size,
+                position,
+            } => vec![0, spelled(kind), price, size, position.into()],
+        };
+        row.push(behind as u64);
+        (row, None)
     });
     s.ask("entry", &format!("{place} {}", hex(&b)), answer, None);
 }
 
 fn ledgers(s: &mut Script, d: &mut Dice) {
-    let mut ledger = Ledger::of_words(made::any_words(d));
+    let mut ledger = Ledger::from_words(made::any_words(d));
     s.words(&ledger);
     let channel = d.of(&[100, 0, 9_999, 10_000]);
     let opened = Ledger::open(ChannelNumber::new(channel));
@@ -435,7 +445,7 @@ fn ledgers(s: &mut Script, d: &mut Dice) {
     let answer = opened.map(|_| (vec![], None));
     s.ask("open", &channel.to_string(), answer, Some(&ledger));
     if d.once_in(2) {
-        ledger = Ledger::of_words(made::any_words(d));
+        ledger = Ledger::from_words(made::any_words(d));
         s.words(&ledger);
     }
     for _ in 0..12 {
@@ -465,15 +475,18 @@ fn ledgers(s: &mut Script, d: &mut Dice) {
                 s.ask("reply", &asked, answer, Some(&ledger));
             }
             3 => {
-                let answer = ledger.told().map(|t| {
+                let answer = ledger.status().map(|t| {
+                    let asked = t
+                        .pending
+                        .map_or([0, 0], |r| [r.first, r.last].map(TickNumber::value));
                     let row = [
                         t.channel.value().into(),
                         t.floor.value(),
                         t.top.value(),
                         t.missing,
                         t.held,
-                        t.asked_first.value(),
-                        t.asked_last.value(),
+                        asked[0],
+                        asked[1],
                     ];
                     (row.to_vec(), None)
                 });
@@ -491,7 +504,7 @@ fn ledgers(s: &mut Script, d: &mut Dice) {
 fn captures(s: &mut Script, d: &mut Dice) {
     let n = d.len(1_500);
     let capture = made::capture(d, n, 40);
-    let mut ledger = Ledger::of_words(made::any_words(d));
+    let mut ledger = Ledger::from_words(made::any_words(d));
     s.words(&ledger);
 
     let mut records = vec![0; host::records_room(capture.len())];
@@ -532,7 +545,7 @@ fn captures(s: &mut Script, d: &mut Dice) {
 }
 
 fn is_clean(s: &mut Script, capture: &[u8]) {
-    let answer = Ok((place_row(host::is_clean(capture)), None));
+    let answer = Ok((place_row(host::first_unclean(capture)), None));
     s.ask("is_clean", &hex(capture), answer, None);
 }
 
@@ -601,7 +614,7 @@ fn streams(s: &mut Script, d: &mut Dice) {
             let (mut words, ledger, mut kept) = stream.clone().into_parts();
             let mut ledger = ledger.to_words();
             made::spoil_stream(d, &mut words, &mut ledger, &mut kept);
-            let mut other = Stream::of_parts(words, Ledger::of_words(ledger), kept);
+            let mut other = Stream::from_parts(words, Ledger::from_words(ledger), kept);
             s.stream(&other);
             let n = d.len(capture.len() - at + 1);
             let cut = &capture[at..at + n];
@@ -668,7 +681,10 @@ fn ten_lines_of_rust_drive_a_ledger() {
         .args((!cfg!(debug_assertions)).then_some("--release"))
         .current_dir(root().join("host"));
     let said = String::from_utf8(run(&mut cargo, b"")).expect("text");
-    assert_eq!(said, "ask for 2 to 2\npassed 2 from 2 on\n");
+    assert_eq!(
+        said,
+        "passed 1 from 1 on\npassed 0 from 2 on\nask for 2 to 2\npassed 2 from 2 on\n"
+    );
 }
 
 /// A program in C++ takes the header too, where there is a compiler to say so.

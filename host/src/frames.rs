@@ -1,0 +1,169 @@
+//! Reads, writes, finds and scrubs one frame; its private spans, and the entries of an M102.
+
+use crate::numbers::{always, result, ChannelNumber, Refusal, SessionNumber, TickNumber};
+use crate::raw;
+
+/// How many bytes of a frame are not body.
+pub const HEADER: usize = 24;
+pub const CHECK_SUM: usize = 4;
+
+/// What a frame holds. Channel, tick, first, last and status are 0 if the type has none.
+#[derive(Clone, Copy, Debug, Default, PartialEq, Eq)]
+#[repr(C)]
+pub struct Frame {
+    pub msg_type: u64,
+    pub sending_time: u64,
+    pub seq: SessionNumber,
+    pub body_len: u64,
+    pub channel: ChannelNumber,
+    /// ApplSeqNum of M201, ApplLastSeqNum of P001, ApplBegSeqNum of P002.
+    pub tick: TickNumber,
+    /// A resend's first and last number, and its status.
+    pub first: TickNumber,
+    pub last: TickNumber,
+    pub status: u64,
+}
+
+impl Frame {
+    /// MsgType as four letters.
+    pub fn type_name(&self) -> [u8; 4] {
+        (self.msg_type as u32).to_be_bytes()
+    }
+
+    /// The length of the whole frame.
+    pub fn frame_len(&self) -> usize {
+        self.body_len as usize + HEADER + CHECK_SUM
+    }
+}
+
+/// Reads the frame at a place. The bytes after it do not matter.
+pub fn read(bytes: &[u8], place: usize) -> Result<Frame, Refusal> {
+    let mut frame = Frame::default();
+    let answer = raw::read(bytes, place, &mut frame);
+    result(answer, frame)
+}
+
+/// Writes a frame to the front of `out`, and returns its length. The bytes after it stay.
+pub fn write(
+    msg_type: u32,
+    sending_time: u64,
+    seq: SessionNumber,
+    body: &[u8],
+    out: &mut [u8],
+) -> Result<usize, Refusal> {
+    let mut bytes = 0;
+    let answer = raw::write(msg_type, sending_time, seq, body, out, &mut bytes);
+    result(answer, bytes as usize)
+}
+
+/// Finds the lowest place, from `from` on, at which a frame reads.
+pub fn search(bytes: &[u8], from: usize) -> Result<Option<usize>, Refusal> {
+    let mut found = raw::Found::default();
+    let answer = raw::search(bytes, from, &mut found);
+    result(answer, found.place())
+}
+
+/// Scrubs the frame at the front of a buffer in place, and returns its length. The bytes after it
+/// stay.
+pub fn scrub(frame: &mut [u8]) -> Result<usize, Refusal> {
+    let mut bytes = 0;
+    let answer = raw::scrub(frame, &mut bytes);
+    result(answer, bytes as usize)
+}
+
+/// A private part of a body: where it starts, how many bytes it has, and the byte that replaces
+/// each.
+#[derive(Clone, Copy, Debug, Default, PartialEq, Eq)]
+#[repr(C)]
+pub struct Span {
+    pub place: u64,
+    pub len: u64,
+    pub fill: u64,
+}
+
+/// The private spans of a body of that type. They are within any body whose length suits the type;
+/// the body is not checked.
+#[must_use]
+pub fn private_spans(msg_type: u32, body: &[u8]) -> Vec<Span> {
+    let mut spans = Vec::new();
+    loop {
+        let mut span = Span::default();
+        let answer = raw::private(msg_type, body, spans.len(), &mut span);
+        let span = always(answer, span);
+        if span.len == 0 {
+            return spans;
+        }
+        spans.push(span);
+    }
+}
+
+/// An entry of an M102 body, with its kind as two letters.
+#[derive(Clone, Copy, Debug, PartialEq, Eq)]
+pub enum Entry {
+    /// Of MD001: it has no size and no position.
+    Index { kind: [u8; 2], price: u64 },
+    /// Of any other stream.
+    Full {
+        kind: [u8; 2],
+        price: u64,
+        size: u64,
+        position: u8,
+    },
+}
+
+impl Entry {
+    fn from_row(row: &raw::EntryRow) -> Entry {
+        let kind = (row.kind as u16).to_be_bytes();
+        let price = row.price;
+        if row.is_short != 0 {
+            return Entry::Index { kind, price };
+        }
+        Entry::Full {
+            kind,
+            price,
+            size: row.size,
+            position: row.position as u8,
+        }
+    }
+}
+
+/// The entries of an M102 body, one after the other; 3, 4 or 6 if the body is not sound.
+pub fn entries(body: &[u8]) -> Result<Entries<'_>, Refusal> {
+    let mut place = 0;
+    let answer = raw::entries(body, &mut place);
+    let place = place as usize;
+    result(answer, Entries { body, place })
+}
+
+/// The entry at a place of a body, and the place after it; or 20.
+pub fn entry(body: &[u8], place: usize) -> Result<(Entry, usize), Refusal> {
+    let mut row = raw::EntryRow::default();
+    let answer = raw::entry(body, place, &mut row);
+    result(answer, (Entry::from_row(&row), row.behind as usize))
+}
+
+/// Iterates over the entries of an M102 body.
+#[derive(Clone, Debug)]
+#[must_use = "it reads no entry until asked for the next"]
+pub struct Entries<'a> {
+    body: &'a [u8],
+    place: usize,
+}
+
+impl Entries<'_> {
+    /// The place of the next entry in the body; after the last, the end.
+    pub fn place(&self) -> usize {
+        self.place
+    }
+}
+
+impl Iterator for Entries<'_> {
+    type Item = Entry;
+
+    /// The next entry. In a sound body 20 comes only after the last.
+    fn next(&mut self) -> Option<Entry> {
+        let (entry, after) = entry(self.body, self.place).ok()?;
+        self.place = after;
+        Some(entry)
+    }
+}

@@ -1,0 +1,119 @@
+//! The gap ledger of one tick channel.
+
+use crate::numbers::{result, ChannelNumber, Refusal, TickNumber};
+use crate::raw;
+
+/// The gap ledger of one tick channel. Do not read its words: `status` returns what it holds.
+#[derive(Clone, Copy, Debug, PartialEq, Eq)]
+#[repr(C)]
+pub struct Ledger {
+    words: [u64; 9],
+}
+
+/// A run of numbers: the first, and how many. If there are none, the first is floor + 1.
+#[derive(Clone, Copy, Debug, Default, PartialEq, Eq)]
+#[must_use = "no later call returns these numbers again"]
+#[repr(C)]
+pub struct Passed {
+    pub first: TickNumber,
+    pub count: u64,
+}
+
+/// The range of a resend request: its first and last number.
+#[derive(Clone, Copy, Debug, Default, PartialEq, Eq)]
+#[must_use = "the range is pending until the exchange replies: send it"]
+#[repr(C)]
+pub struct Request {
+    pub first: TickNumber,
+    pub last: TickNumber,
+}
+
+/// What a ledger holds.
+#[derive(Clone, Copy, Debug, Default, PartialEq, Eq)]
+pub struct LedgerStatus {
+    pub channel: ChannelNumber,
+    /// Every number up to it was received.
+    pub floor: TickNumber,
+    /// The largest number offered or announced.
+    pub top: TickNumber,
+    pub missing: u64,
+    /// How many numbers above the floor were received.
+    pub held: u64,
+    pub pending: Option<Request>,
+}
+
+impl LedgerStatus {
+    fn from_row(row: &raw::StatusRow) -> LedgerStatus {
+        // a pending request starts from 1 on
+        let pending = (row.asked_first != 0).then_some(Request {
+            first: TickNumber::new(row.asked_first),
+            last: TickNumber::new(row.asked_last),
+        });
+        LedgerStatus {
+            channel: ChannelNumber::new(row.channel as u16),
+            floor: TickNumber::new(row.floor),
+            top: TickNumber::new(row.top),
+            missing: row.missing,
+            held: row.held,
+            pending,
+        }
+    }
+}
+
+impl Ledger {
+    /// A fresh ledger for a channel, or 10.
+    pub fn open(channel: ChannelNumber) -> Result<Ledger, Refusal> {
+        let mut ledger = Ledger::from_words([0; 9]);
+        let answer = raw::ledger_open(channel, &mut ledger);
+        result(answer, ledger)
+    }
+
+    /// Offers a tick, and returns the numbers that the floor has just passed. Only one refusal
+    /// changes the ledger: 12 raises the top.
+    pub fn tick(&mut self, channel: ChannelNumber, number: TickNumber) -> Result<Passed, Refusal> {
+        let mut passed = Passed::default();
+        let answer = raw::ledger_tick(self, channel, number, &mut passed);
+        result(answer, passed)
+    }
+
+    /// Announces the channel's last number.
+    pub fn announce(&mut self, channel: ChannelNumber, last: TickNumber) -> Result<(), Refusal> {
+        result(raw::ledger_announce(self, channel, last), ())
+    }
+
+    /// Asks what to request again. The range returned is pending from now on.
+    pub fn request(&mut self, channel: ChannelNumber) -> Result<Request, Refusal> {
+        let mut request = Request::default();
+        let answer = raw::ledger_request(self, channel, &mut request);
+        result(answer, request)
+    }
+
+    /// The exchange's reply to the pending request, which is then no longer pending.
+    pub fn reply(
+        &mut self,
+        channel: ChannelNumber,
+        first: TickNumber,
+        status: u8,
+    ) -> Result<(), Refusal> {
+        result(raw::ledger_reply(self, channel, first, status), ())
+    }
+
+    /// What the ledger holds, or 13.
+    pub fn status(&self) -> Result<LedgerStatus, Refusal> {
+        let mut row = raw::StatusRow::default();
+        let answer = raw::ledger_told(self, &mut row);
+        result(answer, LedgerStatus::from_row(&row))
+    }
+
+    /// The words, to save the ledger.
+    #[must_use]
+    pub const fn to_words(self) -> [u64; 9] {
+        self.words
+    }
+
+    /// The ledger of saved words. Each call returns 13 if they break the state rules.
+    #[must_use]
+    pub const fn from_words(words: [u64; 9]) -> Ledger {
+        Ledger { words }
+    }
+}
