@@ -271,6 +271,36 @@ fn the_header_has_the_table_of_numbers() {
     assert_eq!(said, rows);
 }
 
+/// The header's version is that of all crates, as the pkg-config file and the command have it.
+#[test]
+fn the_header_has_the_version() {
+    let text = text_of("host/include/rietknoest.h");
+    let version = ["MAJOR", "MINOR", "PATCH"].map(|part| {
+        let mark = format!("#define RK_VERSION_{part} ");
+        let mut lines = text.lines().filter_map(|line| line.strip_prefix(&mark));
+        let number = lines.next().expect("a row");
+        assert_eq!(lines.next(), None, "{part} is defined once");
+        number
+    });
+    assert_eq!(version.join("."), env!("CARGO_PKG_VERSION"));
+}
+
+/// A refusal is told by its number from every other, and says in words what happened.
+#[test]
+fn a_refusal_has_a_number_and_words() {
+    for r in Refusal::ALL {
+        assert_eq!(Refusal::from_number(r.number()), Some(*r));
+        assert_eq!(r.to_string(), format!("{}: {}", r.number(), r.words()));
+    }
+    let numbers = Refusal::ALL.iter().map(|r| r.number());
+    assert!(numbers.clone().zip(numbers.skip(1)).all(|(a, b)| a < b));
+    let words: BTreeSet<_> = Refusal::ALL.iter().map(|r| r.words()).collect();
+    assert_eq!(words.len(), Refusal::ALL.len());
+    assert_eq!(Refusal::Sum.to_string(), "5: the checksum differs");
+    assert_eq!(Refusal::from_number(0), None);
+    assert_eq!(Refusal::from_number(u32::MAX), None);
+}
+
 /// As the header says of a ledger that is lent zeroed.
 #[test]
 fn nine_zeros_are_a_fresh_ledger_for_channel_0() {
