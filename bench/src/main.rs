@@ -7,6 +7,7 @@
 
 mod made;
 mod plain;
+mod shift;
 
 use made::Dice;
 use rietknoest_host as host;
@@ -77,15 +78,20 @@ impl Job<'_> {
     fn race(&self, unit: &str, per: usize, mut ours: impl FnMut(), mut theirs: impl FnMut()) {
         let [a, b] = best(self.bytes, [&mut ours, &mut theirs]).map(|t| t * per as f64);
         let ratio = a / b;
-        let goal = match self.goal {
-            None => String::new(),
-            Some(goal) if ratio <= goal => format!("{goal:.1}x, met"),
-            Some(goal) => format!("{goal:.1}x, missed"),
-        };
+        let goal = judged(ratio, self.goal);
         let Job { name, input, .. } = self;
         println!(
             "| {name} | {input} | {a:.3} ns a {unit} | {b:.3} ns a {unit} | {ratio:.2}x | {goal} |"
         );
+    }
+}
+
+/// What a ratio should be, and whether it is.
+fn judged(ratio: f64, goal: Option<f64>) -> String {
+    match goal {
+        None => String::new(),
+        Some(goal) if ratio <= goal => format!("{goal:.1}x, met"),
+        Some(goal) => format!("{goal:.1}x, missed"),
     }
 }
 
@@ -197,51 +203,67 @@ fn places(capture: &[u8]) -> Vec<usize> {
 
 // THE LEDGER
 
-fn ledger(input: &str, ticks: &[u64]) {
+/// A line of the ledger's table. `goal` is that of the ratio to the plain map that shifts.
+fn ledger(input: &str, before: &[u64], ticks: &[u64], goal: Option<f64>) {
     let channel = host::ChannelNumber::new(100);
-    let fresh = (
-        host::Ledger::open(channel).expect("a channel"),
-        plain::Ledger::open(100),
-    );
-    let (mut a, mut b) = fresh;
-    for n in ticks {
-        let (next, answer) = b.tick(100, *n);
-        b = next;
+    let mut ours = host::Ledger::open(channel).expect("a channel");
+    let mut ring = plain::Ledger::open(100);
+    let mut shifting = shift::Shifting::open(100);
+    let (mut a, mut b, mut c) = (ours, ring, shifting);
+    for (i, n) in before.iter().chain(ticks).enumerate() {
+        if i == before.len() {
+            (ours, ring, shifting) = (a, b, c);
+        }
+        let answer = b.tick(100, *n);
+        let (next, shifted) = c.tick(100, *n);
+        c = next;
         assert_eq!(number(a.tick(channel, host::TickNumber::new(*n))), answer);
+        assert_eq!(shifted, answer);
         assert_eq!(a.to_words(), b.words());
+        assert_eq!((b.floor, b.top), (c.floor, c.top));
     }
     // as if a tick had 50 bytes, for the turns
-    let job = Job {
-        name: "ledger tick",
-        input,
-        bytes: 50 * ticks.len(),
-        goal: Some(1.2),
-    };
-    job.race(
-        "tick",
-        50,
-        || {
-            let mut ledger = fresh.0;
-            for n in black_box(ticks) {
-                done(ledger.tick(channel, host::TickNumber::new(*n)));
-            }
-            done(ledger);
-        },
-        || {
-            let mut ledger = fresh.1;
-            for n in black_box(ticks) {
-                let (next, answer) = ledger.tick(100, *n);
-                ledger = next;
-                done(answer);
-            }
-            done(ledger);
-        },
-    );
+    let [x, y, z] = best(
+        50 * ticks.len(),
+        [
+            &mut || {
+                let mut ledger = ours;
+                for n in black_box(ticks) {
+                    done(ledger.tick(channel, host::TickNumber::new(*n)));
+                }
+                done(ledger);
+            },
+            &mut || {
+                let mut ledger = ring;
+                for n in black_box(ticks) {
+                    done(ledger.tick(100, *n));
+                }
+                done(ledger);
+            },
+            &mut || {
+                let mut ledger = shifting;
+                for n in black_box(ticks) {
+                    let (next, answer) = ledger.tick(100, *n);
+                    ledger = next;
+                    done(answer);
+                }
+                done(ledger);
+            },
+        ],
+    )
+    .map(|t| t * 50.0);
+    let (r, s) = (x / y, x / z);
+    let (met, too) = (judged(r, Some(1.2)), judged(s, goal));
+    println!("| {input} | {x:.1} | {y:.1} | {r:.2}x | {met} | {z:.1} | {s:.2}x | {too} |");
 }
 
 fn ledgers() {
+    println!(
+        "| ns a tick | ours | plain ring | ratio | goal | plain shift | ratio to it | goal |"
+    );
+    println!("|---|---|---|---|---|---|---|---|");
     let in_order: Vec<u64> = (1..=20_000).collect();
-    ledger("in order", &in_order);
+    ledger("in order", &[], &in_order, Some(0.8));
     let mut late = Vec::new();
     for n in 1..=20_000 {
         if n % 16 != 0 {
@@ -251,7 +273,14 @@ fn ledgers() {
             late.push(n - 100);
         }
     }
-    ledger("every sixteenth comes 100 ticks late", &late);
+    ledger("every sixteenth comes 100 ticks late", &[], &late, Some(0.8));
+    // the first of each 64 comes last
+    let runs: Vec<u64> = (0..312).flat_map(|i| (2..=64).chain([1]).map(move |n| 64 * i + n)).collect();
+    ledger("runs of 64 passed at once", &[], &runs, None);
+    // 1 is missing, 2 to 256 are held; far or repeated
+    let held: Vec<u64> = (2..=256).collect();
+    let refused: Vec<u64> = (0..20_000).map(|i| if i % 2 == 0 { 257 + i } else { 2 + i % 255 }).collect();
+    ledger("255 held, each tick far or repeated", &held, &refused, None);
 }
 
 // CAPTURES
@@ -456,11 +485,12 @@ fn main() {
     println!("| Job | Input | ours | plain Rust | ratio | goal |");
     println!("|---|---|---|---|---|---|");
     sum_and_fill();
-    ledgers();
     captures("64 KiB", KIB_64);
     if !small {
         captures("100 MB", 100 * MB);
     }
+    println!();
+    ledgers();
     println!();
     growth(if small { &sizes[..2] } else { &sizes });
     println!();

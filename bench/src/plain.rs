@@ -199,8 +199,9 @@ pub fn scrub(buffer: &mut [u8]) -> Result<usize, u32> {
 
 // THE LEDGER
 
-const LARGEST: u64 = 999_999_999_999_999_999;
+pub const LARGEST: u64 = 999_999_999_999_999_999;
 
+/// A number's place in the map is its remainder by 256. A state by `&mut`, so that its map stays where it is.
 #[derive(Clone, Copy, Debug, PartialEq, Eq)]
 pub struct Ledger {
     pub channel: u16,
@@ -208,6 +209,13 @@ pub struct Ledger {
     pub top: u64,
     pub map: [u64; 4],
     pub pending: Option<(u64, u64)>,
+}
+
+/// Whether a pending request keeps the state rules.
+pub fn pending_right(pending: Option<(u64, u64)>, floor: u64, top: u64) -> bool {
+    pending.is_none_or(|(first, last)| {
+        (1..=floor + 1).contains(&first) && (first..=top).contains(&last) && last - first < 200
+    })
 }
 
 impl Ledger {
@@ -228,100 +236,91 @@ impl Ledger {
         [channel, self.floor, self.top, a, b, c, d, first, last]
     }
 
+    fn holds(&self, n: u64) -> bool {
+        self.map[(n / 64 % 4) as usize] >> (n % 64) & 1 == 1
+    }
+
+    /// How many places from that of n on are clear where `flip` is 0, or held where it is all ones.
+    fn stretch(&self, n: u64, flip: u64) -> u64 {
+        let (word, bit) = ((n / 64 % 4) as usize, n % 64);
+        let own = (self.map[word] ^ flip) >> bit;
+        if own != 0 {
+            return own.trailing_zeros().into();
+        }
+        let mut passed = 64 - bit;
+        for j in 1..=4 {
+            let next = self.map[(word + j) % 4] ^ flip;
+            if next != 0 {
+                return passed + u64::from(next.trailing_zeros());
+            }
+            passed += 64;
+        }
+        256
+    }
+
+    fn clear(&mut self, mut at: u64, mut left: u64) {
+        while left > 0 {
+            let n = left.min(64 - at % 64);
+            self.map[(at / 64 % 4) as usize] &= !(u64::MAX >> (64 - n) << (at % 64));
+            at += n;
+            left -= n;
+        }
+    }
+
     fn sound(&self) -> bool {
         if self.channel > 9_999 || self.floor > self.top || self.top > LARGEST {
             return false;
         }
-        let known = self.top - self.floor;
-        let above = |i: usize| match known.saturating_sub(64 * i as u64) {
-            held @ 0..64 => self.map[i] >> held,
-            _ => 0,
+        let (next, known) = (self.floor + 1, self.top - self.floor);
+        let map = match known {
+            256.. => !self.holds(next),
+            _ if self.map == [0; 4] => true,
+            0 => false,
+            _ => self.stretch(next + known, 0) > 256 - known,
         };
-        if self.map[0] & 1 != 0 || above(0) | above(1) | above(2) | above(3) != 0 {
-            return false;
-        }
-        match self.pending {
-            None => true,
-            Some((first, last)) => {
-                (1..=self.floor + 1).contains(&first)
-                    && (first..=self.top).contains(&last)
-                    && last - first < 200
-            }
+        map && pending_right(self.pending, self.floor, self.top)
+    }
+
+    fn checked(&self, channel: u16) -> Result<(), u32> {
+        match () {
+            _ if !self.sound() => Err(13),
+            _ if channel != self.channel => Err(18),
+            _ => Ok(()),
         }
     }
 
-    /// Numbers from the floor on without a break.
-    fn run(&self) -> u32 {
-        let mut run = 0;
-        for word in self.map {
-            run += word.trailing_ones();
-            if word != u64::MAX {
-                break;
-            }
-        }
-        run
-    }
-
-    /// The floor and the map behind so many numbers that were passed.
-    fn pass(&mut self, count: u32) {
-        self.floor += u64::from(count);
-        for _ in 0..count / 64 {
-            let [_, b, c, d] = self.map;
-            self.map = [b, c, d, 0];
-        }
-        let bits = count % 64;
-        if bits > 0 {
-            let [a, b, c, d] = self.map;
-            let join = |low: u64, high: u64| low >> bits | high << (64 - bits);
-            self.map = [join(a, b), join(b, c), join(c, d), d >> bits];
-        }
-    }
-
-    pub fn tick(mut self, channel: u16, n: u64) -> (Ledger, Result<Passed, u32>) {
-        if !self.sound() {
-            return (self, Err(13));
-        }
-        if channel != self.channel {
-            return (self, Err(18));
-        }
+    pub fn tick(&mut self, channel: u16, n: u64) -> Result<Passed, u32> {
+        self.checked(channel)?;
         if n == 0 || n > LARGEST {
-            return (self, Err(10));
+            return Err(10);
         }
         if n <= self.floor {
-            return (self, Err(11));
+            return Err(11);
         }
-        let place = n - self.floor - 1;
-        if place >= 256 {
+        if n - self.floor > 256 {
             self.top = self.top.max(n);
-            return (self, Err(12));
+            return Err(12);
         }
-        let (word, bit) = ((place / 64) as usize, 1 << (place % 64));
-        if self.map[word] & bit != 0 {
-            return (self, Err(11));
+        if self.holds(n) {
+            return Err(11);
         }
-        self.map[word] |= bit;
+        self.map[(n / 64 % 4) as usize] |= 1 << (n % 64);
         self.top = self.top.max(n);
-        let first = TickNumber::new(self.floor + 1);
-        let count = self.run();
-        if count > 0 {
-            self.pass(count);
-        }
-        let count = count.into();
-        (self, Ok(Passed { first, count }))
+        let first = self.floor + 1;
+        let count = self.stretch(first, u64::MAX);
+        self.clear(first, count);
+        self.floor += count;
+        let first = TickNumber::new(first);
+        Ok(Passed { first, count })
     }
 
-    pub fn announce(mut self, channel: u16, last: u64) -> (Ledger, u32) {
-        if !self.sound() {
-            return (self, 13);
-        }
-        if channel != self.channel {
-            return (self, 18);
-        }
+    pub fn announce(&mut self, channel: u16, last: u64) -> Result<(), u32> {
+        self.checked(channel)?;
         if last > LARGEST {
-            return (self, 10);
+            return Err(10);
         }
         self.top = self.top.max(last);
-        (self, 0)
+        Ok(())
     }
 }
 
@@ -352,16 +351,8 @@ fn pass(capture: &[u8], records: &mut [u8]) -> Walked {
             Ok(f) => {
                 let (channel, tick) = (f.channel.value(), f.tick.value());
                 let answer = match f.msg_type as u32 {
-                    M201 => {
-                        let (next, answer) = w.ledger.tick(channel, tick);
-                        w.ledger = next;
-                        answer.err().unwrap_or(0)
-                    }
-                    P001 => {
-                        let (next, answer) = w.ledger.announce(channel, tick);
-                        w.ledger = next;
-                        answer
-                    }
+                    M201 => w.ledger.tick(channel, tick).err().unwrap_or(0),
+                    P001 => w.ledger.announce(channel, tick).err().unwrap_or(0),
                     _ => 0,
                 };
                 w.frames += 1;

@@ -134,7 +134,10 @@ uint32_t rk_entry(const uint8_t *body, size_t len, size_t place, rk_md_entry *to
 /* THE LEDGER */
 
 /* Keep and copy the words as you like, but do not read or make them: use rk_ledger_told. A call on
- * words that break the state rules returns 13. */
+ * words that break the state rules returns 13. Saved words are for the library that made them:
+ * another may take them for another ledger, and no rule can tell. Save RK_STATE_FORM with them, and
+ * do not pass in words of another form (docs/STATES.md). */
+#define RK_STATE_FORM 2
 typedef struct {
     uint64_t words[9];
 } rk_ledger;

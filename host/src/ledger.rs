@@ -3,6 +3,10 @@
 use crate::numbers::{result, ChannelNumber, Refusal, TickNumber};
 use crate::raw;
 
+/// The form of a ledger's words. Saved words are for the library that made them: with another form
+/// the same words are another ledger.
+pub const STATE_FORM: u32 = 2;
+
 /// The gap ledger of one tick channel. Do not read its words: `status` returns what it holds.
 #[derive(Clone, Copy, Debug, PartialEq, Eq)]
 #[repr(C)]
@@ -105,13 +109,14 @@ impl Ledger {
         result(answer, LedgerStatus::from_row(&row))
     }
 
-    /// The words, to save the ledger.
+    /// The words, to save the ledger. Save [`STATE_FORM`] with them.
     #[must_use]
     pub const fn to_words(self) -> [u64; 9] {
         self.words
     }
 
-    /// The ledger of saved words. Each call returns 13 if they break the state rules.
+    /// The ledger of saved words. Each call returns 13 if they break the state rules. Words of
+    /// another [`STATE_FORM`] may keep them and be another ledger.
     #[must_use]
     pub const fn from_words(words: [u64; 9]) -> Ledger {
         Ledger { words }
