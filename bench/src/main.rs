@@ -258,9 +258,7 @@ fn ledger(input: &str, before: &[u64], ticks: &[u64], goal: Option<f64>) {
 }
 
 fn ledgers() {
-    println!(
-        "| ns a tick | ours | plain ring | ratio | goal | plain shift | ratio to it | goal |"
-    );
+    println!("| ns a tick | ours | plain ring | ratio | goal | plain shift | ratio to it | goal |");
     println!("|---|---|---|---|---|---|---|---|");
     let in_order: Vec<u64> = (1..=20_000).collect();
     ledger("in order", &[], &in_order, Some(0.8));
@@ -273,13 +271,22 @@ fn ledgers() {
             late.push(n - 100);
         }
     }
-    ledger("every sixteenth comes 100 ticks late", &[], &late, Some(0.8));
+    ledger(
+        "every sixteenth comes 100 ticks late",
+        &[],
+        &late,
+        Some(0.8),
+    );
     // the first of each 64 comes last
-    let runs: Vec<u64> = (0..312).flat_map(|i| (2..=64).chain([1]).map(move |n| 64 * i + n)).collect();
+    let runs: Vec<u64> = (0..312)
+        .flat_map(|i| (2..=64).chain([1]).map(move |n| 64 * i + n))
+        .collect();
     ledger("runs of 64 passed at once", &[], &runs, None);
     // 1 is missing, 2 to 256 are held; far or repeated
     let held: Vec<u64> = (2..=256).collect();
-    let refused: Vec<u64> = (0..20_000).map(|i| if i % 2 == 0 { 257 + i } else { 2 + i % 255 }).collect();
+    let refused: Vec<u64> = (0..20_000)
+        .map(|i| if i % 2 == 0 { 257 + i } else { 2 + i % 255 })
+        .collect();
     ledger("255 held, each tick far or repeated", &held, &refused, None);
 }
 

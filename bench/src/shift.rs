@@ -1,6 +1,6 @@
 //! The ledger with the map as it was before request 9, by value: place i stands for floor + 1 + i, and each tick delivered shifts the map.
 
-use crate::plain::{LARGEST, pending_right};
+use crate::plain::{pending_right, LARGEST};
 use rietknoest_host::{Passed, TickNumber};
 
 #[derive(Clone, Copy, Debug, PartialEq, Eq)]
