@@ -47,23 +47,33 @@ pub struct Range {
     pub last: Tick,
 }
 
-/// The places as the four words of a map. Place i is bit i % 64, low bit first,
-/// of word i / 64, and stands for floor + 1 + i (0.9).
-pub fn map_of(held: &Places) -> [u64; 4] {
+/// How far the list of places is turned in the words: "Let a number's place be
+/// its remainder by 256" (CR 9), and the first of the list is floor + 1.
+fn turn(floor: u64) -> usize {
+    (floor.wrapping_add(1) % PLACES) as usize
+}
+
+/// The places as the four words of a map. Place p is bit p % 64, low bit first,
+/// of word p / 64, and stands for the one number from floor + 1 to floor + 256
+/// whose remainder by 256 is p.
+pub fn map_of(floor: u64, held: &Places) -> [u64; 4] {
+    let mut ring = *held;
+    ring.rotate_right(turn(floor));
     let mut map = [0; 4];
-    for (i, held) in held.iter().enumerate() {
-        map[i / 64] |= u64::from(*held) << (i % 64);
+    for (p, held) in ring.iter().enumerate() {
+        map[p / 64] |= u64::from(*held) << (p % 64);
     }
     map
 }
 
 /// The places of such words.
-pub fn places_of(map: [u64; 4]) -> Places {
-    let mut held = [false; PLACES as usize];
-    for (i, held) in held.iter_mut().enumerate() {
-        *held = (map[i / 64] >> (i % 64)) % 2 == 1;
+pub fn places_of(floor: u64, map: [u64; 4]) -> Places {
+    let mut ring = [false; PLACES as usize];
+    for (p, held) in ring.iter_mut().enumerate() {
+        *held = (map[p / 64] >> (p % 64)) % 2 == 1;
     }
-    held
+    ring.rotate_left(turn(floor));
+    ring
 }
 
 impl Ledger {
@@ -93,7 +103,7 @@ impl Ledger {
             Pending::Nothing => (0, 0),
             Pending::Asked { first, last } => (first.0, last.0),
         };
-        let map = map_of(&self.held);
+        let map = map_of(self.floor.0, &self.held);
         let mut words = [0; 9];
         words[..3].copy_from_slice(&[u64::from(self.channel.0), self.floor.0, self.top.0]);
         words[3..7].copy_from_slice(&map);
@@ -115,7 +125,7 @@ impl Ledger {
             channel: Channel(u16::try_from(w[0]).unwrap_or(u16::MAX)),
             floor: Tick(w[1]),
             top: Tick(w[2]),
-            held: places_of([w[3], w[4], w[5], w[6]]),
+            held: places_of(w[1], [w[3], w[4], w[5], w[6]]),
             pending,
         }
     }

@@ -542,7 +542,7 @@ pub fn any_words(d: &mut Dice) -> Words {
     w[0] = d.of(&[100, 100, 100, 0, 9_999, 10_000, 65_535, 65_536, u64::MAX]);
     w[1] = floor;
     w[2] = floor.wrapping_add(ahead);
-    w[3..7].copy_from_slice(&map_of(&held));
+    w[3..7].copy_from_slice(&map_of(floor, &held));
     if d.once_in(2) {
         w[7] = floor.wrapping_add(1).wrapping_sub(d.below(3));
         w[8] = w[7].wrapping_add(d.of(&[0, 1, 198, 199, 200]));

@@ -124,6 +124,23 @@ fn sound() -> Vec<(&'static str, Words)> {
     ]
 }
 
+/// States whose map goes round, or begins at a word's first or last bit: floors
+/// at and beside multiples of 64 and of 256.
+fn turned() -> Vec<(u64, Words)> {
+    let mut states = Vec::new();
+    for edge in [64, 128, 192, 256, 320, 512, 256_000, MOST - 255, MOST - 511] {
+        for floor in edge - 2..=edge + 1 {
+            let (low, high) = (floor + 2, floor + 256);
+            let middle = [floor + 64, floor + 65, floor + 128];
+            let held: Vec<u64> = [&[low], &middle[..], &[high]].concat();
+            let held: Vec<u64> = held.into_iter().filter(|n| *n <= MOST).collect();
+            let top = (floor + 300).min(MOST);
+            states.push((floor, state(floor, top, &held, NONE)));
+        }
+    }
+    states
+}
+
 fn broken() -> Vec<(&'static str, Words)> {
     vec![
         ("channel 10000", of_channel(10_000)),
@@ -139,6 +156,16 @@ fn broken() -> Vec<(&'static str, Words)> {
         ("floor + 1 held", state(10, 20, &[11], NONE)),
         ("held just above the top", state(10, 20, &[21], NONE)),
         ("held far above the top", state(10, 20, &[15, 266], NONE)),
+        ("floor + 1 held, its place 0", state(255, 300, &[256], NONE)),
+        (
+            "held above the top, its place 0",
+            state(250, 255, &[256], NONE),
+        ),
+        (
+            "held above the top, its place 255",
+            state(250, 254, &[255], NONE),
+        ),
+        ("held above the top, round", state(300, 320, &[513], NONE)),
         (
             "held above the floor that is the top",
             state(10, 10, &[12], NONE),
@@ -171,6 +198,7 @@ pub fn ledgers<A: Answers>(run: &mut Run<A>) {
     replies(run);
     requests(run);
     passing(run);
+    turning(run);
     runs(run);
 }
 
@@ -315,14 +343,51 @@ fn passing<A: Answers>(run: &mut Run<A>) {
     );
 }
 
-/// Ticks drawn from the numbers above the floor; the state after each fifty.
+/// Calls on the states whose map goes round: each held number again, the last
+/// place and the one behind it, whose place is free but too far, and the floor
+/// that passes over an edge.
+fn turning<A: Answers>(run: &mut Run<A>) {
+    for (floor, state) in turned() {
+        run.on(
+            &format!("a map from {} on", floor + 1),
+            state,
+            &[
+                Told,
+                REQUEST,
+                tick(floor + 2),
+                tick(floor + 256),
+                tick(floor + 257),
+                tick(floor + 3),
+                tick(floor + 1),
+                tick(floor + 257),
+                tick(floor + 258),
+                Told,
+            ],
+        );
+    }
+    // Every place is used, cleared and used again: 256 numbers later a tick is
+    // no repeat.
+    run.fresh(
+        "a place is free again",
+        &[tick(1), tick(257), tick(2), tick(258)],
+    );
+    let mut calls = Vec::new();
+    for n in 1..=600 {
+        calls.push(tick(n));
+        calls.push(tick(n + 256));
+    }
+    run.fresh("each number, and the one 256 behind it", &calls);
+}
+
+/// Ticks drawn from the numbers above the floor, round the map several times;
+/// the state after each hundred.
 fn runs<A: Answers>(run: &mut Run<A>) {
     for width in [1, 2, 8, 64, 256, 300] {
         run.case(&format!("a run of ticks within {width}"));
         let mut dice = Dice::new(8, width);
         let mut ledger = run.open(100).expect("channel 100 opens");
         let mut answered = [0; 3];
-        for calls in 1..=700 {
+        for calls in 1..=3_000 {
             let n = ledger[1] + 1 + dice.below(width);
             let answer = run.answers.tick(&mut ledger, Channel(100), Tick(n));
             match answer {
@@ -331,7 +396,7 @@ fn runs<A: Answers>(run: &mut Run<A>) {
                 Err(12) => answered[2] += 1,
                 Err(other) => panic!("a run's tick is answered {other}"),
             }
-            if calls % 50 == 0 {
+            if calls % 100 == 0 {
                 run.more(&format!("{}: {}", joined(&answered), joined(&ledger)));
             }
         }

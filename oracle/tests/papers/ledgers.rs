@@ -298,3 +298,36 @@ fn counts() {
     assert_eq!(l.missing(), (l, Ok(8)));
     assert_eq!(state(0, MOST, &[], None).missing().1, Ok(MOST));
 }
+
+/// CR 9: "Let a number's place be its remainder by 256". Place p is bit p % 64
+/// of word p / 64.
+#[test]
+fn the_words_of_a_map() {
+    for floor in [0, 1, 62, 63, 64, 254, 255, 256, 300, 511, 512, MOST - 300] {
+        for ahead in [2, 3, 64, 65, 128, 200, 255, 256] {
+            let n = floor + ahead;
+            let words = state(floor, floor + 256, &[n], None).words();
+            let mut map = [0; 4];
+            let p = n % 256;
+            map[(p / 64) as usize] = 1 << (p % 64);
+            assert_eq!(words[3..7], map, "{floor} {ahead}");
+            let held = Ledger::of_words(words);
+            assert_eq!(held, state(floor, floor + 256, &[n], None));
+        }
+    }
+    // All that nine words can hold goes there and back, sound or not.
+    for floor in [0, 255, 256, 300, u64::MAX - 1, u64::MAX] {
+        let words = [100, floor, 7, 1, u64::MAX, 0x8000_0000_0000_0001, 6, 1, 2];
+        assert_eq!(Ledger::of_words(words).words(), words);
+    }
+}
+
+/// "with places cleared as the floor passes them"
+#[test]
+fn passed_places_are_cleared() {
+    let mut l = fresh();
+    for n in 1..=1_000 {
+        l = l.tick(C, Tick(n)).0;
+        assert_eq!(l.words(), [100, n, n, 0, 0, 0, 0, 0, 0]);
+    }
+}

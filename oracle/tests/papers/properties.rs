@@ -290,12 +290,13 @@ fn no_call_breaks_a_sound_state_or_mends_a_broken_one() {
         let floor = near + dice.roll(3);
         let top = floor + dice.roll(300);
         let word = |d: &mut Dice| if d.roll(2) == 0 { 0 } else { 1 << d.roll(64) };
-        let held = places_of([
+        let map = [
             word(&mut dice),
             word(&mut dice),
             word(&mut dice),
             word(&mut dice),
-        ]);
+        ];
+        let held = places_of(floor, map);
         let pending = if dice.roll(2) == 0 {
             Pending::Nothing
         } else {
