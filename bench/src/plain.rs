@@ -102,6 +102,28 @@ fn fields_hold(msg_type: u32, b: &[u8]) -> bool {
     }
 }
 
+/// Whether a time, YYYYMMDDHHMMSSsss, is a real one from the year 2000 to 9999.
+fn is_real(time: u64) -> bool {
+    let Ok(date) = u32::try_from(time / 1_000_000_000) else {
+        return false;
+    };
+    let clock = (time % 1_000_000_000) as u32;
+    let (y, m, d) = (date / 10_000, date / 100 % 100, date % 100);
+    let leap = y % 4 == 0 && (y % 100 != 0 || y % 400 == 0);
+    let last = match m {
+        2 if leap => 29,
+        2 => 28,
+        4 | 6 | 9 | 11 => 30,
+        1..=12 => 31,
+        _ => 0,
+    };
+    (2_000..=9_999).contains(&y)
+        && (1..=last).contains(&d)
+        && clock / 10_000_000 <= 23
+        && clock / 100_000 % 100 <= 59
+        && clock / 1_000 % 100 <= 59
+}
+
 /// Type and body of the frame at the front.
 fn parts(bytes: &[u8]) -> Result<(u32, &[u8]), u32> {
     if bytes.len() < 24 {
@@ -131,6 +153,9 @@ fn parts(bytes: &[u8]) -> Result<(u32, &[u8]), u32> {
     }
     if u32_at(bytes, 24 + n) != u32::from(sum(&bytes[..24 + n])) {
         return Err(5);
+    }
+    if !is_real(u64_at(bytes, 4)) {
+        return Err(7);
     }
     let body = &bytes[24..24 + n];
     if !fields_hold(msg_type, body) {

@@ -67,6 +67,7 @@ pub fn reason(refusal: Refusal) -> &'static str {
         Refusal::Length => "its BodyLength does not suit its type",
         Refusal::Sum => "its CheckSum differs from the sum of its bytes",
         Refusal::Field => "a field breaks a rule of its type",
+        Refusal::Time => "its SendingTime is no real time",
         _ => "no frame reads here",
     }
 }

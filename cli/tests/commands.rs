@@ -124,12 +124,12 @@ fn a_capture_above_65536_bytes() {
 fn the_sample_is_scrubbed_and_then_clean() {
     let folder = Folder::new().with("sample", &sample());
     let ran = run(&folder, &["scrub", "sample", "-o", "out"]);
-    let counts = "rietknoest: sample: kept 29 frames, left out 772 bytes, 7 frames after damage\n";
+    let counts = "rietknoest: sample: kept 30 frames, left out 812 bytes, 8 frames after damage\n";
     assert!(ran.error().starts_with(counts));
     assert!(ran.error().contains("docs/PRIVATE.md"));
     assert_eq!((ran.status, ran.out()), (Some(1), ""));
     let cleaned = fs::read(folder.path("out")).unwrap();
-    assert_eq!(cleaned.len(), sample().len() - 772);
+    assert_eq!(cleaned.len(), sample().len() - 812);
     run(&folder, &["check", "out"]).quiet(0, "out: clean\n");
 
     // to standard output, and from standard input, the same
@@ -141,7 +141,7 @@ fn the_sample_is_scrubbed_and_then_clean() {
 
     // again: nothing changes, nothing is left out, and no frame is after damage
     let ran = run(&folder, &["scrub", "--whole", "out", "-o", "again"]);
-    let said = "rietknoest: out: kept 29 frames, left out 0 bytes, 0 frames after damage\n";
+    let said = "rietknoest: out: kept 30 frames, left out 0 bytes, 0 frames after damage\n";
     assert_eq!((ran.status, ran.error()), (Some(0), said));
     assert_eq!(fs::read(folder.path("again")).unwrap(), cleaned);
     assert_eq!(folder.names(), ["again", "out", "sample"]);
@@ -287,23 +287,24 @@ the frame has 80 bytes and ends before place 2209
 fn explain_tells_a_refusal_by_number_and_name() {
     let folder = Folder::new().with("sample", &sample());
     let refused = [
-        ("4353", "1 (more)", "no frame reads behind it"),
+        ("4421", "1 (more)", "no frame reads behind it"),
         ("3720", "2 (type)", "the walk goes on at 3748"),
         ("3776", "3 (long)", "the walk goes on at 3800"),
         ("3663", "4 (length)", "the walk goes on at 3692"),
         ("2421", "5 (sum)", "the walk goes on at 2633"),
         ("3183", "6 (field)", "the walk goes on at 3395"),
+        ("3828", "7 (time)", "the walk goes on at 3868"),
         (
             "1",
             "2 (type)",
             "the walk does not read here: the place lies inside the S001 at 0,",
         ),
         (
-            "3830",
+            "3898",
             "2 (type)",
-            "the walk does not read here: the place lies among the stray bytes from 3828 on,",
+            "the walk does not read here: the place lies among the stray bytes from 3896 on,",
         ),
-        ("4383", "1 (more)", "this is the capture's end"),
+        ("4451", "1 (more)", "this is the capture's end"),
     ];
     for (place, answer, more) in refused {
         let ran = run(&folder, &["explain", "sample", place]);
@@ -316,8 +317,8 @@ fn explain_tells_a_refusal_by_number_and_name() {
         assert_eq!(ran.out().lines().count(), 2);
         assert_eq!((ran.status, ran.error()), (Some(1), ""));
     }
-    let beyond = "the place is beyond the end, 4383";
-    run(&folder, &["explain", "sample", "4384"]).failed("sample", beyond);
+    let beyond = "the place is beyond the end, 4451";
+    run(&folder, &["explain", "sample", "4452"]).failed("sample", beyond);
     let huge = "99999999999999999999999999999999999999";
     run(&folder, &["explain", "sample", huge]).failed("sample", beyond);
 }

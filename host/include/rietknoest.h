@@ -45,6 +45,7 @@ enum rk_answer {
     RK_LENGTH = 4,   /* BodyLength doesn't suit the type */
     RK_SUM = 5,      /* CheckSum differs, all 32 bits compared */
     RK_FIELD = 6,    /* a field rule is broken */
+    RK_TIME = 7,     /* SendingTime is no real time */
     RK_ROOM = 8,     /* output buffer shorter than what is to be written */
     RK_PLACE = 9,    /* search start beyond the end */
     RK_NUMBER = 10,  /* tick 0 or over 18 digits; announced top over 18; channel over 9,999 */
@@ -102,11 +103,11 @@ typedef struct {
 RK_SIZE(rk_md_entry, 6);
 
 /* Reads the frame at a place; the bytes after it do not matter. A place beyond the end returns 1.
- * Returns 0, 1 to 6. 0 writes *told. */
+ * Returns 0, 1 to 7. 0 writes *told. */
 uint32_t rk_read(const uint8_t *bytes, size_t len, size_t place, rk_frame *told);
 
 /* Writes a frame to the front of out.
- * Returns 0, 2, 3, 4, 6, 8. 0 writes *told, which is body_len + 28, and as many bytes of out. */
+ * Returns 0, 2, 3, 4, 7, 6, 8. 0 writes *told, which is body_len + 28, and as many bytes of out. */
 uint32_t rk_write(uint32_t msg_type, uint64_t sending_time, uint64_t seq, const uint8_t *body, size_t body_len, uint8_t *out,
                   size_t out_len, uint64_t *told);
 
@@ -115,7 +116,7 @@ uint32_t rk_write(uint32_t msg_type, uint64_t sending_time, uint64_t seq, const 
 uint32_t rk_search(const uint8_t *bytes, size_t len, size_t from, rk_found *told);
 
 /* Scrubs the frame at the front of a buffer, in place.
- * Returns 0, 1 to 6. 0 writes the frame's private bytes and CheckSum, and its length to *told. */
+ * Returns 0, 1 to 7. 0 writes the frame's private bytes and CheckSum, and its length to *told. */
 uint32_t rk_scrub(uint8_t *frame, size_t len, uint64_t *told);
 
 /* Private span number i, counted from 0, of a body of that type; an empty span after the last. The

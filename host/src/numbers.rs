@@ -51,6 +51,7 @@ refusals! {
     Length = 4, "length", "the BodyLength does not suit the type";
     Sum = 5, "sum", "the checksum differs";
     Field = 6, "field", "a field breaks its rule";
+    Time = 7, "time", "the SendingTime is no real time";
     Room = 8, "room", "the output buffer is too short";
     Place = 9, "place", "the search starts beyond the end";
     Number = 10, "number", "a tick number is 0 or above 18 digits, or a channel above 9,999";

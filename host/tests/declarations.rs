@@ -413,7 +413,7 @@ fn frames(s: &mut Script, d: &mut Dice) {
 
     let (name, body) = made::any_body(d);
     let name = u32::from_be_bytes(name);
-    let (time, seq) = (d.edge(), d.edge());
+    let (time, seq) = (d.time(), d.edge());
     let mut out = vec![0; about(d, body.len() + 28)];
     let asked = format!("{name} {time} {seq} {} {}", out.len(), hex(&body));
     let answer = host::write(name, time, SessionNumber::new(seq), &body, &mut out);
@@ -697,6 +697,9 @@ fn ten_lines_of_c_scrub_a_frame() {
     for name in made::TYPES {
         let body = made::body(d, name, &mut Ticks(0), 100);
         let mut f = made::frame(d, name, &body);
+        while host::read(&f, 0).is_err() {
+            f = made::frame(d, name, &body); // at a time that is none
+        }
         let said = run(&mut Command::new(&program), &f);
         host::scrub(&mut f).expect("a frame that reads");
         assert!(said == f, "a scrubbed frame differs");
