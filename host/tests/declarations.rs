@@ -413,7 +413,7 @@ fn frames(s: &mut Script, d: &mut Dice) {
 
     let (name, body) = made::any_body(d);
     let name = u32::from_be_bytes(name);
-    let (time, seq) = (d.time(), d.edge());
+    let (time, seq) = (made::time(d), d.edge());
     let mut out = vec![0; about(d, body.len() + 28)];
     let asked = format!("{name} {time} {seq} {} {}", out.len(), hex(&body));
     let answer = host::write(name, time, SessionNumber::new(seq), &body, &mut out);

@@ -18,6 +18,8 @@ pub enum No {
     Sum,
     /// 6: a field rule is broken
     Field,
+    /// 7: SendingTime is no real time (CR 6)
+    Time,
     /// 8: output buffer shorter than what is to be written
     Room,
     /// 9: search start beyond the end
@@ -60,6 +62,7 @@ impl No {
             No::Length => 4,
             No::Sum => 5,
             No::Field => 6,
+            No::Time => 7,
             No::Room => 8,
             No::Place => 9,
             No::Number => 10,

@@ -2,6 +2,7 @@
 
 use crate::answer::No;
 use crate::bytes::{number, put, sum};
+use crate::calendar::real;
 use crate::numbers::Session;
 use crate::rules::{Kind, MOST_BODY};
 
@@ -30,7 +31,7 @@ impl Message {
 
 /// Reads the frame at the front of the bytes; what follows it does not matter
 /// (0.6). "Reading checks in this order: 24 bytes, 2, 3, 4, whole length, 5,
-/// 6."
+/// 6", and 7 "after 5 and before 6" (CR 6).
 pub fn read(bytes: &[u8]) -> Result<Message, No> {
     // "fewer than 24 bytes"
     if bytes.len() < HEADER {
@@ -61,6 +62,10 @@ pub fn read(bytes: &[u8]) -> Result<Message, No> {
     if number(&bytes[end..end + CHECK_SUM]) != u64::from(sum(&bytes[..end])) {
         return Err(No::Sum);
     }
+    // 7: "A frame's time must be a real date"
+    if !real(sending_time) {
+        return Err(No::Time);
+    }
     // 6: "a field rule is broken"
     let body = &bytes[HEADER..end];
     if !kind.fields_hold(body) {
@@ -75,7 +80,7 @@ pub fn read(bytes: &[u8]) -> Result<Message, No> {
 }
 
 /// Writes the message's frame to the front of the buffer and answers its
-/// length. "Writing checks 2, 3, 4, 6, 8." A refusal leaves the buffer as it
+/// length. Writing checks 2, 3, 4, 7, 6, 8 (6.1). A refusal leaves the buffer as it
 /// stood; "success leaves bytes beyond the written ones as they stood".
 pub fn write(message: &Message, out: &mut [u8]) -> Result<usize, No> {
     let Some(kind) = Kind::of(message.msg_type) else {
@@ -87,6 +92,9 @@ pub fn write(message: &Message, out: &mut [u8]) -> Result<usize, No> {
     }
     if !kind.length_suits(length) {
         return Err(No::Length);
+    }
+    if !real(message.sending_time) {
+        return Err(No::Time);
     }
     if !kind.fields_hold(&message.body) {
         return Err(No::Field);

@@ -9,6 +9,7 @@
 pub mod answer;
 pub mod answers;
 pub mod bytes;
+pub mod calendar;
 pub mod cases;
 pub mod clean;
 pub mod entries;

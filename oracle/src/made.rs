@@ -3,6 +3,7 @@
 //! data are made up.
 
 use crate::bytes::{number, put, sum};
+use crate::calendar::days_in;
 use crate::ledger::{map_of, Places, Words, PLACES};
 use crate::numbers::MOST;
 use crate::stream::KEPT;
@@ -413,10 +414,40 @@ pub fn spoil_body(d: &mut Dice, name: &[u8; 4], b: &mut Vec<u8>) {
     }
 }
 
+/// A real time nine times of ten, else one with a part beside its bounds.
+pub fn time(d: &mut Dice) -> u64 {
+    let year = match d.below(4) {
+        0 => d.of(&[2000, 2004, 2100, 2400, 9999]),
+        _ => 2000 + d.below(8_000),
+    };
+    let month = 1 + d.below(12);
+    let day = 1 + d.up_to(days_in(year, month));
+    let mut parts = [year, month, day, d.up_to(24), d.up_to(60), d.up_to(60)];
+    let thousandth = d.up_to(1_000);
+    if d.once_in(10) {
+        let i = d.len(7);
+        let beside: [&[u64]; 7] = [
+            &[1999, 10_000, 0],
+            &[0, 13, 99],
+            &[0, days_in(year, month) + 1, 99],
+            &[24, 99],
+            &[60, 99],
+            &[60, 99],
+            &[0],
+        ];
+        if i == 6 {
+            return d.edge();
+        }
+        parts[i] = d.of(beside[i]);
+    }
+    let time = parts.iter().fold(0, |time, part| time * 100 + part);
+    time * 1_000 + thousandth
+}
+
 /// The frame of a body, its sum right whatever the body is.
 pub fn frame(d: &mut Dice, name: &[u8; 4], body: &[u8]) -> Vec<u8> {
     let mut f = name.to_vec();
-    f.extend(d.edge().to_be_bytes());
+    f.extend(time(d).to_be_bytes());
     f.extend(d.edge().to_be_bytes());
     f.extend((body.len() as u32).to_be_bytes());
     f.extend(body);

@@ -25,7 +25,8 @@ pub struct Record {
 
 impl Record {
     /// "If reading answered 1 to 6, MsgType is four spaces and all numbers but
-    /// place, answer, floor and top are 0."
+    /// place, answer, floor and top are 0", and "a record of answer 7 is filled
+    /// as one of 1 to 6" (CR 6).
     pub fn refused(place: u64, answer: u32, floor: Tick, top: Tick) -> Record {
         Record {
             place,

@@ -42,6 +42,11 @@ fn around() -> Vec<u8> {
     framed(b"M101", &[heartbeat(), announced(100, 3)].concat())
 }
 
+/// The frame with another time.
+fn sent(time: u64, frame: &[u8]) -> Vec<u8> {
+    mended(with(frame, 4, 8, time))
+}
+
 /// The captures, each with its name.
 pub fn made() -> Vec<(&'static str, Vec<u8>)> {
     let stray = vec![0xFF];
@@ -171,6 +176,17 @@ pub fn made() -> Vec<(&'static str, Vec<u8>)> {
         (
             "a type and nothing else",
             [&heartbeat()[..4], &heartbeat()[..4], &heartbeat()].concat(),
+        ),
+        (
+            "a frame of month 13 before good ones, and within one",
+            [
+                sent(20_261_301_093_000_000, &tick(1)),
+                tick(1),
+                framed(b"M101", &sent(0, &tick(2))),
+                sent(20_260_230_093_000_000, &around()),
+                tick(3),
+            ]
+            .concat(),
         ),
         (
             "texts of every kind",

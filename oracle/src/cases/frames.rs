@@ -175,6 +175,7 @@ fn resized(body: &[u8], length: usize) -> Body {
 
 pub fn frames<A: Answers>(run: &mut Run<A>) {
     examples(run);
+    times(run);
     fields(run);
     lengths(run);
     types(run);
@@ -228,11 +229,9 @@ fn fields<A: Answers>(run: &mut Run<A>) {
             run.body(&format!("{name}: {value}"), msg_type, &changed);
         }
     }
-    for (name, at) in [("MsgSeqNum, not judged", 12), ("SendingTime", 4)] {
-        for value in [0, MAX] {
-            let frame = mended(with(&framed(b"S003", &[]), at, 8, value));
-            run.frame(&format!("{name}: {value}"), &frame);
-        }
+    for value in [0, MAX] {
+        let frame = mended(with(&framed(b"S003", &[]), 12, 8, value));
+        run.frame(&format!("MsgSeqNum, not judged: {value}"), &frame);
     }
     let body = with(&short(), 10, 5, number(b"MD002"));
     run.body("long entries told, short ones there", b"M102", &body);
@@ -242,6 +241,62 @@ fn fields<A: Answers>(run: &mut Run<A>) {
             run.body(&pair, b"M102", &m102(security_type, stream, 0));
         }
     }
+}
+
+/// CR 6: at and beside every bound of a real time, each month's last day, and
+/// the leap years.
+#[rustfmt::skip]
+const TIMES: &[u64] = &[
+    0, MAX, 1, TIME,
+    19_991_231_235_959_999, 20_000_101_000_000_000, 99_991_231_235_959_999, 100_000_101_000_000_000,
+    20_260_021_093_000_000, 20_260_121_093_000_000, 20_261_221_093_000_000, 20_261_321_093_000_000,
+    20_269_921_093_000_000, 20_260_100_093_000_000, 20_260_101_093_000_000, 20_260_199_093_000_000,
+    20_260_121_000_000_000, 20_260_121_235_959_999, 20_260_121_240_000_000, 20_260_121_990_000_000,
+    20_260_121_095_900_000, 20_260_121_096_000_000, 20_260_121_095_959_000, 20_260_121_095_960_000,
+    20_260_121_235_960_000, 20_260_121_093_000_999, 2_026_012_109_300_000, 202_601_210_930_000_000,
+    20_000_229_000_000_000, 20_000_230_000_000_000, 20_010_229_000_000_000, 20_040_229_000_000_000,
+    20_260_228_000_000_000, 20_260_229_000_000_000, 21_000_228_000_000_000, 21_000_229_000_000_000,
+    24_000_229_000_000_000, 99_960_229_000_000_000, 99_990_229_000_000_000,
+];
+
+fn times<A: Answers>(run: &mut Run<A>) {
+    let months = (1..=12).flat_map(|month| (28..=32).map(move |day| month * 100 + day));
+    let last_days = months.map(|date| (20_260_000 + date) * 1_000_000_000);
+    for time in TIMES.iter().copied().chain(last_days) {
+        run.frame(&format!("SendingTime {time}"), &timed(b"S003", &[], time));
+        let message = Message {
+            sending_time: time,
+            ..message(b"S003", &[])
+        };
+        run.message(&message, 0);
+    }
+    let month_13 = 20_261_301_093_000_000;
+    let bad_field = with(&p001(), 0, 1, 12);
+    let both = timed(b"P001", &bad_field, month_13);
+    run.frame("7 before 6", &both);
+    run.frame("5 before 7", &with(&both, 39, 1, 0));
+    run.frame("the whole length before 7", &both[..39]);
+    run.frame("4 before 7", &timed(b"P001", &p001()[..11], month_13));
+    run.frame("2 before 7", &timed(b"P003", &p001(), month_13));
+    for (name, msg_type, body) in [
+        ("2 before 7", b"P003", p001()),
+        ("3 before 7", b"P001", vec![0x20; 8_165]),
+        ("4 before 7", b"P001", p001()[..11].to_vec()),
+        ("7 before 6", b"P001", bad_field),
+        ("7 before 8", b"P001", p001()),
+    ] {
+        run.case(&format!("writing, {name}"));
+        let message = Message {
+            sending_time: month_13,
+            ..message(msg_type, &body)
+        };
+        run.write(&message, 0);
+    }
+}
+
+/// The frame of a body, sent at that time.
+fn timed(msg_type: &[u8; 4], body: &[u8], time: u64) -> Vec<u8> {
+    mended(with(&framed(msg_type, body), 4, 8, time))
 }
 
 fn lengths<A: Answers>(run: &mut Run<A>) {

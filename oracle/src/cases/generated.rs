@@ -64,7 +64,7 @@ fn writing<A: Answers>(run: &mut Run<A>, d: &mut Dice) {
     let (msg_type, body) = made::any_body(d);
     let message = Message {
         msg_type,
-        sending_time: d.edge(),
+        sending_time: made::time(d),
         seq: Session(d.edge()),
         body,
     };

@@ -25,10 +25,10 @@ use std::fmt::Write;
 
 /// Every number that each call can give: cases that give fewer try too little.
 pub const NUMBERS: [(&str, &[u32]); 19] = [
-    ("read", &[0, 1, 2, 3, 4, 5, 6]),
-    ("write", &[0, 2, 3, 4, 6, 8]),
+    ("read", &[0, 1, 2, 3, 4, 5, 6, 7]),
+    ("write", &[0, 2, 3, 4, 6, 7, 8]),
     ("search", &[0, 9]),
-    ("scrub", &[0, 1, 2, 3, 4, 5, 6]),
+    ("scrub", &[0, 1, 2, 3, 4, 5, 6, 7]),
     ("private", &[0]),
     ("entries", &[0, 3, 4, 6]),
     ("entry", &[0, 20]),

@@ -208,20 +208,32 @@ fn m101_is_not_judged() {
 
 #[test]
 fn header_numbers_are_carried_without_judgement() {
-    for (at, width) in [(4, 8), (12, 8)] {
-        for value in [0, 1, 999_999_999_999_999_999, u64::MAX] {
-            let mut bytes = framed(b"P001", &p001());
-            oracle::bytes::put(&mut bytes, at, width, value);
-            let end = bytes.len() - 4;
-            let check = u64::from(oracle::bytes::sum(&bytes[..end]));
-            oracle::bytes::put(&mut bytes, end, 4, check);
-            let message = oracle::frame::read(&bytes).unwrap();
-            let carried = if at == 4 {
-                message.sending_time
-            } else {
-                message.seq.0
-            };
-            assert_eq!(carried, value);
-        }
+    for value in [0, 1, 999_999_999_999_999_999, u64::MAX] {
+        let bytes = mended(with(&framed(b"P001", &p001()), 12, 8, value));
+        assert_eq!(oracle::frame::read(&bytes).unwrap().seq.0, value);
+    }
+}
+
+/// CR 6. What a real time is, `oracle::calendar` tries.
+#[test]
+fn a_time_that_is_none_is_7() {
+    let sent = |body: &[u8], time| mended(with(&framed(b"P001", body), 4, 8, time));
+    for time in [20_000_229_235_959_999, 99_991_231_000_000_000] {
+        let bytes = sent(&p001(), time);
+        assert_eq!(oracle::frame::read(&bytes).unwrap().sending_time, time);
+    }
+    for time in [0, u64::MAX, 20_261_301_093_000_000] {
+        let bytes = sent(&p001(), time);
+        assert_eq!(reads(&bytes), 7);
+        // After 5 and before 6.
+        assert_eq!(reads(&with(&bytes, 39, 1, 0)), 5);
+        let spoilt = with(&p001(), 0, 1, 12);
+        assert_eq!(reads(&sent(&spoilt, time)), 7);
+        // Writing: 2, 3, 4, 7, 6, 8.
+        let mut m = message(b"P001", &spoilt);
+        m.sending_time = time;
+        assert_eq!(writes(&m, 0), 7);
+        m.body.pop();
+        assert_eq!(writes(&m, 0), 4);
     }
 }

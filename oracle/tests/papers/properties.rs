@@ -88,7 +88,7 @@ fn what_is_written_is_read_back() {
         let (msg_type, body) = dice.body();
         let m = Message {
             msg_type: *msg_type,
-            sending_time: dice.roll(u64::MAX),
+            sending_time: TIME + dice.roll(1_000),
             seq: Session(dice.roll(u64::MAX)),
             body,
         };
