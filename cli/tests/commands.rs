@@ -19,7 +19,7 @@ fn help_and_version() {
             .starts_with("usage: rietknoest list [--follow] [FILE]\n"));
         assert_eq!((ran.status, ran.error()), (Some(0), ""));
     }
-    run(&folder, &["--version"]).quiet(0, "rietknoest 0.1.0\n");
+    run(&folder, &["--version"]).quiet(0, concat!("rietknoest ", env!("CARGO_PKG_VERSION"), "\n"));
 }
 
 #[test]
