@@ -1,4 +1,4 @@
-pub mod Parts
-pub mod PassLaws
+mod Keeps
+mod PassLaws
 pub mod OneAnswer
 pub mod RuledOut

@@ -8,7 +8,7 @@ use lib.ListN.{length, take, drop, length-append}
 use mathlib.Core.Bool.{true, false}
 use lib.Dec.{eqb, leb, ltb}
 use borrow.Author.Tests.{le-leb, leb-true, lt-ltb, le-ltb}
-use Rattle.terms.specs.Paper.{pick, answer}
+use Rattle.terms.specs.Paper.{pick, answer, refusal}
 use Rattle.terms.specs.Cases.{two, same}
 use Rattle.octets.specs.Octets.{laid}
 use Rattle.octets.specs.Papers.{laidIfRoom, laid-there, laid-kept}
@@ -20,12 +20,15 @@ use Rattle.seen.specs.declared.Seen.{Seen}
 use Rattle.seen.specs.Seen.{seenOf, saysOf}
 use Rattle.trail.specs.Walk.{sights, accepts, framesOf}
 use Rattle.trail.specs.Counts.{accepts-one}
+use Rattle.clean.specs.declared.Kept.{Kept}
 use Rattle.clean.specs.declared.Passed.{Passed}
 use Rattle.wash.specs.Clean.{framesIn, cleanIn, cleanOf, foundBy, foundIn, foundOf, differOf, checkOf}
-use Rattle.clean.specs.Passes.{passedOf}
+use Rattle.clean.specs.Passes.{passedOf, keptOf}
 use Rattle.wash.specs.Steps.{Steps}
 use Rattle.wash.specs.Differ.{differ-end, differ-more}
-use Rattle.wash.specs.Turns.{refused-size, size-small, steps-frame, frame-length, adds}
+use Rattle.wire.specs.Search.{searchOf}
+use Rattle.trail.specs.Onward.{goes-inside}
+use Rattle.wash.specs.Turns.{refused-size, size-inside, size-small, steps-frame, steps-found, steps-none, frame-length, adds}
 
 -- whatever has room, the buffer keeps its length
 laid-length : (at : ℕ) (bs d : List ℕ) → length (laidIfRoom at bs d) ≡ length d
@@ -79,10 +82,10 @@ left-start s out =
       written = λ h. refl;
     }
 
-pub left-step : {s out₀ out out′ : List ℕ} {p r bytes frames found before k j : ℕ} {x : Seen} (w : Left s out₀ out p bytes frames found before)
+step : {s out₀ out out′ : List ℕ} {p r bytes frames found before k j : ℕ} {x : Seen} (w : Left s out₀ out p bytes frames found before)
     → x ≡ seenOf (drop p s) → out′ ≡ laidIfRoom bytes (scrubbed (take (x .size) (drop p s))) out → Steps s p (x .size) r → k ≡ accepts (x .answer) → (j ≡ foundBy before (x .answer)) × (j ≤ 1)
     → Left s out₀ out′ r (bytes + x .size) (frames + k) (found + j) (x .answer)
-left-step {s} {out₀} {out} {out′} {p} {r} {bytes} {frames} {found} {before} {k} {j} {x} w e o g ke je =
+step {s} {out₀} {out} {out′} {p} {r} {bytes} {frames} {found} {before} {k} {j} {x} w e o g ke je =
     let frame = scrubbed (take (x .size) (drop p s)) in
     let next = left-next s p r x e g in
     let long : length frame ≡ x .size = frame-length s p x e (w .inside) in
@@ -106,6 +109,15 @@ left-step {s} {out₀} {out} {out′} {p} {r} {bytes} {frames} {found} {before} 
           ∙ w .written f;
     }
 
+pub left-step : {s out₀ out out′ : List ℕ} {p r bytes frames found before k j : ℕ} (x : Kept) (w : Left s out₀ out p bytes frames found before)
+    → (x ≡ keptOf (seenOf (drop p s))) × (out′ ≡ laidIfRoom bytes (scrubbed (take (seenOf (drop p s) .size) (drop p s))) out) → Steps s p (x .size) r → k ≡ accepts (x .answer) → (j ≡ foundBy before (x .answer)) × (j ≤ 1)
+    → Left s out₀ out′ r (bytes + x .size) (frames + k) (found + j) (x .answer)
+left-step {s} {out₀} {out} {out′} {p} {r} {bytes} {frames} {found} {before} {k} {j} x w h g ke je =
+    let seen = seenOf (drop p s) in
+    let size : x .size ≡ seen .size = ap (λ (y : Kept). y .size) (h .0) in
+    let told : x .answer ≡ seen .answer = ap (λ (y : Kept). y .answer) (h .0) in
+    rw (size, told) (step w refl (h .1) (rw size at g) (rw told at ke) (rw told at je))
+
 -- at the end nothing is left
 left-none : (s : List ℕ) (p : ℕ) → length s ≤ p → leftOf p s ≡ []
 unfolding framesIn eachOf joined
@@ -122,6 +134,48 @@ left-end {s} {out₀} {out} {p} {bytes} {frames} {found} {before} w h =
     let d : found ≡ foundOf s = omega (arith, rw e at (w .searched)) in
     (rw (c, f, d), λ (r : length (cleanOf s) ≤ length out₀). sym (laid-nil bytes out) ∙ ap (λ (l : List ℕ). laid bytes l out) (sym n) ∙ w .written r)
 
+-- ONE READING, by what became of it: how many bytes its frame has, what it adds, and where the next reading is
+module _ (s : List ℕ) (p : ℕ) (x : Kept) (e : x ≡ keptOf (seenOf (drop p s))) where
+  size-is : x .size ≡ seenOf (drop p s) .size
+  size-is = ap (λ (y : Kept). y .size) e
+
+  answer-is : x .answer ≡ seenOf (drop p s) .answer
+  answer-is = ap (λ (y : Kept). y .answer) e
+
+  refused-is : (x .answer ≡ 0 → ⊥) → seenOf (drop p s) .answer ≡ 0 → ⊥
+  refused-is ne z = ne (answer-is ∙ z)
+
+  pub kept-inside : p ≤ length s → p + x .size ≤ length s
+  kept-inside h = rw size-is (size-inside s p (seenOf (drop p s)) refl h)
+
+  pub kept-small : x .size ≤ 8192
+  kept-small = rw size-is (size-small s p (seenOf (drop p s)) refl)
+
+  abbrev scrubbedAt : List ℕ
+  scrubbedAt = scrubbed (take (x .size) (drop p s))
+
+  kept-length : p ≤ length s → length scrubbedAt ≡ x .size
+  kept-length h = rw size-is (frame-length s p (seenOf (drop p s)) refl h)
+
+  kept-next : (q : ℕ) → Steps s p (x .size) q → leftOf p s ≡ scrubbedAt ++ leftOf q s
+  kept-next q g = rw size-is (left-next s p q (seenOf (drop p s)) refl (rw size-is at g))
+
+  kept-refused : (x .answer ≡ 0 → ⊥) → x .size ≡ 0
+  kept-refused ne = size-is ∙ refused-size s p (seenOf (drop p s)) refl (refused-is ne)
+
+  module _ (h : p < length s) where
+    pub kept-frame : x .answer ≡ 0 → Steps s p (x .size) (p + x .size)
+    kept-frame z = rw size-is (steps-frame s p (seenOf (drop p s)) refl h (sym answer-is ∙ z))
+
+    pub kept-found : (x .answer ≡ 0 → ⊥) → (q : ℕ) → answer 0 (q ∷ []) ≡ searchOf s (p + 1) → Steps s p (x .size) q
+    kept-found ne q f = rw size-is (steps-found s p (seenOf (drop p s)) refl h (refused-is ne) q f)
+
+    pub kept-none : (x .answer ≡ 0 → ⊥) → answer 0 [] ≡ searchOf s (p + 1) → Steps s p (x .size) (length s)
+    kept-none ne f = rw size-is (steps-none s p (seenOf (drop p s)) refl h (refused-is ne) f)
+
+    pub kept-within : (x .answer ≡ 0 → ⊥) → refusal 9 ≡ searchOf s (p + 1) → ⊥
+    kept-within ne f = goes-inside s p (seenOf (drop p s)) h refl (refused-is ne) f
+
 -- The invariant of `is_clean`: what stands from n on differs from what is left to be cleaned where the capture differs from the cleaned one.
 pub record Same (s one : List ℕ) (p n : ℕ) : Type 0 where
   pub inside : p ≤ length s
@@ -134,25 +188,28 @@ unfolding cleanOf
 same-start s one l = record { inside = omega arith; few = omega arith; room = l; differs = refl }
 
 -- the reading at p made its frame at the front of one
-module _ (s one one′ : List ℕ) (p n : ℕ) (x : Seen) (w : Same s one p n) (e : x ≡ seenOf (drop p s))
-    (o : one′ ≡ laidIfRoom 0 (scrubbed (take (x .size) (drop p s))) one) where
+module _ (s one one′ : List ℕ) (p n : ℕ) (x : Kept) (w : Same s one p n)
+    (h : (x ≡ keptOf (seenOf (drop p s))) × (one′ ≡ laidIfRoom 0 (scrubbed (take (seenOf (drop p s) .size) (drop p s))) one)) where
   abbrev frame : List ℕ
   frame = scrubbed (take (x .size) (drop p s))
 
+  is-laid : one′ ≡ laidIfRoom 0 frame one
+  is-laid = h .1 ∙ ap (λ (m : ℕ). laidIfRoom 0 (scrubbed (take m (drop p s))) one) (sym (size-is s p x (h .0)))
+
   made : one′ ≡ laid 0 frame one
-  made = o ∙ laid-there 0 (x .size) frame one (frame-length s p x e (w .inside)) (le-leb (0 + x .size) (length one) (omega (arith, size-small s p x e, w .room)))
+  made = is-laid ∙ laid-there 0 (x .size) frame one (kept-length s p x (h .0) (w .inside)) (le-leb (0 + x .size) (length one) (omega (arith, kept-small s p x (h .0), w .room)))
 
   front : take (x .size) one′ ≡ frame
-  front = ap (take (x .size)) made ∙ take-front (x .size) frame one (frame-length s p x e (w .inside))
+  front = ap (take (x .size)) made ∙ take-front (x .size) frame one (kept-length s p x (h .0) (w .inside))
 
   pub one-long : length one′ ≡ 8192
-  one-long = ap length o ∙ laid-length 0 frame one ∙ w .room
+  one-long = ap length is-laid ∙ laid-length 0 frame one ∙ w .room
 
   -- and k bytes of it stand at n
   module _ (k : ℕ) (a : (rest : List ℕ) → differOf n (drop n s) (take (x .size) one′ ++ rest) ≡ pick (ltb k (x .size)) ((n + k) ∷ []) (differOf (n + x .size) (drop (n + x .size) s) rest)) where
     differs : (q : ℕ) → Steps s p (x .size) q → differOf 0 s (cleanOf s) ≡ pick (ltb k (x .size)) ((n + k) ∷ []) (differOf (n + x .size) (drop (n + x .size) s) (leftOf q s))
     differs q g =
-        sym (w .differs) ∙ ap (differOf n (drop n s)) (left-next s p q x e g ∙ ap (λ (l : List ℕ). l ++ leftOf q s) (sym front)) ∙ a (leftOf q s)
+        sym (w .differs) ∙ ap (differOf n (drop n s)) (kept-next s p x (h .0) q g ∙ ap (λ (l : List ℕ). l ++ leftOf q s) (sym front)) ∙ a (leftOf q s)
 
     pub same-step : (q : ℕ) → Steps s p (x .size) q → x .size ≤ k → Same s one′ q (n + x .size)
     same-step q g f =
@@ -165,14 +222,14 @@ module _ (s one one′ : List ℕ) (p n : ℕ) (x : Seen) (w : Same s one p n) (
 
     -- a reading with bytes is a frame, and the walk steps past it
     past : p < length s → k < x .size → Steps s p (x .size) (p + x .size)
-    past h f =
-        ⊎-elim (λ (z : x .answer ≡ 0). steps-frame s p x e h z)
-        (λ (ne : x .answer ≡ 0 → ⊥). absurd (omega (arith, f, refused-size s p x e ne)))
+    past l f =
+        ⊎-elim (λ (z : x .answer ≡ 0). kept-frame s p x (h .0) l z)
+        (λ (ne : x .answer ≡ 0 → ⊥). absurd (omega (arith, f, kept-refused s p x (h .0) ne)))
         (same (x .answer) 0)
 
     pub same-here : p < length s → k < x .size → answer 0 ((n + k) ∷ []) ≡ checkOf s
     unfolding checkOf
-    same-here h f = ap (answer 0) (sym (differs (p + x .size) (past h f) ∙ rw (lt-ltb k (x .size) f)))
+    same-here l f = ap (answer 0) (sym (differs (p + x .size) (past l f) ∙ rw (lt-ltb k (x .size) f)))
 
 -- at the end nothing is left to be cleaned
 module _ {s one : List ℕ} {p n : ℕ} (w : Same s one p n) (h : length s ≤ p) where

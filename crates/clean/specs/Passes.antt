@@ -1,10 +1,15 @@
--- One pass over a capture.
+-- One reading of a pass over a capture, and the whole pass.
 use Prim.Native.Nat.{ℕ}
 use mathlib.Core.List.{List}
 use lib.ListN.{length}
 use Rattle.trail.specs.Walk.{sights, framesOf}
+use Rattle.seen.specs.declared.Seen.{Seen}
+use Rattle.clean.specs.declared.Kept.{Kept}
 use Rattle.clean.specs.declared.Passed.{Passed}
 use Rattle.wash.specs.Clean.{cleanOf, foundOf}
+
+abbrev pub keptOf : Seen → Kept
+keptOf x = record { answer = x .answer; size = x .size }
 
 unfoldable pub passedOf : List ℕ → Passed
 passedOf s = record { bytes = length (cleanOf s); frames = framesOf (sights s); «after_damage» = foundOf s }

@@ -8,17 +8,15 @@ ghost use Rattle.terms.specs.Paper.{pick};
 ghost use Rattle.octets.specs.Octets.{laid};
 ghost use Rattle.octets.specs.Papers.{laidIfRoom};
 ghost use Rattle.private.specs.Scrub.{scrubbed};
-ghost use Rattle.private.specs.Known.{knownLeaves};
 ghost use Rattle.seen.specs.Seen.{seenOf};
 ghost use Rattle.trail.specs.Walk.{accepts};
 ghost use Rattle.wash.specs.Clean.{cleanOf, differOf, foundBy, fitsIn, cleanAnswer, cleanLeaves, checkOf};
 ghost use Rattle.wash.specs.Steps.{Steps};
 ghost use Rattle.clean.specs.Papers.{cleanPaper, checkPaper};
-ghost use Rattle.clean.specs.Passes.{passedOf};
+ghost use Rattle.clean.specs.Passes.{passedOf, keptOf};
 use frame::Found;
 use ledger::Answer;
-use rules::Kind;
-use seen::Seen;
+use octets::Written;
 use terms::Refusal;
 
 // What cleaning answers: 0, or 8 where the buffer can't take the cleaned bytes; how many bytes were written, how many frames
@@ -37,6 +35,12 @@ pub enum Check {
     Changed(usize),
 }
 
+// What became of a reading: its answer, and how many bytes its frame has, none where it was refused.
+struct Kept {
+    answer: u32,
+    size: usize,
+}
+
 // What one pass over a capture comes to.
 struct Passed {
     bytes: usize,
@@ -46,12 +50,12 @@ struct Passed {
 
 // The place of the next reading, behind the one at p: past the frame, or where the search from the next byte on finds one; the
 // end where it finds none.
-fn onward(capture: &[u8], p: usize, seen: Seen) -> usize
-    requires { ⌜ (p < length (now capture)) × (seen ≡ seenOf (drop p (now capture))) ⌝ }
-    ensures { λ r. ⌜ Steps (now (capture .entry)) p (seen .size) r ⌝ }
+fn onward(capture: &[u8], p: usize, kept: Kept) -> usize
+    requires { ⌜ (p < length (now capture)) × (kept ≡ keptOf (seenOf (drop p (now capture)))) ⌝ }
+    ensures { λ r. ⌜ Steps (now (capture .entry)) p (kept .size) r ⌝ }
 {
-    if seen.answer == 0 {
-        return p + seen.size;
+    if kept.answer == 0 {
+        return p + kept.size;
     }
     match frame::search(capture, p + 1) {
         Found::At(q) => q,
@@ -60,27 +64,21 @@ fn onward(capture: &[u8], p: usize, seen: Seen) -> usize
     }
 }
 
-// Scrubs the bytes from a up to e where they stand, as a frame of that type whose body has n bytes: that part is passed on to the
-// scrubber.
-fn scrub_part(out: &mut [u8], a: usize, e: usize, kind: Kind, n: usize)
-    requires { ⌜ (a ≤ e) × (e ≤ length (now out)) ⌝ }
-    ensures { λ _. ⌜ now (out .exit) ≡ laid a (knownLeaves kind n (take (e - a) (drop a (now (out .entry))))) (now (out .entry)) ⌝ }
+// Reads the frame at p of the capture and lays it over out from n on, scrubbed, where it has room. What has none, or is refused, is
+// read once more: its answer and its size are told all the same.
+fn keep(capture: &[u8], p: usize, out: &mut [u8], n: usize) -> Kept
+    ensures { λ r. ⌜ (r ≡ keptOf (seenOf (drop p (now (capture .entry)))))
+        × (now (out .exit) ≡ laidIfRoom n (scrubbed (take (seenOf (drop p (now (capture .entry))) .size) (drop p (now (capture .entry))))) (now (out .entry))) ⌝ }
 {
-    scrub::scrub_known(&mut out[a..e], kind, n);
-}
-
-// Lays the frame that was seen at p of the capture over out from n on, scrubbed, where it has room. It was read when it was seen,
-// and is not read again. A reading that was refused has no bytes, and lays none.
-fn keep(out: &mut [u8], n: usize, capture: &[u8], p: usize, seen: Seen)
-    requires { ⌜ (n ≤ p) × ((p ≤ length (now capture)) × (seen ≡ seenOf (drop p (now capture)))) ⌝ }
-    ensures { λ _. ⌜ now (out .exit) ≡ laidIfRoom n (scrubbed (take (seen .size) (drop p (now (capture .entry))))) (now (out .entry)) ⌝ }
-{
-    let end = p + seen.size;
-    let behind = n + seen.size;
-    if behind <= out.len() {
-        octets::lay(out, n, &capture[p..end]);
-        let kind = rules::kind_of(seen.msg_type);
-        scrub_part(out, n, behind, kind, seen.body_len as usize);
+    match scrub::scrub_into(capture, p, out, n) {
+        Written::Bytes(size) => Kept { answer: 0, size },
+        Written::Refused(_) => {
+            let seen = seen::see(capture, p);
+            Kept {
+                answer: seen.answer,
+                size: seen.size,
+            }
+        }
     }
 }
 
@@ -109,13 +107,12 @@ fn pass(capture: &[u8], out: &mut [u8]) -> Passed
     let mut after_damage: usize = 0;
     let mut before: u32 = 0;
     while p < capture.len() {
-        let seen = seen::see(capture, p);
-        keep(out, bytes, capture, p, seen);
-        p = onward(capture, p, seen);
-        bytes += seen.size;
-        frames += accepted(seen.answer);
-        after_damage += found(before, seen.answer);
-        before = seen.answer;
+        let kept = keep(capture, p, out, bytes);
+        p = onward(capture, p, kept);
+        bytes += kept.size;
+        frames += accepted(kept.answer);
+        after_damage += found(before, kept.answer);
+        before = kept.answer;
     }
     Passed {
         bytes,
@@ -185,15 +182,14 @@ pub fn is_clean(capture: &[u8]) -> Check
     let mut at: usize = 0;
     let mut n: usize = 0;
     while at < capture.len() {
-        let seen = seen::see(capture, at);
-        keep(&mut one, 0, capture, at, seen);
-        let same = agreed(capture, n, &one, seen.size);
-        if same < seen.size {
+        let kept = keep(capture, at, &mut one, 0);
+        let same = agreed(capture, n, &one, kept.size);
+        if same < kept.size {
             let place = n + same;
             return Check::Changed(place);
         }
-        at = onward(capture, at, seen);
-        n += seen.size;
+        at = onward(capture, at, kept);
+        n += kept.size;
     }
     if n < capture.len() {
         return Check::Changed(n);

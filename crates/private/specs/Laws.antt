@@ -4,37 +4,35 @@ use Prim.Native.Nat.{ℕ, _+_, _-_, _<_, _≤_}
 use mathlib.Core.Bool.{true}
 use mathlib.Core.Path.{_≡_, refl, sym, ap, _∙_}
 use mathlib.Core.Logic.{_⊎_, inl, inr, ⊎-elim}
-use mathlib.Core.List.{List, [], _∷_, _++_, append-assoc}
+use mathlib.Core.List.{List, [], _∷_, _++_}
 use native.Mathlib.Omega.{arith}
-use lib.ListN.{length, getD, take, drop, length-append}
-use lib.Seq.{take-add, length-take-le, getD-take, getD-drop}
+use lib.ListN.{length, getD, take, drop}
+use lib.Seq.{take-add, length-take-le, drop-at, getD-take, getD-drop}
 use borrow.Author.Tests.{eq-eqb, ne-eqb}
-use Rattle.terms.specs.Paper.{Paper, answer, one-number}
+use Rattle.terms.specs.Paper.{answer, one-number}
 use Rattle.terms.specs.Cases.{less, same}
 use Rattle.terms.specs.Refusals.{refusal-pos}
 use Rattle.octets.specs.declared.Written.{Written}
 use Rattle.octets.specs.Papers.{writtenPaper, Refuses}
-use Rattle.octets.specs.Octets.{be, bytesOf, sum8, laid, Bytes}
-use Rattle.octets.specs.Numerals.{bytesOf-be, length-digits, numeral-below, numeral-take, last-byte}
+use Rattle.octets.specs.Octets.{be, bytesOf, sum8, laid}
+use Rattle.octets.specs.Numerals.{length-digits, numeral-append, numeral-take, last-byte}
 use Rattle.octets.specs.Sums.{sum8-below}
 use Rattle.octets.specs.Places.{laid-before, laid-in, laid-after}
-use Rattle.octets.specs.Overlays.{length-laid, laid-append, laid-front, laid-again, laid-same, take-laid, take-front}
+use Rattle.octets.specs.Overlays.{length-laid, laid-again, laid-same, take-laid, mid-laid, be-laid}
 use Rattle.rules.specs.Table.{kindOf, suits}
+use Rattle.rules.specs.Fields.{judgeOf}
 use Rattle.rules.specs.Outcomes.{measure-same}
 use Rattle.wire.specs.Frame.{msgType, sendingTime, msgSeqNum, bodyLength, body, plain, checkSum, readOf}
-use Rattle.wire.specs.Outcomes.{good, good-reads}
+use Rattle.wire.specs.Outcomes.{Good, good, good-reads}
 use Rattle.wire.specs.Measures.{fits}
 use Rattle.wire.specs.Places.{body-length}
-use Rattle.wire.specs.Write.{Message, message, messageOf, plainOf, frameOf}
-use Rattle.wire.specs.WriteLaws.{Sound, plain-length, frame-length}
-use Rattle.wire.specs.RoundTrip.{Widths, read-written, message-written}
+use Rattle.wire.specs.Write.{Message, message, messageOf}
 use Rattle.private.specs.declared.Span.{Span}
 use Rattle.rules.specs.declared.Kind.{Kind}
 use Rattle.private.specs.Private.{privateOf}
 use Rattle.private.specs.Scrub.{painted, spansOf, cleanBody, summed, scrubbed, scrubAnswer}
 use Rattle.private.specs.Paint.{Inside, Within, Agree, length-painted, painted-outside, painted-inside, painted-agrees, painted-same}
-use Rattle.private.specs.Known.{scrubbedAs, knownAnswer, knownLeaves}
-use Rattle.private.specs.KnownLaws.{known-done}
+use Rattle.private.specs.Within.{scrubbedAs}
 use Rattle.view.specs.View.{viewOf}
 use Rattle.private.specs.PrivateLaws.{view-same, private-few, private-within, private-filled, private-same, judged-same}
 
@@ -71,13 +69,6 @@ module _ (s : List ℕ) (z : readOf s .number ≡ 0) where
 
   agrees : Agree (spansOf s) (body s) (cleanBody s)
   agrees = rw (private-few (kindOf (msgType s)) (body s)) at (painted-agrees 4 (spansOf s) (body s) spans-within)
-
-  pub clean-sound : Sound (clean s)
-  clean-sound =
-      record {
-        measured = measure-same _ _ _ _ refl clean-long ∙ good s z .whole .measured;
-        fine = sym (judged-same (kindOf (msgType s)) (sendingTime s) (body s) (cleanBody s) agrees) ∙ good s z .fine;
-      }
 
   scrub-is : scrubbed s ≡ summed (24 + bodyLength s) (laid 24 (cleanBody s) s)
   scrub-is = scrubs s z
@@ -140,120 +131,142 @@ module _ (s : List ℕ) (z : readOf s .number ≡ 0) where
       ∙ laid-in 24 (cleanBody s) s room i (rw clean-long l)
       ∙ painted-inside 0x20 (spansOf s) (body s) spans-within (private-filled (kindOf (msgType s)) (body s)) i h
 
-  -- AS A FRAME: the scrubbed buffer is the frame of the message without what is private, laid over the front
-  module _ (b : Bytes s) where
-    header : ((bytesOf 4 (msgType s) ++ bytesOf 8 (sendingTime s)) ++ bytesOf 8 (msgSeqNum s)) ++ bytesOf 4 (bodyLength s) ≡ take 24 s
-    header =
-        rw (bytesOf-be 4 0 s b (omega (arith, there)), bytesOf-be 8 4 s b (omega (arith, there)), bytesOf-be 8 12 s b (omega (arith, there)), bytesOf-be 4 20 s b (omega (arith, there)))
-        (rw (← take-add 4 8 s, ← take-add 12 8 s, ← take-add 20 4 s))
+  -- AS A FRAME: the header as it was, the body without what is private, and the sum of the two
+  abbrev plainClean : List ℕ
+  plainClean = take 24 s ++ cleanBody s
 
-    plain-clean : plainOf (clean s) ≡ take 24 s ++ cleanBody s
-    unfolding plainOf
-    plain-clean = rw clean-long (ap (λ (h : List ℕ). h ++ cleanBody s) header)
+  head-long : length (take 24 s) ≡ 24
+  head-long = length-take-le 24 s (omega (arith, there))
 
-    laid-clean : laid 24 (cleanBody s) s ≡ laid 0 (plainOf (clean s)) s
-    unfolding laid
-    laid-clean = rw (plain-clean) (simp append-assoc (ap (λ (n : ℕ). take 24 s ++ (cleanBody s ++ drop n s)) long-plain))
-      where
-        long-plain : 24 + length (cleanBody s) ≡ 0 + length (take 24 s ++ cleanBody s)
-        long-plain = rw (length-append, length-take-le 24 s (omega (arith, there))) (omega arith)
+  front-over : take (24 + bodyLength s) (laid 24 (cleanBody s) s) ≡ plainClean
+  front-over =
+      let mid : take (bodyLength s) (drop 24 (laid 24 (cleanBody s) s)) ≡ cleanBody s = rw clean-long at (mid-laid 24 (cleanBody s) s room) in
+      take-add 24 (bodyLength s) (laid 24 (cleanBody s) s) ∙ rw (take-laid 24 (cleanBody s) s room, mid)
 
-    plain-there : take (24 + bodyLength s) (laid 24 (cleanBody s) s) ≡ plainOf (clean s)
-    plain-there =
-        rw laid-clean (take-front (24 + bodyLength s) (plainOf (clean s)) s (plain-length (clean s) ∙ ap (λ (n : ℕ). 24 + n) clean-long))
+  front-same : take (24 + bodyLength s) (scrubbed s) ≡ take (24 + bodyLength s) (laid 24 (cleanBody s) s)
+  unfolding summed
+  front-same = ap (take (24 + bodyLength s)) scrub-is ∙ take-laid (24 + bodyLength s) (sumAnew s) (laid 24 (cleanBody s) s) room-4
 
-    pub scrub-frame : scrubbed s ≡ laid 0 (frameOf (clean s)) s
-    unfolding summed frameOf
-    scrub-frame =
-        let e : length (plainOf (clean s)) ≡ 24 + bodyLength s = plain-length (clean s) ∙ ap (λ (n : ℕ). 24 + n) clean-long in
-        let f : 0 + length (plainOf (clean s)) ≡ 24 + bodyLength s = omega arith in
-        scrub-is
-        ∙ rw (plain-there, laid-clean, laid-append 0 (plainOf (clean s)) (bytesOf 4 (sum8 (plainOf (clean s)))) s (omega (arith, there)), f)
+  front : take (24 + bodyLength s) (scrubbed s) ≡ plainClean
+  front = front-same ∙ front-over
 
-    clean-widths : Widths (clean s)
-    clean-widths = record { type = numeral-below 256 4 0 s b; time = numeral-below 256 8 4 s b; seq = numeral-below 256 8 12 s b }
+  -- the numbers of the header are as they were
+  header-number : (w at : ℕ) → at + w ≤ 24 → be w at (scrubbed s) ≡ be w at s
+  header-number w at h =
+      sym (numeral-take 256 w at (24 + bodyLength s) (scrubbed s) (omega arith))
+      ∙ ap (be w at) front
+      ∙ numeral-append 256 w at (take 24 s) (cleanBody s) (rw head-long h)
+      ∙ numeral-take 256 w at 24 s h
 
-    rest : List ℕ
-    rest = drop (length (frameOf (clean s))) s
+  same-type : msgType (scrubbed s) ≡ msgType s
+  same-type = header-number 4 0 (omega arith)
 
-    scrub-rest : scrubbed s ≡ frameOf (clean s) ++ rest
-    unfolding rest
-    scrub-rest = scrub-frame ∙ laid-front (frameOf (clean s)) s
+  same-length : bodyLength (scrubbed s) ≡ bodyLength s
+  same-length = header-number 4 20 (omega arith)
 
-    -- it reads, with the same answer: type, time, number and length; so its checksum is right
-    pub scrub-reads : readOf (scrubbed s) ≡ readOf s
-    scrub-reads =
-        rw scrub-rest (read-written (clean s) rest clean-widths clean-sound)
-        ∙ ap (λ (n : ℕ). answer 0 (msgType s ∷ sendingTime s ∷ msgSeqNum s ∷ n ∷ [])) clean-long
-        ∙ sym (good-reads s (good s z))
+  same-body : body (scrubbed s) ≡ cleanBody s
+  same-body =
+      let cut : take 24 (scrubbed s) ++ take (bodyLength s) (drop 24 (scrubbed s)) ≡ plainClean = sym (take-add 24 (bodyLength s) (scrubbed s)) ∙ front in
+      let long-24 : length (take 24 (scrubbed s)) ≡ 24 = length-take-le 24 (scrubbed s) (rw scrub-length (omega (arith, there))) in
+      ap (λ (n : ℕ). take n (drop 24 (scrubbed s))) same-length
+      ∙ sym (drop-at (take 24 (scrubbed s)) (take (bodyLength s) (drop 24 (scrubbed s))) 24 long-24)
+      ∙ ap (drop 24) cut
+      ∙ drop-at (take 24 s) (cleanBody s) 24 head-long
 
-    pub scrub-message : messageOf (scrubbed s) ≡ clean s
-    scrub-message = rw scrub-rest (message-written (clean s) rest clean-widths clean-sound)
+  -- the new sum is right
+  sum-right : checkSum (scrubbed s) ≡ sum8 (plain (scrubbed s))
+  unfolding summed
+  sum-right =
+      let over = laid 24 (cleanBody s) s in
+      let v = sum8 (take (24 + bodyLength s) over) in
+      ap (λ (n : ℕ). be 4 (24 + n) (scrubbed s)) same-length
+      ∙ ap (be 4 (24 + bodyLength s)) scrub-is
+      ∙ be-laid (24 + bodyLength s) 4 v over (rw (length-laid 24 (cleanBody s) s room) (omega (arith, there))) (omega (arith, sum8-below (take (24 + bodyLength s) over)))
+      ∙ ap sum8 (sym front-same)
+      ∙ ap (λ (n : ℕ). sum8 (take (24 + n) (scrubbed s))) (sym same-length)
 
-    pub scrub-done : readOf (scrubbed s) .number ≡ 0
-    scrub-done = one-number scrub-reads ∙ z
+  judged : judgeOf (kindOf (msgType (scrubbed s))) (sendingTime (scrubbed s)) (body (scrubbed s)) ≡ 0
+  judged =
+      rw (same-type, header-number 8 4 (omega arith), same-body)
+      (sym (judged-same (kindOf (msgType s)) (sendingTime s) (body s) (cleanBody s) agrees) ∙ good s z .fine)
 
-    pub scrub-sum : checkSum (scrubbed s) ≡ sum8 (plain (scrubbed s))
-    scrub-sum = good (scrubbed s) scrub-done .sum
+  scrub-good : Good (scrubbed s)
+  scrub-good =
+      record {
+        whole = record {
+          header = rw scrub-length (omega (arith, there));
+          measured = measure-same _ _ _ _ (ap kindOf same-type) same-length ∙ good s z .whole .measured;
+          there = rw (scrub-length, same-length) there;
+        };
+        sum = sum-right;
+        fine = judged;
+      }
 
-    scrub-bytes : take (28 + bodyLength s) (scrubbed s) ≡ frameOf (clean s)
-    scrub-bytes = rw scrub-frame (take-front (28 + bodyLength s) (frameOf (clean s)) s (frame-length (clean s) ∙ ap (λ (n : ℕ). 28 + n) clean-long))
+  -- it reads, with the same answer: type, time, number and length
+  pub scrub-reads : readOf (scrubbed s) ≡ readOf s
+  scrub-reads =
+      good-reads (scrubbed s) scrub-good
+      ∙ rw (same-type, header-number 8 4 (omega arith), header-number 8 12 (omega arith), same-length) (sym (good-reads s (good s z)))
 
-    same-length : bodyLength (scrubbed s) ≡ bodyLength s
-    same-length =
-        ap (λ (p : Paper). getD (p .values) 3 0) (sym (good-reads (scrubbed s) (good (scrubbed s) scrub-done)) ∙ scrub-reads ∙ good-reads s (good s z))
+  pub scrub-message : messageOf (scrubbed s) ≡ clean s
+  scrub-message = rw (same-type, header-number 8 4 (omega arith), header-number 8 12 (omega arith), same-body)
 
-    same-body : body (scrubbed s) ≡ cleanBody s
-    same-body = ap (λ (m : Message). m .content) scrub-message
+  pub scrub-done : readOf (scrubbed s) .number ≡ 0
+  scrub-done = one-number scrub-reads ∙ z
 
-    same-type : msgType (scrubbed s) ≡ msgType s
-    same-type = ap (λ (m : Message). m .type) scrub-message
+  pub scrub-sum : checkSum (scrubbed s) ≡ sum8 (plain (scrubbed s))
+  scrub-sum = sum-right
 
-    same-spans : spansOf (scrubbed s) ≡ spansOf s
-    same-spans =
-        ap (λ (t : ℕ). privateOf (kindOf t) (body (scrubbed s))) same-type
-        ∙ ap (privateOf (kindOf (msgType s))) same-body
-        ∙ sym (private-same (kindOf (msgType s)) (body s) (cleanBody s) agrees)
+  -- its bytes
+  scrub-bytes : take (28 + bodyLength s) (scrubbed s) ≡ plainClean ++ bytesOf 4 (sum8 plainClean)
+  unfolding summed
+  scrub-bytes =
+      let over = laid 24 (cleanBody s) s in
+      let n : 28 + bodyLength s ≡ 24 + bodyLength s + 4 = omega arith in
+      let four : length (sumAnew s) ≡ 4 = length-digits 256 4 (sum8 (take (24 + bodyLength s) over)) in
+      let last : take 4 (drop (24 + bodyLength s) (scrubbed s)) ≡ sumAnew s = ap (λ (l : List ℕ). take 4 (drop (24 + bodyLength s) l)) scrub-is ∙ rw four at (mid-laid (24 + bodyLength s) (sumAnew s) over room-4) in
+      ap (λ (k : ℕ). take k (scrubbed s)) n
+      ∙ take-add (24 + bodyLength s) 4 (scrubbed s)
+      ∙ rw (front, last, front-over)
 
-    same-clean : cleanBody (scrubbed s) ≡ body (scrubbed s)
-    same-clean =
-        ap (λ (ps : List Span). painted ps (body (scrubbed s))) same-spans
-        ∙ ap (painted (spansOf s)) same-body
-        ∙ sym (painted-same 0x20 (spansOf s) (body s) (cleanBody s) spans-within (private-filled (kindOf (msgType s)) (body s)) agrees)
-        ∙ sym same-body
+  same-spans : spansOf (scrubbed s) ≡ spansOf s
+  same-spans =
+      ap (λ (t : ℕ). privateOf (kindOf t) (body (scrubbed s))) same-type
+      ∙ ap (privateOf (kindOf (msgType s))) same-body
+      ∙ sym (private-same (kindOf (msgType s)) (body s) (cleanBody s) agrees)
 
-    -- scrubbing again changes nothing
-    laid-unchanged : laid 24 (cleanBody (scrubbed s)) (scrubbed s) ≡ scrubbed s
-    laid-unchanged =
-        ap (λ (c : List ℕ). laid 24 c (scrubbed s)) same-clean
-        ∙ laid-same 24 (bodyLength (scrubbed s)) (scrubbed s) (rw (scrub-length, same-length) (omega (arith, there)))
+  same-clean : cleanBody (scrubbed s) ≡ body (scrubbed s)
+  same-clean =
+      ap (λ (ps : List Span). painted ps (body (scrubbed s))) same-spans
+      ∙ ap (painted (spansOf s)) same-body
+      ∙ sym (painted-same 0x20 (spansOf s) (body s) (cleanBody s) spans-within (private-filled (kindOf (msgType s)) (body s)) agrees)
+      ∙ sym same-body
 
-    front-same : take (24 + bodyLength s) (scrubbed s) ≡ take (24 + bodyLength s) (laid 24 (cleanBody s) s)
-    unfolding summed
-    front-same = ap (take (24 + bodyLength s)) scrub-is ∙ take-laid (24 + bodyLength s) (sumAnew s) (laid 24 (cleanBody s) s) room-4
+  -- scrubbing again changes nothing
+  laid-unchanged : laid 24 (cleanBody (scrubbed s)) (scrubbed s) ≡ scrubbed s
+  laid-unchanged =
+      ap (λ (c : List ℕ). laid 24 c (scrubbed s)) same-clean
+      ∙ laid-same 24 (bodyLength (scrubbed s)) (scrubbed s) (rw (scrub-length, same-length) (omega (arith, there)))
 
-    sum-unchanged : summed (24 + bodyLength s) (scrubbed s) ≡ scrubbed s
-    unfolding summed
-    sum-unchanged =
-        ap (λ (l : List ℕ). laid (24 + bodyLength s) (bytesOf 4 (sum8 l)) (scrubbed s)) front-same
-        ∙ ap (laid (24 + bodyLength s) (sumAnew s)) scrub-is
-        ∙ laid-again (24 + bodyLength s) (sumAnew s) (laid 24 (cleanBody s) s) room-4 (sumAnew s) refl
-        ∙ sym scrub-is
+  sum-unchanged : summed (24 + bodyLength s) (scrubbed s) ≡ scrubbed s
+  unfolding summed
+  sum-unchanged =
+      ap (λ (l : List ℕ). laid (24 + bodyLength s) (bytesOf 4 (sum8 l)) (scrubbed s)) front-same
+      ∙ ap (laid (24 + bodyLength s) (sumAnew s)) scrub-is
+      ∙ laid-again (24 + bodyLength s) (sumAnew s) (laid 24 (cleanBody s) s) room-4 (sumAnew s) refl
+      ∙ sym scrub-is
 
-    pub scrub-again : scrubbed (scrubbed s) ≡ scrubbed s
-    scrub-again =
-        scrubs (scrubbed s) scrub-done
-        ∙ ap (λ (n : ℕ). summed (24 + n) (laid 24 (cleanBody (scrubbed s)) (scrubbed s))) same-length
-        ∙ ap (summed (24 + bodyLength s)) laid-unchanged
-        ∙ sum-unchanged
+  pub scrub-again : scrubbed (scrubbed s) ≡ scrubbed s
+  scrub-again =
+      scrubs (scrubbed s) scrub-done
+      ∙ ap (λ (n : ℕ). summed (24 + n) (laid 24 (cleanBody (scrubbed s)) (scrubbed s))) same-length
+      ∙ ap (summed (24 + bodyLength s)) laid-unchanged
+      ∙ sum-unchanged
 
 -- frames that agree in all but private fields and checksum
 pub record Alike (s t : List ℕ) : Type 0 where
   pub header : take 24 s ≡ take 24 t
   pub bodies : Agree (spansOf s) (body s) (body t)
-
-same-message : (a b c d e f : ℕ) (x y : List ℕ) → a ≡ b → c ≡ d → e ≡ f → x ≡ y → message a c e x ≡ message b d f y
-same-message a b c d e f x y p q r z = rw (p, q, r, z)
 
 module _ (s t : List ℕ) (a : Alike s t) where
   alike-number : (w at : ℕ) → at + w ≤ 24 → be w at s ≡ be w at t
@@ -264,18 +277,16 @@ module _ (s t : List ℕ) (a : Alike s t) where
       private-same (kindOf (msgType s)) (body s) (body t) (a .bodies)
       ∙ ap (λ (x : ℕ). privateOf (kindOf x) (body t)) (alike-number 4 0 (omega arith))
 
-  module _ (z : readOf s .number ≡ 0) where
-    alike-body : cleanBody s ≡ cleanBody t
-    alike-body =
-        painted-same 0x20 (spansOf s) (body s) (body t) (spans-within s z) (private-filled (kindOf (msgType s)) (body s)) (a .bodies)
-        ∙ ap (λ (ps : List Span). painted ps (body t)) alike-spans
-
-    pub alike-clean : clean s ≡ clean t
-    alike-clean = same-message _ _ _ _ _ _ _ _ (alike-number 4 0 (omega arith)) (alike-number 8 4 (omega arith)) (alike-number 8 12 (omega arith)) alike-body
+  alike-body : readOf s .number ≡ 0 → cleanBody s ≡ cleanBody t
+  alike-body z =
+      painted-same 0x20 (spansOf s) (body s) (body t) (spans-within s z) (private-filled (kindOf (msgType s)) (body s)) (a .bodies)
+      ∙ ap (λ (ps : List Span). painted ps (body t)) alike-spans
 
 -- two buffers whose frames read and are alike scrub to the same frame bytes
-pub scrub-alike : (s t : List ℕ) → Bytes s → Bytes t → readOf s .number ≡ 0 → readOf t .number ≡ 0 → Alike s t → take (28 + bodyLength s) (scrubbed s) ≡ take (28 + bodyLength t) (scrubbed t)
-scrub-alike s t b c y z a = scrub-bytes s y b ∙ ap frameOf (alike-clean s t a y) ∙ sym (scrub-bytes t z c)
+pub scrub-alike : (s t : List ℕ) → readOf s .number ≡ 0 → readOf t .number ≡ 0 → Alike s t → take (28 + bodyLength s) (scrubbed s) ≡ take (28 + bodyLength t) (scrubbed t)
+scrub-alike s t y z a =
+    let plains : take 24 s ++ cleanBody s ≡ take 24 t ++ cleanBody t = rw (a .header, alike-body s t a y) in
+    scrub-bytes s y ∙ ap (λ (p : List ℕ). p ++ bytesOf 4 (sum8 p)) plains ∙ sym (scrub-bytes t z)
 
 -- WHAT THE CODE LEAVES AND ANSWERS, in its own numbers
 module _ (d : List ℕ) (z : readOf d .number ≡ 0) where
@@ -300,12 +311,6 @@ module _ (d : List ℕ) (z : readOf d .number ≡ 0) where
     pub read-scrubs : scrubbedAs k n d ≡ scrubbed d
     read-scrubs = rw (p, q) (sym (scrubs d z))
 
-  -- told its own type and length, `scrub_known` answers and leaves what scrubbing does
-  pub known-scrubs : (k : Kind) (n : ℕ) → k ≡ kindOf (msgType d) → n ≡ bodyLength d → (knownAnswer k n d ≡ scrubAnswer d) × (knownLeaves k n d ≡ scrubbed d)
-  known-scrubs k n p q =
-      let r = known-done k n d (measure-same _ _ _ _ p q ∙ good d z .whole .measured) (rw q (good d z .whole .there)) in
-      (sym (r .0) ∙ answer-as n q, sym (r .1) ∙ rw (p, q) (sym (scrubs d z)))
-
 pub answer-refused : (d : List ℕ) → (readOf d .number ≡ 0 → ⊥) → readOf d ≡ scrubAnswer d
 unfolding scrubAnswer
 answer-refused d ne = rw (ne-eqb (readOf d .number) 0 ne)
@@ -324,9 +329,9 @@ pub length-always : (s : List ℕ) → length (scrubbed s) ≡ length s
 length-always s =
     ⊎-elim (λ (z : readOf s .number ≡ 0). scrub-length s z) (λ (ne : readOf s .number ≡ 0 → ⊥). ap length (refused-same s ne)) (same (readOf s .number) 0)
 
-pub again-always : (s : List ℕ) → Bytes s → scrubbed (scrubbed s) ≡ scrubbed s
-again-always s b =
-    ⊎-elim (λ (z : readOf s .number ≡ 0). scrub-again s z b) (λ (ne : readOf s .number ≡ 0 → ⊥). ap scrubbed (refused-same s ne)) (same (readOf s .number) 0)
+pub again-always : (s : List ℕ) → scrubbed (scrubbed s) ≡ scrubbed s
+again-always s =
+    ⊎-elim (λ (z : readOf s .number ≡ 0). scrub-again s z) (λ (ne : readOf s .number ≡ 0 → ⊥). ap scrubbed (refused-same s ne)) (same (readOf s .number) 0)
 
 -- scrubbing answers reading's number: 0, or the refusal passed on
 pub scrub-number : (s : List ℕ) → scrubAnswer s .number ≡ readOf s .number
@@ -336,8 +341,8 @@ scrub-number s =
     (same (readOf s .number) 0)
 
 -- the view of a scrubbed frame is the view of the original
-pub scrub-view : (s : List ℕ) → readOf s .number ≡ 0 → Bytes s → viewOf (kindOf (msgType (scrubbed s))) (body (scrubbed s)) ≡ viewOf (kindOf (msgType s)) (body s)
-scrub-view s z b =
-    let e = scrub-message s z b in
+pub scrub-view : (s : List ℕ) → readOf s .number ≡ 0 → viewOf (kindOf (msgType (scrubbed s))) (body (scrubbed s)) ≡ viewOf (kindOf (msgType s)) (body s)
+scrub-view s z =
+    let e = scrub-message s z in
     ap (λ (m : Message). viewOf (kindOf (m .type)) (m .content)) e
     ∙ sym (view-same (kindOf (msgType s)) (body s) (cleanBody s) (agrees s z))

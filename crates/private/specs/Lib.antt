@@ -1,9 +1,9 @@
 pub mod Private
 pub mod Scrub
 pub mod Within
-pub mod Known
 pub mod Paint
 pub mod PrivateLaws
 pub mod Spans
-pub mod KnownLaws
 pub mod Laws
+pub mod Into
+pub mod IntoLaws

@@ -6,14 +6,15 @@ use mathlib.Core.List.{List, _∷_}
 use native.Mathlib.Omega.{arith}
 use lib.ListN.{length, take, drop, replicate, length-replicate, length-drop, List·getD-eq-default}
 use lib.Seq.{length-take-le}
-use Rattle.octets.specs.Octets.{laid}
+use Rattle.octets.specs.Octets.{laid, bytesOf, sum8}
+use Rattle.octets.specs.Numerals.{length-digits}
 use Rattle.octets.specs.Overlays.{laid-same, mid-laid, length-laid}
 use Rattle.rules.specs.declared.Kind.{Kind}
 use Rattle.rules.specs.Table.{suits}
 use Rattle.private.specs.declared.Span.{Span}
 use Rattle.private.specs.Private.{spaces, privateOf, spanAt}
-use Rattle.private.specs.Scrub.{painted}
-use Rattle.private.specs.Within.{bodyIn, spanIn, spanPainted}
+use Rattle.private.specs.Scrub.{painted, summed}
+use Rattle.private.specs.Within.{bodyIn, spanIn, spanPainted, scrubbedAs}
 use Rattle.private.specs.Paint.{Within, length-painted, painted-more, painted-agrees, within-take, within-at}
 use Rattle.private.specs.PrivateLaws.{private-few, private-within, private-same}
 use Rattle.octets.specs.Places.{laid-inner}
@@ -82,3 +83,11 @@ module _ (k : Kind) (n : ℕ) (d : List ℕ) (h : 24 + n ≤ length d) (m : suit
   -- four spans are more than there are
   pub all-spans : laid 24 (soFar 4) d ≡ laid 24 (painted (privateOf k (bodyIn n d)) (bodyIn n d)) d
   all-spans = ap (λ (ps : List Span). laid 24 (painted ps (bodyIn n d)) d) (private-few k (bodyIn n d))
+
+  -- scrubbed there, d has as many bytes
+  pub as-long : 28 + n ≤ length d → length (scrubbedAs k n d) ≡ length d
+  unfolding summed
+  as-long l =
+      let over = laid 24 (painted (privateOf k (bodyIn n d)) (bodyIn n d)) d in
+      let same : length over ≡ length d = now-long 4 over (sym all-spans) in
+      length-laid (24 + n) (bytesOf 4 (sum8 (take (24 + n) over))) over (rw (length-digits 256 4 (sum8 (take (24 + n) over)), same) (omega arith)) ∙ same

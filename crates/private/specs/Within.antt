@@ -1,4 +1,4 @@
--- The body within a buffer, and one span of it painted there.
+-- The body within a buffer, one span of it painted there, and all of it scrubbed there.
 use Prim.Native.Nat.{ℕ, _+_}
 use mathlib.Core.List.{List}
 use lib.ListN.{take, drop, replicate}
@@ -6,6 +6,7 @@ use Rattle.octets.specs.Octets.{laid}
 use Rattle.rules.specs.declared.Kind.{Kind}
 use Rattle.private.specs.declared.Span.{Span}
 use Rattle.private.specs.Private.{privateOf, spanAt}
+use Rattle.private.specs.Scrub.{painted, summed}
 
 -- n bytes behind the header
 abbrev pub bodyIn : ℕ → List ℕ → List ℕ
@@ -16,3 +17,7 @@ spanIn k n i d = spanAt i (privateOf k (bodyIn n d))
 
 abbrev pub spanPainted : Span → List ℕ → List ℕ
 spanPainted p d = laid (24 + p .place) (replicate (p .len) (p .fill)) d
+
+-- the n bytes behind the header painted as a body of type k, and the sum set anew
+abbrev pub scrubbedAs : Kind → ℕ → List ℕ → List ℕ
+scrubbedAs k n d = summed (24 + n) (laid 24 (painted (privateOf k (bodyIn n d)) (bodyIn n d)) d)

@@ -174,7 +174,7 @@ private-answers =
 -- scrub
 scrub-answers : Named
 scrub-answers =
-    let scrub-known-one-answer = scrub.scrub-known-one-answer in
+    let scrub-into-one-answer = scrub.scrub-into-one-answer in
     let scrub-one-answer = scrub.scrub-one-answer in
     named
 
@@ -450,8 +450,8 @@ frame-buffers =
 
 scrub-buffers : Named
 scrub-buffers =
-    let scrub-known-one-buffer = scrub.scrub-known-one-buffer in
-    let scrub-known-refused-keeps = scrub.scrub-known-refused-keeps in
+    let scrub-into-one-buffer = scrub.scrub-into-one-buffer in
+    let scrub-into-refused-keeps = scrub.scrub-into-refused-keeps in
     let scrub-one-buffer = scrub.scrub-one-buffer in
     let scrub-refused-keeps = scrub.scrub-refused-keeps in
     named

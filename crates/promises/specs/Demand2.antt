@@ -108,14 +108,14 @@ pub record ScrubbedFrame (buf left : List ℕ) (x : Written) : Type 0 where
   pub others : (i : ℕ) → ((24 ≤ i) → PrivateByte (kindOf (msgType buf)) (body buf) (i - 24) → ⊥) → ((24 + bodyLength buf ≤ i) → i < 28 + bodyLength buf → ⊥) → getD left i 0 ≡ getD buf i 0
   pub long : length left ≡ length buf
 
-pub scrubbed-frame : (buf left : List ℕ) (x : Written) → Bytes buf → Scrubbing buf x left → readOf buf .number ≡ 0 → ScrubbedFrame buf left x
-scrubbed-frame buf left x small c z =
+pub scrubbed-frame : (buf left : List ℕ) (x : Written) → Scrubbing buf x left → readOf buf .number ≡ 0 → ScrubbedFrame buf left x
+scrubbed-frame buf left x c z =
     let k = kindOf (msgType buf) in
     record {
       answered = c .paper ∙ sym (answer-as buf z (bodyLength buf) refl);
-      reads = ap readOf (c .buffer) ∙ scrub-reads buf z small;
+      reads = ap readOf (c .buffer) ∙ scrub-reads buf z;
       fills = λ i l h. ap (λ (d : List ℕ). getD d (24 + i) 0) (c .buffer) ∙ scrub-fills buf z i l (private-is k (body buf) i .1 h);
-      sum = rw (c .buffer) (scrub-sum buf z small);
+      sum = rw (c .buffer) (scrub-sum buf z);
       others = λ i f g. ap (λ (d : List ℕ). getD d i 0) (c .buffer)
           ∙ scrub-keeps buf z i (⊎-elim (λ h. f (h .0) (private-is k (body buf) (i - 24) .0 (h .1))) (λ h. g (h .0) (h .1)));
       long = ap length (c .buffer) ∙ scrub-length buf z;

@@ -75,10 +75,10 @@ module _ {d d′ : List ℕ} {x told : ℕ} (c : HostScrubbed d x told d′) whe
   scrub-answers : x ≡ readOf d .number
   scrub-answers = one-number (c .scrubbing) ∙ scrub-number d
 
-  pub host-scrubbed-frame : Bytes d → readOf d .number ≡ 0 → (x ≡ 0) × ScrubbedFrame d d′ (written.Bytes told)
-  host-scrubbed-frame small z =
+  pub host-scrubbed-frame : readOf d .number ≡ 0 → (x ≡ 0) × ScrubbedFrame d d′ (written.Bytes told)
+  host-scrubbed-frame z =
       let e : x ≡ 0 = scrub-answers ∙ z in
-      (e, scrubbed-frame d d′ (written.Bytes told) small (record { paper = rw e at (c .scrubbing); buffer = c .buffer }) z)
+      (e, scrubbed-frame d d′ (written.Bytes told) (record { paper = rw e at (c .scrubbing); buffer = c .buffer }) z)
 
   -- what does not read is passed on as it stands, with reading's number
   pub host-passed-on : (readOf d .number ≡ 0 → ⊥) → (x ≡ readOf d .number) × (d′ ≡ d)

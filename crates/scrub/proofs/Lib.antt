@@ -1,3 +1,4 @@
 mod Parts
+mod Lays
 pub mod OneAnswer
 pub mod RuledOut

@@ -3,23 +3,21 @@ use Prim.Native.Nat.{ℕ}
 use mathlib.Core.Path.{refl}
 use mathlib.Core.List.{List, [], _∷_, _++_}
 use denote.Ref.{now}
-use lib.ListN.{take, drop, replicate}
+use lib.ListN.{length, take, drop, replicate}
 use Rattle.terms.specs.Paper.{Paper, answer, refusal}
 use Rattle.terms.specs.RuledOut.{Row, _never_, _only_, Kept, RulesOut, ruled, Left, left, lefts, left-is}
 use Rattle.octets.specs.Octets.{numeral, digitsOf, laid, sum8, sumOf}
-use Rattle.octets.specs.Papers.{writtenPaper}
+use Rattle.octets.specs.Papers.{writtenPaper, roomFor, laidIfRoom}
 use Rattle.calendar.specs.Calendar.{leap, daysIn, realParts, realTime}
-use Rattle.rules.specs.declared.Kind.{Kind}
-use Rattle.rules.specs.declared.Kind.the-variants.{S001, S003, M101, M201}
 use Rattle.rules.specs.Table.{kindOf, suits, measureOf}
 use Rattle.rules.specs.Fields.{s001Ok, p002Ok, m201Ok, fieldsOk, judgeOf}
 use Rattle.wire.specs.Frame.{checked, readOf}
 use Rattle.wire.specs.Write.{plainOf, frameOf}
-use Rattle.wire.specs.Examples.{logon, resend, tick}
+use Rattle.wire.specs.Examples.{startOfA, frameA, ending, logon, resend, tick}
 use Rattle.private.specs.Scrub.{painted, summed, scrubAnswer, scrubbed}
-use Rattle.private.specs.Known.{knownOf, knownAnswer, knownLeaves}
-use Rattle.scrub.proofs.scrub_known.Reads as scrub-known
-use Rattle.scrub.proofs.scrub_known.Kinds as scrub-known-kinds
+use Rattle.private.specs.Into.{intoAnswer, intoLeaves}
+use Rattle.scrub.proofs.scrub_into.Reads as scrub-into
+use Rattle.scrub.proofs.scrub_into.Kinds as scrub-into-kinds
 use Rattle.scrub.proofs.scrub.Reads as scrub
 use Rattle.scrub.proofs.scrub.Kinds as scrub-kinds
 
@@ -34,31 +32,37 @@ scrub-wrong =
     ∷ logon 0x41 0x42 30 never frame 102 (logon 0x20 0x42 30)  -- one of the two CompIDs left
     ∷ logon 0x41 0x42 30 never frame 102 (logon 0 0 30)  -- zeros for spaces
     ∷ logon 0x41 0x42 30 never frame 102 (take 98 (logon 0x20 0x20 30) ++ drop 98 (logon 0x41 0x42 30))  -- the old checksum kept
+    ∷ logon 0x41 0x42 30 never frame 102 (take 98 (logon 0x20 0x20 30) ++ drop 98 (logon 0x20 0x42 30))  -- the sum moved for the first span alone
+    ∷ logon 0x41 0x42 30 never frame 102 (take 94 (logon 0x20 0x20 30) ++ (drop 98 (logon 0x20 0x20 30) ++ drop 98 (logon 0x41 0x42 30)))  -- stored four bytes early
     ∷ logon 0x41 0x42 30 never frame 102 (logon 0x20 0x20 0x20)  -- a public byte painted: HeartBtInt
     ∷ logon 0x41 0x42 30 only frame 102 (logon 0x20 0x20 30)
     ∷ resend 1 0x41 never frame 80 (resend 0x20 0x20)  -- a public byte painted: ResendStatus
     ∷ resend 1 0x41 only frame 80 (resend 1 0x20)
     ∷ tick (0x41 ∷ 0x42 ∷ 0x43 ∷ []) never frame 76 (tick (0x20 ∷ 0x20 ∷ 0x43 ∷ []))  -- the last byte of a tail missed
     ∷ tick (0x41 ∷ 0x42 ∷ 0x43 ∷ []) only frame 76 (tick (0x20 ∷ 0x20 ∷ 0x20 ∷ []))
+    ∷ ending 1 0x8E only left (refusal 5) (ending 1 0x8E)  -- scrubbed by its header's word, without reading: the sum's first three bytes not compared
     ∷ (0xFF ∷ tick (0x41 ∷ [])) only left (refusal 2) (0xFF ∷ tick (0x41 ∷ []))  -- a frame that is refused at the front is not scrubbed a byte later
     ∷ []
 
 pub scrub-rules-out : RulesOut (Kept _ scrub-kinds.ps scrub-kinds.r scrub.Post) (λ c. now (c .args .0)) (λ c. left (writtenPaper (c .result)) (now (c .exit .0))) scrub-wrong
-unfolding plainOf frameOf scrubAnswer scrubbed painted summed checked readOf numeral digitsOf laid sum8 sumOf kindOf suits measureOf s001Ok p002Ok m201Ok fieldsOk realTime realParts daysIn leap judgeOf
+unfolding frameA startOfA plainOf frameOf scrubAnswer scrubbed painted summed checked readOf numeral digitsOf laid sum8 sumOf kindOf suits measureOf s001Ok p002Ok m201Ok fieldsOk realTime realParts daysIn leap judgeOf
 scrub-rules-out = ruled lefts (λ (s : List ℕ). left (scrubAnswer s) (scrubbed s)) (λ c p. left-is p) _ refl
 
--- SCRUB_KNOWN: a type, the length of a body, and the lent bytes
-abbrev pub scrub-known-wrong : List (Row (Kind × (ℕ × List ℕ)) Left)
-scrub-known-wrong =
-    (S001, (74, logon 0x41 0x42 30)) only frame 102 (logon 0x20 0x20 30)  -- a buffer that the frame just fills is not refused
-    ∷ (S001, (74, take 101 (logon 0x41 0x42 30))) only left (refusal 1) (take 101 (logon 0x41 0x42 30))  -- 1, not 8, where it is shorter; and nothing painted
-    ∷ (M201, (44, tick (0x41 ∷ []))) only left (refusal 4) (tick (0x41 ∷ []))  -- a length that does not suit the type
+-- SCRUB_INTO: bytes, a place, a lent buffer and a place in it
+abbrev pub scrub-into-wrong : List (Row (List ℕ × (ℕ × (List ℕ × ℕ))) Left)
+scrub-into-wrong =
+    (resend 1 0x41, (0, (replicate 82 7, 1))) only frame 80 (7 ∷ resend 1 0x20 ++ (7 ∷ []))  -- not a byte early, none beyond the frame
+    ∷ (resend 1 0x41, (0, (replicate 80 7, 0))) never frame 80 (resend 1 0x41)  -- laid, and not scrubbed
+    ∷ (0xFF ∷ resend 1 0x41, (1, (replicate 80 7, 0))) only frame 80 (resend 1 0x20)  -- not at the front, whatever the place
+    ∷ (resend 1 0x41, (0, (replicate 80 7, 1))) only left (refusal 8) (replicate 80 7)  -- nothing written before 8
+    ∷ (ending 1 0x8E, (0, (replicate 28 7, 0))) only left (refusal 5) (replicate 28 7)  -- taken by its header's word, without reading
+    ∷ (ending 1 0x8E, (0, ([], 0))) only left (refusal 5) []  -- 8 told before reading's refusal
     ∷ []
 
-pub scrub-known-rules-out : RulesOut (Kept _ scrub-known-kinds.ps scrub-known-kinds.r scrub-known.Post) (λ c. (c .args .1 .0, (c .args .1 .1 .0, now (c .args .0)))) (λ c. left (writtenPaper (c .result)) (now (c .exit .0))) scrub-known-wrong
-unfolding plainOf frameOf knownOf knownAnswer knownLeaves painted summed numeral digitsOf laid sum8 sumOf suits measureOf
-scrub-known-rules-out =
-    ruled lefts (λ (i : Kind × (ℕ × List ℕ)). left (knownAnswer (i .0) (i .1 .0) (i .1 .1)) (knownLeaves (i .0) (i .1 .0) (i .1 .1)))
+pub scrub-into-rules-out : RulesOut (Kept _ scrub-into-kinds.ps scrub-into-kinds.r scrub-into.Post) (λ c. (now (c .args .0), (c .args .1 .0, (now (c .args .1 .1 .0), c .args .1 .1 .1 .0)))) (λ c. left (writtenPaper (c .result)) (now (c .exit .1 .1 .0))) scrub-into-wrong
+unfolding frameA startOfA plainOf frameOf intoAnswer intoLeaves roomFor laidIfRoom scrubbed painted summed checked readOf numeral digitsOf laid sum8 sumOf kindOf suits measureOf p002Ok fieldsOk realTime realParts daysIn leap judgeOf
+scrub-into-rules-out =
+    ruled lefts (λ (i : List ℕ × (ℕ × (List ℕ × ℕ))). left (intoAnswer (drop (i .1 .0) (i .0)) (i .1 .1 .1) (length (i .1 .1 .0))) (intoLeaves (drop (i .1 .0) (i .0)) (i .1 .1 .1) (i .1 .1 .0)))
     (λ c p. left-is p)
     _
     refl

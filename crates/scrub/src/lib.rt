@@ -6,15 +6,14 @@ ghost use lib.ListN.{length, take, drop, replicate};
 ghost use Rattle.octets.specs.Octets.{laid, sum8};
 ghost use Rattle.octets.specs.Papers.{writtenPaper};
 ghost use Rattle.private.specs.Private.{privateOf};
-ghost use Rattle.rules.specs.Table.{suits};
 ghost use Rattle.private.specs.Scrub.{painted, summed, scrubAnswer, scrubbed};
-ghost use Rattle.private.specs.Within.{bodyIn, spanIn, spanPainted};
-ghost use Rattle.private.specs.Known.{scrubbedAs, knownAnswer, knownLeaves};
+ghost use Rattle.private.specs.Within.{bodyIn, spanIn, spanPainted, scrubbedAs};
+ghost use Rattle.private.specs.Into.{frameIn, intoAnswer, intoLeaves};
+ghost use Rattle.rules.specs.Table.{suits, kindOf};
+ghost use Rattle.wire.specs.Frame.{msgType, bodyLength, readOf};
 use frame::Read;
 use octets::Written;
 use rules::Kind;
-use terms::Refusal;
-use terms::Verdict;
 
 // More spans than any type has: from the last on they are empty, and painting an empty one changes nothing.
 const SPANS: usize = 4;
@@ -73,25 +72,6 @@ fn repaint(buf: &mut [u8], kind: Kind, n: usize, v: u8)
     store_sum(buf, 24 + n, w);
 }
 
-// Scrubs the frame at the front of buf where it stands, by the type and the body length that the caller tells: for one that has
-// read it. Whatever the bytes say, those that are private in a body of that type are painted, and the sum is set anew. Reading's
-// checks 2, 3 and 4 of these two may refuse, and 1 where buf has fewer bytes than that frame; then the buffer keeps its bytes.
-pub fn scrub_known(buf: &mut [u8], kind: Kind, n: usize) -> Written
-    ensures { λ r. ⌜ (writtenPaper r ≡ knownAnswer kind n (now (buf .entry))) × (now (buf .exit) ≡ knownLeaves kind n (now (buf .entry))) ⌝ }
-{
-    match rules::measure(kind, n) {
-        Verdict::Refused(why) => Written::Refused(why),
-        Verdict::Fine => {
-            if buf.len() < 28 + n {
-                return Written::Refused(Refusal::More);
-            }
-            let v = octets::sum(buf, 0, 24 + n);
-            repaint(buf, kind, n, v);
-            Written::Bytes(28 + n)
-        }
-    }
-}
-
 // Scrubs the frame at the front of buf where it stands, and answers how many bytes it has. A refusal of reading is passed
 // on, and the buffer keeps its bytes; so do the bytes behind the frame. Reading has found CheckSum right, so the new one is
 // worked out of its last byte: behind reading only that byte and the private ones are loaded.
@@ -110,6 +90,52 @@ pub fn scrub(buf: &mut [u8]) -> Written
             let v = octets::u8_at(buf, 27 + body_len);
             repaint(buf, kind, body_len, v);
             Written::Bytes(28 + body_len)
+        }
+    }
+}
+
+// Paints the frame that lies from a up to e, as `repaint` does: that part of the lent buffer is passed on.
+fn repaint_part(out: &mut [u8], a: usize, e: usize, kind: Kind, n: usize, v: u8)
+    requires { ⌜ (a ≤ e) × ((e ≤ length (now out)) × ((28 + n ≤ e - a) × ((suits kind n ≡ true) × (v ≡ sum8 (take (24 + n) (take (e - a) (drop a (now out)))))))) ⌝ }
+    ensures { λ _. ⌜ now (out .exit) ≡ laid a (scrubbedAs kind n (take (e - a) (drop a (now (out .entry))))) (now (out .entry)) ⌝ }
+{
+    repaint(&mut out[a..e], kind, n, v);
+}
+
+// Lays the frame that was read at a place of bytes, with that type and body length, over out from `to` on, scrubbed; or answers 8.
+fn lay_scrubbed(bytes: &[u8], at: usize, out: &mut [u8], to: usize, kind: Kind, n: usize) -> Written
+    requires { ⌜ (readOf (drop at (now bytes)) .number ≡ 0) × ((kind ≡ kindOf (msgType (drop at (now bytes)))) × (n ≡ bodyLength (drop at (now bytes)))) ⌝ }
+    ensures { λ r. ⌜ (writtenPaper r ≡ intoAnswer (drop at (now (bytes .entry))) to (length (now (out .entry))))
+        × (now (out .exit) ≡ intoLeaves (drop at (now (bytes .entry))) to (now (out .entry))) ⌝ }
+{
+    let end = at + 28 + n;
+    match octets::lay(out, to, &bytes[at..end]) {
+        Written::Refused(why) => Written::Refused(why),
+        Written::Bytes(size) => {
+            let v = octets::u8_at(bytes, end - 1);
+            let behind = to + size;
+            repaint_part(out, to, behind, kind, n, v);
+            Written::Bytes(size)
+        }
+    }
+}
+
+// Reads the frame at a place and lays it over out from `to` on, scrubbed; answers how many bytes it has. A refusal of reading is
+// passed on, and 8 is given where out has no room for it; then out keeps its bytes. So do its bytes beside the frame.
+pub fn scrub_into(bytes: &[u8], at: usize, out: &mut [u8], to: usize) -> Written
+    ensures { λ r. ⌜ (writtenPaper r ≡ intoAnswer (drop at (now (bytes .entry))) to (length (now (out .entry))))
+        × (now (out .exit) ≡ intoLeaves (drop at (now (bytes .entry))) to (now (out .entry))) ⌝ }
+{
+    match frame::read_at(bytes, at) {
+        Read::Refused(why) => Written::Refused(why),
+        Read::Frame {
+            msg_type,
+            sending_time: _,
+            seq: _,
+            body_len,
+        } => {
+            let kind = rules::kind_of(msg_type);
+            lay_scrubbed(bytes, at, out, to, kind, body_len)
         }
     }
 }

@@ -8,7 +8,6 @@ use lib.ListN.{length, getD, take}
 use borrow.Author.Tests.{eq-eqb, ne-eqb}
 use Rattle.terms.specs.Paper.{Paper, answer}
 use Rattle.terms.specs.Cases.{same}
-use Rattle.octets.specs.Octets.{Bytes}
 use Rattle.wash.specs.Clean.{cleanOf, differOf, checkOf}
 use Rattle.wash.specs.Differ.{cons-same}
 use Rattle.wash.specs.Laws.{clean-again}
@@ -83,5 +82,5 @@ unfolding checkOf
 check-changed s p e = first-is s (cleanOf s) _ p (differs 0 s (cleanOf s)) (ap (λ (q : Paper). q .values) e)
 
 -- a cleaned capture is clean
-pub checked-clean : (s : List ℕ) → Bytes s → checkOf (cleanOf s) ≡ answer 0 []
-checked-clean s b = check-clean (cleanOf s) .1 (clean-again s b)
+pub checked-clean : (s : List ℕ) → checkOf (cleanOf s) ≡ answer 0 []
+checked-clean s = check-clean (cleanOf s) .1 (clean-again s)

@@ -1,14 +1,16 @@
--- What the count of frames behind damage tells: where it is 0, the accepted frames are the front of the capture, end to end, each where the one
--- before it ends. So none of them lies inside a damaged one.
+-- What the count of frames behind damage tells: how many accepted frames do not start where the one before them ends. Where it is 0, the accepted
+-- frames are the front of the capture, end to end. So none of them lies inside a damaged one.
 use Prim.Native.Nat.{ℕ, zero, suc, _+_, _≤_, _<_}
 use mathlib.Core.Path.{_≡_, refl, sym, ap, _∙_}
 use mathlib.Core.Logic.{⊎-elim}
+use mathlib.Core.Bool.{Bool, true, false}
 use mathlib.Core.List.{List, [], _∷_, _++_, append-assoc}
 use native.Mathlib.Omega.{arith}
 use lib.ListN.{length, take, drop, take-append-drop}
 use lib.Seq.{drop-drop}
 use borrow.Author.Tests.{eq-eqb, ne-eqb}
-use Rattle.terms.specs.Paper.{Paper}
+use lib.Dec.{eqb}
+use Rattle.terms.specs.Paper.{Paper, pick}
 use Rattle.terms.specs.Cases.{less, same}
 use Rattle.wire.specs.Search.{searchOf}
 use Rattle.wire.specs.Lowest.{Lowest, l-at, l-none, lowest}
@@ -18,8 +20,8 @@ use Rattle.steps.specs.Frames.{joined}
 use Rattle.seen.specs.declared.Seen.{Seen}
 use Rattle.seen.specs.Seen.{seenOf, saysOf}
 use Rattle.seen.specs.SeenLaws.{seen-answer}
-use Rattle.trail.specs.Onward.{goes-frame, goes-found, goes-none}
-use Rattle.trail.specs.Walk.{accepts}
+use Rattle.trail.specs.Onward.{Goes, goes-frame, goes-found, goes-none}
+use Rattle.trail.specs.Walk.{sights, accepts}
 use Rattle.wash.specs.Clean.{cutAt, framesIn, foundBy, foundIn, foundOf}
 use Rattle.wash.specs.Accepted.{acceptedIn, frames-accepted}
 
@@ -107,3 +109,94 @@ at-front (suc k) s p l none =
 
 pub undamaged : (s : List ℕ) → foundOf s ≡ 0 → (rest : List ℕ) × (s ≡ joined (acceptedIn s) ++ rest)
 undamaged s none = let f = at-front (length s) s 0 (omega arith) none in (f .0, f .1 ∙ ap (λ (fs : List (List ℕ)). joined fs ++ f .0) (frames-accepted s))
+
+-- THE COUNT, told from the places: accepted readings that do not start at `end`, where the accepted one before them ended
+unfoldable pub apartFrom : ℕ → List (Sight Seen) → ℕ
+apartFrom end [] = 0
+apartFrom end (x ∷ xs) = pick (eqb (x .read .answer) 0) (pick (eqb (x .place) end) 0 1 + apartFrom (x .place + x .read .size) xs) (apartFrom end xs)
+
+apart-frame : (end : ℕ) (x : Sight Seen) (xs : List (Sight Seen)) → x .read .answer ≡ 0 → apartFrom end (x ∷ xs) ≡ pick (eqb (x .place) end) 0 1 + apartFrom (x .place + x .read .size) xs
+unfolding apartFrom
+apart-frame end x xs z = rw (eq-eqb (x .read .answer) 0 z)
+
+apart-skip : (end : ℕ) (x : Sight Seen) (xs : List (Sight Seen)) → (x .read .answer ≡ 0 → ⊥) → apartFrom end (x ∷ xs) ≡ apartFrom end xs
+unfolding apartFrom
+apart-skip end x xs ne = rw (ne-eqb (x .read .answer) 0 ne)
+
+-- behind an accepted reading the next one stands where it ended, behind a refused one further on
+pub record Behind (before end p : ℕ) : Type 0 where
+  pub joins : before ≡ 0 → p ≡ end
+  pub leaves : (before ≡ 0 → ⊥) → end < p
+
+pick-same : (b : Bool) (n : ℕ) → pick b n n ≡ n
+pick-same true n = refl
+pick-same false n = refl
+
+found-not : (before reading : ℕ) → (reading ≡ 0 → ⊥) → foundBy before reading ≡ 0
+unfolding foundBy accepts
+found-not before reading ne = rw (ne-eqb reading 0 ne) (pick-same (eqb before 0) 0)
+
+found-or : (before end p : ℕ) → Behind before end p → foundBy before 0 ≡ pick (eqb p end) 0 1
+unfolding foundBy accepts
+found-or before end p b =
+    ⊎-elim (λ (z : before ≡ 0). rw (eq-eqb before 0 z, eq-eqb p end (b .joins z)))
+    (λ (ne : before ≡ 0 → ⊥). rw (ne-eqb before 0 ne, ne-eqb p end (λ (e : p ≡ end). omega (arith, b .leaves ne))))
+    (same before 0)
+
+not-before : (before end p : ℕ) → Behind before end p → end ≤ p
+not-before before end p b =
+    ⊎-elim (λ (z : before ≡ 0). omega (arith, b .joins z)) (λ (ne : before ≡ 0 → ⊥). omega (arith, b .leaves ne)) (same before 0)
+
+-- one reading at p, and the same of what is left behind it
+module _ (s : List ℕ) (p before end : ℕ) (h : p < length s) (b : Behind before end p) where
+  abbrev seen : Seen
+  seen = seenOf (drop p s)
+
+  count-frame : seen .answer ≡ 0 → (foundIn 0 (from (p + seen .size) s) ≡ apartFrom (p + seen .size) (from (p + seen .size) s)) → foundIn before (from p s) ≡ apartFrom end (from p s)
+  count-frame z ih =
+      let g = goes-frame s p seen h refl z in
+      let rest = from (p + seen .size) s in
+      let x = sightAt seenOf saysOf p s in
+      ap (foundIn before) (g .rest)
+      ∙ found-cons before x rest
+      ∙ rw z (rw (found-or before end p b, ih))
+      ∙ sym (apart-frame end x rest z)
+      ∙ ap (apartFrom end) (sym (g .rest))
+
+  count-refused : (seen .answer ≡ 0 → ⊥) → (q : ℕ) → from p s ≡ sightAt seenOf saysOf p s ∷ from q s → (foundIn (seen .answer) (from q s) ≡ apartFrom end (from q s)) → foundIn before (from p s) ≡ apartFrom end (from p s)
+  count-refused ne q g ih =
+      let x = sightAt seenOf saysOf p s in
+      let none : foundBy before (seen .answer) + foundIn (seen .answer) (from q s) ≡ apartFrom end (from q s) = omega (arith, found-not before (seen .answer) ne, ih) in
+      ap (foundIn before) g
+      ∙ found-cons before x (from q s)
+      ∙ none
+      ∙ sym (apart-skip end x (from q s) ne)
+      ∙ ap (apartFrom end) (sym g)
+
+none-counted : (s : List ℕ) (p before end : ℕ) → length s ≤ p → foundIn before (from p s) ≡ apartFrom end (from p s)
+unfolding foundIn apartFrom
+none-counted s p before end h = rw (from-end seenOf saysOf p s h)
+
+-- behind a refused reading there is a next place, or the end
+next-place : (s : List ℕ) (p : ℕ) → p < length s → (seenOf (drop p s) .answer ≡ 0 → ⊥) → (a : Paper) → searchOf s (p + 1) ≡ a → Lowest s (p + 1) a → (q : ℕ) × Goes s p q
+next-place s p h ne a e (l-at q f y l z d) = (q, goes-found s p (seenOf (drop p s)) h refl ne q (sym (e ∙ f)))
+next-place s p h ne a e (l-none f d) = (length s, goes-none s p (seenOf (drop p s)) h refl ne (sym (e ∙ f)))
+
+counted : (k : ℕ) (s : List ℕ) (p before end : ℕ) → length s ≤ p + k → Behind before end p → foundIn before (from p s) ≡ apartFrom end (from p s)
+counted zero s p before end l b = none-counted s p before end (omega arith)
+counted (suc k) s p before end l b =
+    ⊎-elim (λ (h : p < length s).
+    ⊎-elim (λ (z : seenOf (drop p s) .answer ≡ 0).
+    let r = p + seenOf (drop p s) .size in
+    count-frame s p before end h b z (counted k s r 0 r (omega (arith, goes-frame s p (seenOf (drop p s)) h refl z .further)) (record { joins = λ y. refl; leaves = λ ne. absurd (ne refl) })))
+    (λ (ne : seenOf (drop p s) .answer ≡ 0 → ⊥).
+    let q = next-place s p h ne _ refl (lowest s (p + 1) (omega arith)) in
+    count-refused s p before end h b ne (q .0) (q .1 .rest)
+    (counted k s (q .0) (seenOf (drop p s) .answer) end (omega (arith, q .1 .further)) (record { joins = λ y. absurd (ne y); leaves = λ y. omega (arith, q .1 .further, not-before before end p b) })))
+    (same (seenOf (drop p s) .answer) 0))
+    (λ (h : length s ≤ p). none-counted s p before end h)
+    (less p (length s))
+
+-- the first is compared with the capture's front
+pub after-damage-is : (s : List ℕ) → foundOf s ≡ apartFrom 0 (sights s)
+after-damage-is s = counted (length s) s 0 0 0 (omega arith) (record { joins = λ y. refl; leaves = λ ne. absurd (ne refl) })

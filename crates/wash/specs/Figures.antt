@@ -8,7 +8,6 @@ use lib.Dec.{eqb}
 use lib.ListN.{length}
 use borrow.Author.Tests.{eq-eqb, ne-eqb}
 use Rattle.terms.specs.Cases.{same}
-use Rattle.octets.specs.Octets.{Bytes}
 use Rattle.terms.specs.Paper.{pick}
 use Rattle.book.specs.State.{Book}
 use Rattle.book.specs.Calls.{Call, fresh}
@@ -160,19 +159,19 @@ tagged-records b p fs (f-cons {f = f} {fs = t} e r) =
     rw (eq-eqb (seenOf f .answer) 0 (frame-says (seenOf f) (length f) e .0), tagged-records (bookBy b (record { place = p; read = seenOf f })) (p + length f) t r)
 
 -- THE CLEANED CAPTURE'S WALK
-module _ (s : List ℕ) (b : Bytes s) where
+module _ (s : List ℕ) where
   pub clean-refused : refusedOf (sights (cleanOf s)) ≡ 0
-  clean-refused = ap refusedOf (clean-sights s b) ∙ tagged-refused 0 _ (scrubs-to-frames s b)
+  clean-refused = ap refusedOf (clean-sights s) ∙ tagged-refused 0 _ (scrubs-to-frames s)
 
   pub clean-found : foundOf (cleanOf s) ≡ 0
-  clean-found = ap (foundIn 0) (clean-sights s b) ∙ tagged-found 0 0 _ refl (scrubs-to-frames s b)
+  clean-found = ap (foundIn 0) (clean-sights s) ∙ tagged-found 0 0 _ refl (scrubs-to-frames s)
 
   pub clean-counts : framesOf (sights (cleanOf s)) ≡ framesOf (sights s)
-  clean-counts = frames-reads (sights (cleanOf s)) ∙ ap length (clean-reads s b) ∙ sym (frames-reads (sights s))
+  clean-counts = frames-reads (sights (cleanOf s)) ∙ ap length (clean-reads s) ∙ sym (frames-reads (sights s))
 
   pub clean-calls : callsOf (cleanOf s) ≡ callsOf s
   unfolding callsOf
-  clean-calls = calls-reads none (sights (cleanOf s)) ∙ ap (callsMade none) (clean-reads s b) ∙ sym (calls-reads none (sights s))
+  clean-calls = calls-reads none (sights (cleanOf s)) ∙ ap (callsMade none) (clean-reads s) ∙ sym (calls-reads none (sights s))
 
   pub clean-ledger : walkOf (cleanOf s) .ledger ≡ walkOf s .ledger
   clean-ledger = walk-ledger (cleanOf s) ∙ ap (after 100) clean-calls ∙ sym (walk-ledger s)
@@ -180,14 +179,14 @@ module _ (s : List ℕ) (b : Bytes s) where
   all-records : walkOf (cleanOf s) .records ≡ frameRecords (fresh 100) (sights (cleanOf s))
   unfolding Account.walkOf
   all-records =
-      ap (λ (xs : List (Sight Seen)). accountOf recordBy bookBy (fresh 100) xs .records) (clean-sights s b)
-      ∙ tagged-records (fresh 100) 0 _ (scrubs-to-frames s b)
-      ∙ ap (frameRecords (fresh 100)) (sym (clean-sights s b))
+      ap (λ (xs : List (Sight Seen)). accountOf recordBy bookBy (fresh 100) xs .records) (clean-sights s)
+      ∙ tagged-records (fresh 100) 0 _ (scrubs-to-frames s)
+      ∙ ap (frameRecords (fresh 100)) (sym (clean-sights s))
 
   -- its records are those of the capture's frames, but for their places
   pub clean-records : eachOf unplaced (walkOf (cleanOf s) .records) ≡ eachOf unplaced (frameRecords (fresh 100) (sights s))
   clean-records =
       ap (eachOf unplaced) all-records
       ∙ records-reads (fresh 100) (sights (cleanOf s))
-      ∙ ap (recordsMade (fresh 100)) (clean-reads s b)
+      ∙ ap (recordsMade (fresh 100)) (clean-reads s)
       ∙ sym (records-reads (fresh 100) (sights s))

@@ -1,20 +1,17 @@
--- What a cleaned capture is, of every capture s that is bytes. All of it is proved of the definition that the code's promise cites.
-use Prim.Native.Nat.{ℕ, zero, suc, _+_, _≤_, _<_}
+-- What a cleaned capture is, of every capture s. All of it is proved of the definition that the code's promise cites.
+use Prim.Native.Nat.{ℕ, zero, _+_, _≤_, _<_}
 use mathlib.Core.Path.{_≡_, refl, sym, ap, _∙_}
-use mathlib.Core.Logic.{⊎-elim}
-use mathlib.Core.List.{List, [], _∷_, _++_}
+use mathlib.Core.List.{List, [], _∷_}
 use native.Mathlib.Omega.{arith}
-use lib.ListN.{length, getD, take, drop, length-take, List·getD-eq-default}
-use lib.Seq.{getD-take, take-at, drop-at, drop-drop}
+use lib.ListN.{length, getD, take, drop}
+use lib.Seq.{take-at, drop-at, drop-drop}
 use borrow.Author.Tests.{eq-eqb}
-use Rattle.terms.specs.Cases.{less}
-use Rattle.octets.specs.Octets.{Bytes}
 use Rattle.wire.specs.Frame.{bodyLength, readOf}
 use Rattle.private.specs.Scrub.{scrubbed, spansOf}
 use Rattle.private.specs.Paint.{Inside}
 use Rattle.private.specs.Laws.{length-always, again-always, scrub-fills}
-use Rattle.steps.specs.Walk.{Says, frame, more, bad, Mode, within, seeking}
-use Rattle.steps.specs.Frames.{joined, eachOf, Frames, f-nil, f-cons, taggedOf, frontOf, takenOf, acceptedOf, readsOf, frames-sights, reads-accepted, accepted-frames}
+use Rattle.steps.specs.Walk.{frame, within}
+use Rattle.steps.specs.Frames.{joined, eachOf, Frames, f-nil, f-cons, taggedOf, readsOf, frames-sights, reads-accepted, accepted-frames}
 use Rattle.seen.specs.Seen.{seenOf, saysOf}
 use Rattle.seen.specs.SeenLaws.{seen-answer, seen-kept, seen-fits, frame-says}
 use Rattle.trail.specs.Walk.{sights}
@@ -31,45 +28,13 @@ pub data Each (P : List ℕ → Type 0) : List (List ℕ) → Type 0 where
 abbrev pub AllFrames : List (List ℕ) → Type 0
 AllFrames fs = Frames seenOf saysOf fs
 
--- ACCEPTED FRAMES ARE FRAMES, AND BYTES
+-- ACCEPTED FRAMES ARE FRAMES
 
 fits : (s : List ℕ) (n : ℕ) → saysOf (seenOf s) ≡ frame n → 1 ≤ n
 fits s n e = omega (arith, seen-fits s n e .0)
 
 pub all-frames : (s : List ℕ) → AllFrames (acceptedIn s)
 all-frames s = accepted-frames seenOf saysOf seen-own (λ t n e. seen-fits t n e .1) (within zero) s
-
-take-bytes : (n : ℕ) (s : List ℕ) → Bytes s → Bytes (take n s)
-take-bytes n s b i =
-    ⊎-elim (λ (h : i < n). rw (getD-take n s i 0 h) (b i))
-    (λ (h : n ≤ i).
-    let short : length (take n s) ≤ i = omega (arith, length-take n s) in
-    rw (List·getD-eq-default (take n s) 0 short) (omega arith))
-    (less i n)
-
-front-bytes : (w : Says) (s : List ℕ) → Bytes s → Each Bytes (frontOf w s)
-unfolding frontOf
-front-bytes (frame n) s b = e-cons (take-bytes n s b) e-nil
-front-bytes more s b = e-nil
-front-bytes bad s b = e-nil
-
-taken-bytes : (m : Mode) (w : Says) (s : List ℕ) → Bytes s → Each Bytes (takenOf m w s)
-unfolding takenOf
-taken-bytes (within zero) w s b = front-bytes w s b
-taken-bytes (within (suc k)) w s b = e-nil
-taken-bytes seeking w s b = front-bytes w s b
-
-each-append : {P : List ℕ → Type 0} (a b : List (List ℕ)) → Each P a → Each P b → Each P (a ++ b)
-each-append a b e-nil h = h
-each-append a b (e-cons {f = f} {fs = fs} p r) h = e-cons p (each-append fs b r h)
-
-bytes-from : (m : Mode) (s : List ℕ) → Bytes s → Each Bytes (acceptedOf seenOf saysOf m s)
-unfolding acceptedOf
-bytes-from m [] b = e-nil
-bytes-from m (x ∷ s) b = each-append _ _ (taken-bytes m _ (x ∷ s) b) (bytes-from _ s (λ i. b (suc i)))
-
-pub all-bytes : (s : List ℕ) → Bytes s → Each Bytes (acceptedIn s)
-all-bytes s b = bytes-from (within zero) s b
 
 -- FRAMES END TO END are read one by one: the accepted frames are they
 module _ (c : List ℕ) where
@@ -89,26 +54,25 @@ pub joined-frames : (fs : List (List ℕ)) → AllFrames fs → acceptedIn (join
 joined-frames fs a = sym (frames-accepted (joined fs)) ∙ ap (framesIn (joined fs)) (joined-sights fs a) ∙ tagged-frames (joined fs) 0 fs a refl
 
 -- SCRUBBED FRAMES are frames, seen as they were, and scrubbing them again changes nothing
-scrubbed-frames : (fs : List (List ℕ)) → AllFrames fs → Each Bytes fs → AllFrames (eachOf scrubbed fs)
+scrubbed-frames : (fs : List (List ℕ)) → AllFrames fs → AllFrames (eachOf scrubbed fs)
 unfolding eachOf
-scrubbed-frames fs f-nil e-nil = f-nil
-scrubbed-frames fs (f-cons {f = f} {fs = t} e r) (e-cons b q) =
-    f-cons (ap saysOf (seen-scrubbed f b) ∙ e ∙ ap frame (sym (length-always f))) (scrubbed-frames t r q)
+scrubbed-frames fs f-nil = f-nil
+scrubbed-frames fs (f-cons {f = f} {fs = t} e r) = f-cons (ap saysOf (seen-scrubbed f) ∙ e ∙ ap frame (sym (length-always f))) (scrubbed-frames t r)
 
-scrubbed-seen : (fs : List (List ℕ)) → Each Bytes fs → eachOf seenOf (eachOf scrubbed fs) ≡ eachOf seenOf fs
+scrubbed-seen : (fs : List (List ℕ)) → eachOf seenOf (eachOf scrubbed fs) ≡ eachOf seenOf fs
 unfolding eachOf
-scrubbed-seen fs e-nil = refl
-scrubbed-seen fs (e-cons {f = f} {fs = t} b q) = rw (seen-scrubbed f b, scrubbed-seen t q)
+scrubbed-seen [] = refl
+scrubbed-seen (f ∷ t) = rw (seen-scrubbed f, scrubbed-seen t)
 
-scrubbed-again : (fs : List (List ℕ)) → Each Bytes fs → eachOf scrubbed (eachOf scrubbed fs) ≡ eachOf scrubbed fs
+scrubbed-again : (fs : List (List ℕ)) → eachOf scrubbed (eachOf scrubbed fs) ≡ eachOf scrubbed fs
 unfolding eachOf
-scrubbed-again fs e-nil = refl
-scrubbed-again fs (e-cons {f = f} {fs = t} b q) = rw (again-always f b, scrubbed-again t q)
+scrubbed-again [] = refl
+scrubbed-again (f ∷ t) = rw (again-always f, scrubbed-again t)
 
 -- THE CLEANED CAPTURE
-module _ (s : List ℕ) (b : Bytes s) where
+module _ (s : List ℕ) where
   pub scrubs-to-frames : AllFrames (eachOf scrubbed (acceptedIn s))
-  scrubs-to-frames = scrubbed-frames (acceptedIn s) (all-frames s) (all-bytes s b)
+  scrubs-to-frames = scrubbed-frames (acceptedIn s) (all-frames s)
 
   -- its accepted frames are those of the capture, each scrubbed
   pub clean-frames : acceptedIn (cleanOf s) ≡ eachOf scrubbed (acceptedIn s)
@@ -127,7 +91,7 @@ module _ (s : List ℕ) (b : Bytes s) where
   clean-reads =
       reads-accepted seenOf saysOf seen-own (within zero) 0 (cleanOf s)
       ∙ ap (eachOf seenOf) clean-frames
-      ∙ scrubbed-seen (acceptedIn s) (all-bytes s b)
+      ∙ scrubbed-seen (acceptedIn s)
       ∙ sym (reads-accepted seenOf saysOf seen-own (within zero) 0 s)
 
   -- CLEANING IT AGAIN CHANGES NOTHING
@@ -135,7 +99,7 @@ module _ (s : List ℕ) (b : Bytes s) where
   clean-again =
       clean-is (cleanOf s)
       ∙ ap (λ (fs : List (List ℕ)). joined (eachOf scrubbed fs)) clean-frames
-      ∙ ap joined (scrubbed-again (acceptedIn s) (all-bytes s b))
+      ∙ ap joined (scrubbed-again (acceptedIn s))
       ∙ sym (clean-is s)
 
 -- A CAPTURE OF FRAMES END TO END keeps all of them, and its length
@@ -149,12 +113,12 @@ clean-length fs a = ap length (clean-joined fs a) ∙ scrubbed-length fs
 abbrev pub Painted : List ℕ → Type 0
 Painted f = (i : ℕ) → i < bodyLength f → Inside (spansOf f) i → getD f (24 + i) 0 ≡ 0x20
 
-painted : (fs : List (List ℕ)) → AllFrames fs → Each Bytes fs → Each Painted (eachOf scrubbed fs)
+painted : (fs : List (List ℕ)) → AllFrames fs → Each Painted (eachOf scrubbed fs)
 unfolding eachOf
-painted fs f-nil e-nil = e-nil
-painted fs (f-cons {f = f} {fs = t} e r) (e-cons b q) =
-    let z : readOf (scrubbed f) .number ≡ 0 = sym (seen-answer (scrubbed f)) ∙ frame-says (seenOf (scrubbed f)) (length f) (ap saysOf (seen-scrubbed f b) ∙ e) .0 in
-    e-cons (λ i l h. ap (λ (x : List ℕ). getD x (24 + i) 0) (sym (again-always f b)) ∙ scrub-fills (scrubbed f) z i l h) (painted t r q)
+painted fs f-nil = e-nil
+painted fs (f-cons {f = f} {fs = t} e r) =
+    let z : readOf (scrubbed f) .number ≡ 0 = sym (seen-answer (scrubbed f)) ∙ frame-says (seenOf (scrubbed f)) (length f) (ap saysOf (seen-scrubbed f) ∙ e) .0 in
+    e-cons (λ i l h. ap (λ (x : List ℕ). getD x (24 + i) 0) (sym (again-always f)) ∙ scrub-fills (scrubbed f) z i l h) (painted t r)
 
-pub no-private : (s : List ℕ) → Bytes s → Each Painted (acceptedIn (cleanOf s))
-no-private s b = rw (clean-frames s b) (painted (acceptedIn s) (all-frames s) (all-bytes s b))
+pub no-private : (s : List ℕ) → Each Painted (acceptedIn (cleanOf s))
+no-private s = rw (clean-frames s) (painted (acceptedIn s) (all-frames s))

@@ -5,8 +5,7 @@ use Prim.Native.Nat.{_-_}
 use mathlib.Core.Path.{_≡_, sym}
 use lib.ListN.{length}
 use borrow.Author.Needs.{needs}
-use Rattle.wash.specs.Turns.{size-inside, size-small}
-use Rattle.clean.proofs.PassLaws.{Same, same-start, one-long, same-step, same-here, same-more, same-end}
+use Rattle.clean.proofs.PassLaws.{Same, same-start, kept-inside, kept-small, one-long, same-step, same-here, same-more, same-end}
 use Rattle.clean.proofs.is_clean.Statement.{statement}
 use Rattle.clean.proofs.is_clean.Tie as tie
 
@@ -19,44 +18,43 @@ abbrev μ-loop : tie.MeasureT-loop
 loop-holds : tie.Need-loop-holds Inv-loop μ-loop
 loop-holds c = same-start _ _ (search needs)
 
-see-requires : tie.Need-see-requires Inv-loop μ-loop
-see-requires c κs = search needs
-
 slice-aggregate-keep : tie.Need-slice-aggregate-keep Inv-loop μ-loop
-slice-aggregate-keep c = sym (c .before .before .before .loop .inv .room)
+slice-aggregate-keep c = sym (c .before .before .loop .inv .room)
 
 keep-requires : tie.Need-keep-requires Inv-loop μ-loop
-keep-requires c κs = (omega arith, (c .before .before .before .loop .inv .inside, c .before .see .ensures))
+keep-requires c κs = search needs
 
 -- the frame made leaves the array its length
-long : (c : tie.After-one3 Inv-loop μ-loop) → length (c .before .before .keep .last .0) ≡ 8192
-long c = one-long _ _ _ _ _ _ (c .before .before .before .before .before .before .loop .inv) (c .before .before .before .before .see .ensures) (c .before .before .keep .ensures)
+long : (c : tie.After-one3 Inv-loop μ-loop) → length (c .before .before .keep .last .1 .1 .0) ≡ 8192
+long c = one-long _ _ _ _ _ _ (c .before .before .before .before .before .loop .inv) (c .before .before .keep .ensures)
 
 slice-aggregate-agreed : tie.Need-slice-aggregate-agreed Inv-loop μ-loop
 slice-aggregate-agreed c = sym (long c)
 
 agreed-requires : tie.Need-agreed-requires Inv-loop μ-loop
-agreed-requires c κs = (omega (arith, c .before .before .before .before .before .before .loop .inv .few, size-inside _ _ _ (c .before .before .before .before .see .ensures) (c .before .before .before .before .before .before .loop .inv .inside)), omega (arith, long c, size-small (c .before .before .before .before .before .before .before .before .args .capture .now) (c .before .before .before .before .before .before .loop .at) _ (c .before .before .before .before .see .ensures)))
+agreed-requires c κs = (
+  omega (arith, c .before .before .before .before .before .loop .inv .few, kept-inside _ _ _ (c .before .before .keep .ensures .0) (c .before .before .before .before .before .loop .inv .inside)),
+  omega (arith, long c, kept-small (c .before .before .before .before .before .before .before .args .capture .now) (c .before .before .before .before .before .loop .at) _ (c .before .before .keep .ensures .0)),
+)
 
 add-place : tie.Need-add-place Inv-loop μ-loop
-add-place c = omega (arith, c .before .before .before .before .before .before .before .before .before .loop .inv .few, c .before .before .before .before .before .before .before .before .before .loop .inv .inside, size-inside _ _ _ (c .before .before .before .before .before .before .before .see .ensures) (c .before .before .before .before .before .before .before .before .before .loop .inv .inside), c .if1 .taken)
+add-place c = omega (arith, c .before .before .before .before .before .before .before .before .loop .inv .few, c .before .before .before .before .before .before .before .before .loop .inv .inside, kept-inside _ _ _ (c .before .before .before .before .before .keep .ensures .0) (c .before .before .before .before .before .before .before .before .loop .inv .inside), c .if1 .taken)
 
 returns : tie.Need-returns Inv-loop μ-loop
-returns c = same-here _ _ _ _ _ _ (c .before .before .before .before .before .before .before .before .before .loop .inv) (c .before .before .before .before .before .before .before .see .ensures) (c .before .before .before .before .before .keep .ensures) _ (c .before .before .agreed .ensures .1) (c .before .before .before .before .before .before .before .before .loop-test .taken) (c .if1 .taken)
+returns c = same-here _ _ _ _ _ _ (c .before .before .before .before .before .before .before .before .loop .inv) (c .before .before .before .before .before .keep .ensures) _ (c .before .before .agreed .ensures .1) (c .before .before .before .before .before .before .before .loop-test .taken) (c .if1 .taken)
 
 onward-requires : tie.Need-onward-requires Inv-loop μ-loop
-onward-requires c κs = (omega arith, c .before .before .before .before .before .before .before .see .ensures)
+onward-requires c κs = (omega arith, c .before .before .before .before .before .keep .ensures .0)
 
 add-n : tie.Need-add-n Inv-loop μ-loop
-add-n c = omega (arith, c .before .before .before .before .before .before .before .before .before .before .before .loop .inv .few, c .before .onward .ensures .past, c .before .onward .ensures .goes .inside)
+add-n c = omega (arith, c .before .before .before .before .before .before .before .before .before .before .loop .inv .few, c .before .onward .ensures .past, c .before .onward .ensures .goes .inside)
 
 loop-less : tie.Need-loop-less Inv-loop μ-loop
 loop-less c = omega (arith, c .before .onward .ensures .goes .further, c .before .onward .ensures .goes .inside)
 
 loop-again : tie.Need-loop-again Inv-loop μ-loop
 loop-again c =
-    same-step _ _ _ _ _ _ (c .before .before .before .before .before .before .before .before .before .before .before .loop .inv) (c .before .before .before .before .before .before .before .before .before .see .ensures) (c .before .before .before .before .before .before .before .keep .ensures)
-    _ (c .before .before .before .before .agreed .ensures .1) _ (c .before .onward .ensures) (c .before .before .if1 .left)
+    same-step _ _ _ _ _ _ (c .before .before .before .before .before .before .before .before .before .before .loop .inv) (c .before .before .before .before .before .before .before .keep .ensures) _ (c .before .before .before .before .agreed .ensures .1) _ (c .before .onward .ensures) (c .before .before .if1 .left)
 
 returns-2 : tie.Need-returns-2 Inv-loop μ-loop
 returns-2 c = same-more (c .before .before .loop .inv) (c .before .loop-test .left) (c .if2 .taken)
@@ -71,7 +69,6 @@ is-clean-spec =
     Inv-loop
     μ-loop
     loop-holds
-    see-requires
     slice-aggregate-keep
     keep-requires
     slice-aggregate-agreed

@@ -6,9 +6,8 @@ use borrow.Author.Needs.{needs}
 use Rattle.frame.specs.declared.Found.{Found}
 use Rattle.frame.specs.Papers.{foundPaper}
 use Rattle.wire.specs.Search.{searchOf}
-use Rattle.trail.specs.Onward.{goes-inside}
 use Rattle.wash.specs.Steps.{Steps}
-use Rattle.wash.specs.Turns.{steps-frame, steps-found, steps-none}
+use Rattle.clean.proofs.PassLaws.{kept-frame, kept-found, kept-none, kept-within}
 use Rattle.clean.proofs.onward.Statement.{statement}
 use Rattle.clean.proofs.onward.Tie as tie
 
@@ -16,8 +15,8 @@ use Rattle.clean.proofs.onward.Tie as tie
 abbrev start : tie.After-search → tie.Start
 start c = c .before .before .before .before
 
-past-frame : (c : tie.Then1) → Steps (c .before .before .before .args .capture .now) (c .before .before .before .args .p) (c .before .before .before .args .seen .size) (c .before .before .before .args .p + c .before .before .before .args .seen .size)
-past-frame c = steps-frame _ _ _ (c .before .before .before .pre .1) (c .before .before .before .pre .0) (c .if1 .taken)
+past-frame : (c : tie.Then1) → Steps (c .before .before .before .args .capture .now) (c .before .before .before .args .p) (c .before .before .before .args .kept .size) (c .before .before .before .args .p + c .before .before .before .args .kept .size)
+past-frame c = kept-frame _ _ _ (c .before .before .before .pre .1) (c .before .before .before .pre .0) (c .if1 .taken)
 
 told : (c : tie.After-search) (f : Found) → c .search .result ≡ f → foundPaper f ≡ searchOf (start c .args .capture .now) (start c .args .p + 1)
 told c f e = sym (ap foundPaper e) ∙ c .search .ensures
@@ -44,13 +43,13 @@ enum-told-2 : tie.Need-enum-told-2
 enum-told-2 c = search needs
 
 returns-2 : tie.Need-returns-2
-returns-2 c = let k = c .before .before .before in steps-found _ _ _ (start k .pre .1) (start k .pre .0) (k .before .if1 .left) _ (told k _ (c .before .q .given .1))
+returns-2 c = let k = c .before .before .before in kept-found _ _ _ (start k .pre .1) (start k .pre .0) (k .before .if1 .left) _ (told k _ (c .before .q .given .1))
 
 returns-3 : tie.Need-returns-3
-returns-3 c = let k = c .before .before in steps-none _ _ _ (start k .pre .1) (start k .pre .0) (k .before .if1 .left) (told k _ (c .enum-told .given .1))
+returns-3 c = let k = c .before .before in kept-none _ _ _ (start k .pre .1) (start k .pre .0) (k .before .if1 .left) (told k _ (c .enum-told .given .1))
 
 returns-4 : tie.Need-returns-4
-returns-4 c = let k = c .before .before in absurd (goes-inside _ _ _ (start k .pre .0) (start k .pre .1) (k .before .if1 .left) (told k _ (c .enum-told2 .given .1)))
+returns-4 c = let k = c .before .before in absurd (kept-within _ _ _ (start k .pre .1) (start k .pre .0) (k .before .if1 .left) (told k _ (c .enum-told2 .given .1)))
 
 pub onward-spec : {M : Type 1} → statement M
 onward-spec =

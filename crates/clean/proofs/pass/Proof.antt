@@ -18,36 +18,33 @@ abbrev μ-loop : tie.MeasureT-loop
 loop-holds : tie.Need-loop-holds Inv-loop μ-loop
 loop-holds c = left-start _ _
 
-see-requires : tie.Need-see-requires Inv-loop μ-loop
-see-requires c κs = search needs
-
 keep-requires : tie.Need-keep-requires Inv-loop μ-loop
-keep-requires c κs = (omega (arith, c .before .before .before .loop .inv .few), (c .before .before .before .loop .inv .inside, c .before .see .ensures))
+keep-requires c κs = search needs
 
 onward-requires : tie.Need-onward-requires Inv-loop μ-loop
-onward-requires c κs = (omega arith, c .before .before .before .before .see .ensures)
+onward-requires c κs = (omega arith, c .before .before .keep .ensures .0)
 
 add-bytes : tie.Need-add-bytes Inv-loop μ-loop
-add-bytes c = omega (arith, c .before .before .before .before .before .before .before .before .loop .inv .few, c .before .onward .ensures .past, c .before .onward .ensures .goes .inside)
+add-bytes c = omega (arith, c .before .before .before .before .before .before .before .loop .inv .few, c .before .onward .ensures .past, c .before .onward .ensures .goes .inside)
 
 accepted-requires : tie.Need-accepted-requires Inv-loop μ-loop
 accepted-requires c κs = search needs
 
 add-frames : tie.Need-add-frames Inv-loop μ-loop
-add-frames c = omega (arith, c .before .before .before .before .before .before .before .before .before .loop .inv .frames-few, c .before .before .before .before .before .before .before .before .before .loop .inv .inside, accepts-one _ _ (c .accepted .ensures))
+add-frames c = omega (arith, c .before .before .before .before .before .before .before .before .loop .inv .frames-few, c .before .before .before .before .before .before .before .before .loop .inv .inside, accepts-one _ _ (c .accepted .ensures))
 
 found-requires : tie.Need-found-requires Inv-loop μ-loop
 found-requires c κs = search needs
 
 add-after-damage : tie.Need-add-after-damage Inv-loop μ-loop
-add-after-damage c = omega (arith, c .before .before .before .before .before .before .before .before .before .before .loop .inv .found-few, c .before .before .before .before .before .before .before .before .before .before .loop .inv .inside, c .found .ensures .1)
+add-after-damage c = omega (arith, c .before .before .before .before .before .before .before .before .before .loop .inv .found-few, c .before .before .before .before .before .before .before .before .before .loop .inv .inside, c .found .ensures .1)
 
 loop-less : tie.Need-loop-less Inv-loop μ-loop
 loop-less c = omega (arith, c .before .before .before .onward .ensures .goes .further, c .before .before .before .onward .ensures .goes .inside)
 
 loop-again : tie.Need-loop-again Inv-loop μ-loop
 loop-again c =
-    left-step (c .before .before .before .before .before .before .before .before .before .before .loop .inv) (c .before .before .before .before .before .before .before .before .see .ensures) (c .before .before .before .before .before .before .keep .ensures) (c .before .before .before .onward .ensures) (c .before .accepted .ensures) (c .found .ensures)
+    left-step _ (c .before .before .before .before .before .before .before .before .before .loop .inv) (c .before .before .before .before .before .before .keep .ensures) (c .before .before .before .onward .ensures) (c .before .accepted .ensures) (c .found .ensures)
 
 same-length : tie.Need-same-length Inv-loop μ-loop
 same-length c = c .before .loop .inv .room
@@ -62,7 +59,6 @@ pass-spec =
     Inv-loop
     μ-loop
     loop-holds
-    see-requires
     keep-requires
     onward-requires
     add-bytes
