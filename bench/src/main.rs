@@ -188,6 +188,27 @@ fn sum_and_fill() {
     let f = made::frame(plain::M201, 1, &made::tick(d, 1, 8_119));
     let input = "an M201 of 8,192 bytes, scrubbed";
     scrub("sum, fill and sum", input, &f, &[0], 1.1);
+    let f = made::frame(plain::M101, 1, &body);
+    nothing_private(&f);
+}
+
+/// A frame with nothing private, beside the method that sums it once more (CR 4).
+fn nothing_private(frame: &[u8]) {
+    let (mut a, mut b) = (frame.to_vec(), frame.to_vec());
+    assert_eq!(number(host::scrub(&mut a)), plain::scrub_anew(&mut b));
+    assert!(a == b);
+    let job = Job {
+        name: "scrub, summed once",
+        input: "an M101 of 8,192 bytes, beside summing it twice",
+        bytes: frame.len(),
+        goal: Some(0.65),
+    };
+    job.race(
+        "byte",
+        1,
+        || done(host::scrub(black_box(&mut a))),
+        || done(plain::scrub_anew(black_box(&mut b))),
+    );
 }
 
 /// The places of the frames of a capture.
