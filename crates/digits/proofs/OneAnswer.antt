@@ -14,6 +14,8 @@ use Rattle.digits.proofs.put_digits.Reads as put-digits
 use Rattle.digits.proofs.put_digits.Kinds as put-digits-kinds
 use Rattle.digits.proofs.put_decimal.Reads as put-decimal
 use Rattle.digits.proofs.put_decimal.Kinds as put-decimal-kinds
+use Rattle.digits.proofs.width.Reads as width
+use Rattle.digits.proofs.width.Kinds as width-kinds
 use Rattle.digits.proofs.digits_at.Reads as digits-at
 use Rattle.digits.proofs.digits_at.Kinds as digits-at-kinds
 use Rattle.digits.proofs.decimal_at.Reads as decimal-at
@@ -41,6 +43,11 @@ put-decimal-one-buffer κs a x y s t p q = p .1 ∙ sym (q .1)
 
 pub put-decimal-refused-keeps : RefusedKeeps _ put-decimal-kinds.ps put-decimal-kinds.r put-decimal.Post (λ κs x. Refuses x) (λ κs a. now (a .0)) (λ κs s. now (s .0))
 put-decimal-refused-keeps κs a x s p w = refused-kept _ _ _ _ _ x (length-decimal _ _) w (p .0) (p .1)
+
+-- HOW MANY DIGITS
+
+pub width-one-answer : OneAnswer _ width-kinds.ps width-kinds.r width.Post
+width-one-answer κs a x y s t p q = p ∙ sym q
 
 -- TEXT READ
 

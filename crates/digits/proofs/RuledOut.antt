@@ -5,7 +5,7 @@ use mathlib.Core.List.{List, [], _∷_}
 use denote.Ref.{now}
 use lib.ListN.{length, replicate}
 use Rattle.terms.specs.Paper.{Paper, answer, refusal}
-use Rattle.terms.specs.RuledOut.{Row, _never_, _only_, Kept, RulesOut, ruled, lists, papers, Left, left, lefts, left-is}
+use Rattle.terms.specs.RuledOut.{Row, _never_, _only_, Kept, RulesOut, ruled, numbers, lists, papers, Left, left, lefts, left-is}
 use Rattle.octets.specs.Octets.{numeral, digitsOf, laid}
 use Rattle.octets.specs.Papers.{writtenPaper, roomFor, laidIfRoom}
 use Rattle.digits.specs.Digits.{decimalOf, widthIn, widthOf, shownOf, allDigits, saidBy, saidIfDigits, digitsAt, decimalAt, decimalPaper}
@@ -13,6 +13,8 @@ use Rattle.digits.proofs.put_digits.Reads as put-digits
 use Rattle.digits.proofs.put_digits.Kinds as put-digits-kinds
 use Rattle.digits.proofs.put_decimal.Reads as put-decimal
 use Rattle.digits.proofs.put_decimal.Kinds as put-decimal-kinds
+use Rattle.digits.proofs.width.Reads as width
+use Rattle.digits.proofs.width.Kinds as width-kinds
 use Rattle.digits.proofs.digits_at.Reads as digits-at
 use Rattle.digits.proofs.digits_at.Kinds as digits-at-kinds
 use Rattle.digits.proofs.decimal_at.Reads as decimal-at
@@ -43,6 +45,18 @@ pub put-decimal-rules-out : RulesOut (Kept _ put-decimal-kinds.ps put-decimal-ki
 unfolding digitsOf laid roomFor laidIfRoom decimalOf widthIn
 put-decimal-rules-out =
     ruled lefts (λ (i : List ℕ × (ℕ × ℕ)). left (roomFor (i .1 .0) (widthOf (i .1 .1)) (length (i .0))) (laidIfRoom (i .1 .0) (shownOf (i .1 .1)) (i .0))) (λ c p. left-is p) _ refl
+
+-- HOW MANY DIGITS: a number; its digits
+abbrev pub width-wrong : List (Row ℕ ℕ)
+width-wrong =
+    0 never 0  -- no digit for 0
+    ∷ 10 never 1  -- one short at a power of ten
+    ∷ 18446744073709551615 only 20
+    ∷ []
+
+pub width-rules-out : RulesOut (Kept _ width-kinds.ps width-kinds.r width.Post) (λ c. c .args .0) (λ c. c .result) width-wrong
+unfolding widthIn
+width-rules-out = ruled numbers widthOf (λ c p. p) _ refl
 
 -- READING: bytes, a place and a width; a number, or none
 abbrev pub digits-at-wrong : List (Row (List ℕ × (ℕ × ℕ)) Paper)

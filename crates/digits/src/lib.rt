@@ -52,7 +52,7 @@ pub fn put_digits(d: &mut [u8], at: usize, n: usize, v: u64) -> Written
 }
 
 // How many digits v has; 0 has one.
-fn width(v: u64) -> usize
+pub fn width(v: u64) -> usize
     ensures { λ r. ⌜ r ≡ widthOf v ⌝ }
 {
     let mut x = v;
