@@ -1,0 +1,10 @@
+pub mod Numbers
+pub mod Pieces
+pub mod NumberLaws
+pub mod NumberSteps
+pub mod Columns
+pub mod ColumnLaws
+pub mod Tables
+pub mod ColumnSteps
+pub mod NumberPut
+pub mod Values

@@ -1,0 +1,14 @@
+pub mod File
+pub mod Lines
+pub mod Files
+pub mod Types
+pub mod LineValues
+pub mod Told
+pub mod LinesValues
+pub mod TrailerText
+pub mod Sound
+pub mod ValueBytes
+pub mod TakenBack
+pub mod FileBytes
+pub mod BytesBack
+pub mod WrittenAgain
