@@ -172,6 +172,10 @@ file-is : (v : Values) (x : ℕ) → x ≡ sum8 (bodyOf v) → bodyOf v ++ sumTe
 unfolding fileOf
 file-is v x q = ap (λ (y : ℕ). bodyOf v ++ sumText y) q
 
+-- a file's three parts
+pub file-parts : (v : Values) → fileOf v ≡ headText v ++ (linesText (v .lines) ++ trailerText (sum8 (bodyOf v)))
+file-parts v = sym (file-is v (sum8 (bodyOf v)) refl) ∙ sym (body-is v (sum8 (bodyOf v)))
+
 pub sound-back : (s : List ℕ) (n : ℕ) → faultOf s ≡ fine n → SoundIs s n
 unfolding valuesOf valuesFit
 sound-back s n p =

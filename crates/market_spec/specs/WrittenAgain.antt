@@ -149,7 +149,7 @@ module _ (room : ℕ) (s : List ℕ) where
 -- THE ROUND TRIPS
 
 -- every answer is 0 or a refusal
-values-told : (s : List ℕ) → Told (valuesTaken s)
+pub values-told : (s : List ℕ) → Told (valuesTaken s)
 unfolding valuesTaken
 values-told s = by (row-told own 0 s)
   where

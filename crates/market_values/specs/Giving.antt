@@ -13,9 +13,9 @@ use borrow.Author.Tests.{le-leb, lt-leb, ne-eqb}
 use Rattle.terms.specs.Paper.{Paper, pick}
 use Rattle.terms.specs.Cases.{two, less, same, clash}
 use Rattle.digits.specs.Digits.{nothing}
-use Rattle.octets.specs.Octets.{be, bytesOf, laid}
+use Rattle.octets.specs.Octets.{be, bytesOf, laid, sum8}
 use Rattle.octets.specs.Numerals.{length-digits}
-use Rattle.octets.specs.Overlays.{laid-append, length-laid, laid-one, laid-nil}
+use Rattle.octets.specs.Overlays.{laid-append, length-laid, laid-one, laid-nil, laid-next}
 use Rattle.octets.specs.Papers.{laidIfRoom, laid-there}
 use Rattle.market_columns.specs.Numbers.{amount, numberIn}
 use Rattle.market_columns.specs.Pieces.{column-length}
@@ -26,13 +26,14 @@ use Rattle.market_columns.specs.Tables.{lengthOf}
 use Rattle.market_spec.specs.File.{fault, fine, andThen, lineFault, linesFault, typeAt, layoutOf, faultOf}
 use Rattle.market_spec.specs.Files.{line-long, lines-trailer, lines-cut, lines-type, lines-line}
 use Rattle.market_spec.specs.Told.{not-fine, Then, then-both, line-told, type-most}
-use Rattle.market_spec.specs.LinesValues.{Line, isLine, linesFit, linesValues, is-line}
-use Rattle.market_spec.specs.Sound.{Values, Sound, headValues, fileOf, valuesOf, valuesFit, Parts, parts, sound-exactly}
+use Rattle.market_spec.specs.LinesValues.{Line, isLine, linesFit, linesText, linesValues, is-line}
+use Rattle.market_spec.specs.Sound.{Values, Sound, headValues, bodyOf, fileOf, valuesOf, valuesFit, Parts, parts, sound-exactly, file-parts}
+use Rattle.market_spec.specs.TrailerText.{trailerText}
 use Rattle.market_spec.specs.WrittenAgain.{own-fits}
 use Rattle.digits.specs.Laws.{both}
-use Rattle.market_spec.specs.FileBytes.{own, ownValues, typeNumber, lineBytes, linesBytes, valuesBytes}
+use Rattle.market_spec.specs.FileBytes.{own, ownValues, typeNumber, lineBytes, linesBytes, valuesBytes, laidIf0}
 use Rattle.market_spec.specs.Lines.{columns-next, columns-none}
-use Rattle.market_spec.specs.LineValues.{lineValues, lineFits, Passed, line-passed, line-reads}
+use Rattle.market_spec.specs.LineValues.{lineValues, lineFits, Passed, line-passed, line-reads, line-values}
 use Rattle.market_spec.specs.ValueBytes.{valueBytes, rowBytes, sizeOf}
 use Rattle.market_spec.specs.TakenBack.{sizesOf, value-long, row-long}
 
@@ -264,3 +265,114 @@ size-next s p n z h =
 pub size-end : (s : List ℕ) (p n : ℕ) → SizeLeft s p n → 4 < typeAt p s → n ≡ length (valuesBytes (valuesOf s))
 unfolding linesBytes
 size-end s p n z h = let e = lines-end s p (z .lines) (z .stand) h in let w : length (linesBytes (z .lines)) ≡ 0 = rw e in omega (arith, z .whole, w)
+
+-- THE LOOP THAT LAYS THE VALUES OF ALL LINES: what is left, laid over what stands there, gives what is to be
+
+pub record GiveLeft (s : List ℕ) (p a : ℕ) (out goal : List ℕ) : Type 0 where
+  pub lines : List Line
+  pub stand : Lines s p lines
+  pub room : a + length (linesBytes lines) ≤ length out
+  pub same-bytes : laid a (linesBytes lines) out ≡ goal
+
+-- a line's bytes are laid at once, or the type first and then the values
+pub line-given-laid : (a n : ℕ) (l : Line) (out o1 o2 : List ℕ) → length (rowBytes (l .values)) ≡ n → a + (2 + n) ≤ length out
+    → o1 ≡ laidIfRoom a (bytesOf 2 (typeNumber (l .kind))) out → o2 ≡ laid (a + 2) (rowBytes (l .values)) o1 → (o2 ≡ laid a (lineBytes l) out) × (length o1 ≡ length out)
+line-given-laid a n l out o1 o2 e r p q =
+    let w : length (bytesOf 2 (typeNumber (l .kind))) ≡ 2 = length-digits 256 2 (typeNumber (l .kind)) in
+    let x : o1 ≡ laid a (bytesOf 2 (typeNumber (l .kind))) out = p ∙ laid-there a 2 (bytesOf 2 (typeNumber (l .kind))) out w (le-leb (a + 2) (length out) (omega arith)) in
+    let y : laid a (lineBytes l) out ≡ laid (a + 2) (rowBytes (l .values)) (laid a (bytesOf 2 (typeNumber (l .kind))) out)
+    = rw w at (laid-append a (bytesOf 2 (typeNumber (l .kind))) (rowBytes (l .values)) out (rw w (omega arith))) in
+    (q ∙ ap (laid (a + 2) (rowBytes (l .values))) x ∙ sym y, ap length x ∙ length-laid a (bytesOf 2 (typeNumber (l .kind))) out (rw w (omega arith)))
+
+module _ (s : List ℕ) (p a : ℕ) (out goal : List ℕ) (z : GiveLeft s p a out goal) where
+  pub give-end : 4 < typeAt p s → out ≡ goal
+  unfolding linesBytes
+  give-end h = let e = lines-end s p (z .lines) (z .stand) h in sym (rw e (laid-nil a out)) ∙ z .same-bytes
+
+  module _ (h : typeAt p s ≤ 4) where
+    x : LinesNext s p (z .lines)
+    x = lines-next s p (z .lines) (z .stand) h
+
+    abbrev l : Line
+    l = lineOf p s
+
+    long : length (rowBytes (l .values)) ≡ sizesOf (layoutOf (typeAt p s))
+    long = row-long (layoutOf (typeAt p s)) (l .values) (x .fitting)
+
+    all : length (linesBytes (z .lines)) ≡ 2 + sizesOf (layoutOf (typeAt p s)) + length (linesBytes (x .rest))
+    unfolding linesBytes
+    all = ap (λ (ls : List Line). length (linesBytes ls)) (x .split) ∙ length-append (lineBytes l) (linesBytes (x .rest)) ∙ rw (line-bytes-long (typeAt p s) l (x .fitting))
+
+    pub give-room : a + (2 + sizesOf (layoutOf (typeAt p s))) ≤ length out
+    give-room = omega (arith, z .room, all)
+
+    pub give-right : Right (layoutOf (typeAt p s)) p s
+    give-right = x .right
+
+    module _ (o1 o2 : List ℕ) (q1 : o1 ≡ laidIfRoom a (bytesOf 2 (typeNumber (typeAt p s))) out) (q2 : o2 ≡ laid (a + 2) (rowBytes (lineValues (layoutOf (typeAt p s)) (drop p s))) o1) where
+      pub give-kept-1 : length o1 ≡ length out
+      give-kept-1 = line-given-laid a (sizesOf (layoutOf (typeAt p s))) l out o1 o2 long give-room q1 q2 .1
+
+      one : o2 ≡ laid a (lineBytes l) out
+      one = line-given-laid a (sizesOf (layoutOf (typeAt p s))) l out o1 o2 long give-room q1 q2 .0
+
+      pub give-kept : length o2 ≡ length out
+      give-kept = ap length one ∙ length-laid a (lineBytes l) out (rw (line-bytes-long (typeAt p s) l (x .fitting)) give-room)
+
+      pub give-next : GiveLeft s (p + lengthOf (layoutOf (typeAt p s))) (a + (2 + sizesOf (layoutOf (typeAt p s)))) o2 goal
+      unfolding linesBytes
+      give-next =
+          let e = line-bytes-long (typeAt p s) l (x .fitting) in
+          let f : laid a (linesBytes (z .lines)) out ≡ laid (a + (2 + sizesOf (layoutOf (typeAt p s)))) (linesBytes (x .rest)) (laid a (lineBytes l) out)
+          = ap (λ (ls : List Line). laid a (linesBytes ls) out) (x .split) ∙ (rw e at (laid-append a (lineBytes l) (linesBytes (x .rest)) out (rw e give-room))) in
+          record { lines = x .rest; stand = x .onward; room = omega (arith, z .room, all, give-kept); same-bytes = rw one (sym f ∙ z .same-bytes) }
+
+pub give-first : (s out : List ℕ) → Sound s → length (valuesBytes (valuesOf s)) ≤ length out → GiveLeft s 82 38 out (laid 38 (linesBytes (valuesOf s .lines)) out)
+unfolding valuesBytes
+give-first s out g h =
+    record {
+      lines = valuesOf s .lines;
+      stand = lines-first s g;
+      room = rw (length-append (rowBytes (ownValues (valuesOf s))) (linesBytes (valuesOf s .lines)), own-long s g) at h;
+      same-bytes = refl;
+    }
+
+-- THE WHOLE OF IT
+
+own-place : (s : List ℕ) → drop 7 (drop 9 (drop 6 (drop 11 (drop 9 (drop 7 s))))) ≡ drop 49 s
+own-place s = rw (drop-drop 9 7 s, drop-drop 11 16 s, drop-drop 6 27 s, drop-drop 9 33 s, drop-drop 7 42 s)
+
+-- the header's own values, as they are read
+pub own-values : (s : List ℕ) → Sound s → lineValues own (drop 49 s) ≡ ownValues (valuesOf s)
+unfolding lineValues valuesFit
+own-values s g =
+    let m = sound-exactly s g in
+    let v = valuesOf s in
+    let p = both (leb (length (fileOf v)) 65536) (lineFits header (headValues v) && linesFit (v .lines)) (m .0) in
+    let q = both (lineFits header (headValues v)) (linesFit (v .lines)) (p .1) in
+    let h : lineValues header s ≡ headValues v = ap (lineValues header) (m .1 ∙ file-parts v) ∙ line-values header (headValues v) (linesText (v .lines) ++ trailerText (sum8 (bodyOf v))) (q .0) in
+    ap (lineValues own) (sym (own-place s)) ∙ ap (drop 6) h
+
+pub all-given : (s o o1 o2 : List ℕ) → Sound s → length (valuesBytes (valuesOf s)) ≤ length o → o1 ≡ laid 0 (rowBytes (lineValues own (drop 49 s))) o → o2 ≡ laid 38 (linesBytes (valuesOf s .lines)) o1 → o2 ≡ laid 0 (valuesBytes (valuesOf s)) o
+unfolding valuesBytes
+all-given s o o1 o2 g h p q =
+    let l : 38 ≤ length o = omega (arith, length-append (rowBytes (ownValues (valuesOf s))) (linesBytes (valuesOf s .lines)), own-long s g) in
+    laid-next 38 (rowBytes (ownValues (valuesOf s))) (linesBytes (valuesOf s .lines)) o o1 o2 q (p ∙ ap (λ (vs : List Value). laid 0 (rowBytes vs) o) (own-values s g)) (own-long s g) l
+
+pub own-kept : (s o o1 : List ℕ) → Sound s → length (valuesBytes (valuesOf s)) ≤ length o → o1 ≡ laid 0 (rowBytes (lineValues own (drop 49 s))) o → length o1 ≡ length o
+unfolding valuesBytes
+own-kept s o o1 g h p =
+    let e : length (rowBytes (lineValues own (drop 49 s))) ≡ 38 = ap (λ (vs : List Value). length (rowBytes vs)) (own-values s g) ∙ own-long s g in
+    ap length p ∙ length-laid 0 (rowBytes (lineValues own (drop 49 s))) o (rw e (omega (arith, length-append (rowBytes (ownValues (valuesOf s))) (linesBytes (valuesOf s .lines)), own-long s g)))
+
+pub own-room : (s o : List ℕ) → Sound s → length (valuesBytes (valuesOf s)) ≤ length o → 0 + sizesOf own ≤ length o
+unfolding valuesBytes
+own-room s o g h = omega (arith, length-append (rowBytes (ownValues (valuesOf s))) (linesBytes (valuesOf s .lines)), own-long s g)
+
+-- AN ANSWER AND A BUFFER: a refusal leaves it, 0 lays
+
+pub not-laid : (p : Paper) (n q : ℕ) (x d : List ℕ) → (n ≡ 0 → ⊥) → p ≡ fault n q → (fault n q ≡ p) × (d ≡ laidIf0 p x d)
+not-laid p n q x d z e = (sym e, rw (e, ne-eqb n 0 z))
+
+pub is-laid : (p : Paper) (n : ℕ) (x y d : List ℕ) → p ≡ fine n → y ≡ laid 0 x d → (fine n ≡ p) × (y ≡ laidIf0 p x d)
+is-laid p n x y d e q = (sym e, rw e q)
