@@ -4,7 +4,7 @@ ghost use mathlib.Core.List.{_∷_};
 ghost use Prim.Native.Nat.{_+_, _≤_, _<_};
 ghost use lib.ListN.{length, take, drop};
 ghost use Rattle.market_columns.specs.Columns.{columns};
-ghost use Rattle.market_spec.specs.File.{endOf, lineFault, beginsAt, wordOf, typeAt, layoutOf, tailFault, marks, markOk, leftOver, andThen, countOk, sumOk, closing, trailerFault, linesFault, faultOf, fault};
+ghost use Rattle.market_spec.specs.File.{endOf, lineFault, beginsAt, wordOf, typeAt, layoutOf, firstOf, lastOf, tailFault, marks, markOk, leftOver, andThen, countOk, sumOk, closing, trailerFault, linesFault, faultOf, fault};
 ghost use Rattle.market.specs.Papers.{faultNumber, verdictPaper};
 use digits::Decimal;
 use market_columns::Amount;
@@ -169,7 +169,7 @@ pub struct Rows {
 
 // The rows of a line's type, 1 to 4.
 pub fn rows_of(t: u8) -> Rows
-    ensures { λ r. ⌜ (columns (r .first) (r .last) ≡ layoutOf t) × (r .last ≤ 58) ⌝ }
+    ensures { λ r. ⌜ (columns (r .first) (r .last) ≡ layoutOf t) × ((r .last ≤ 58) × ((r .first ≡ firstOf t) × (r .last ≡ lastOf t))) ⌝ }
 {
     if t == 1 {
         return Rows { first: 9, last: 26 };

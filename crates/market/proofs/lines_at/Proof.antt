@@ -43,7 +43,7 @@ rows-of-requires : tie.Need-rows-of-requires Inv-loop μ-loop
 rows-of-requires c κs = search needs
 
 line-at-requires : tie.Need-line-at-requires Inv-loop μ-loop
-line-at-requires c κs = (c .before .before .before .before .before .loop .inv .inside, c .rows-of .ensures .1)
+line-at-requires c κs = (c .before .before .before .before .before .loop .inv .inside, c .rows-of .ensures .1 .0)
 
 enum-known-f : tie.Need-enum-known-f Inv-loop μ-loop
 enum-known-f c = search needs

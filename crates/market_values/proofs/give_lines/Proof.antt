@@ -93,7 +93,7 @@ give-line-requires c κs =
     let s = e .before .before .before .before .before .args .s .now in
     let f = c .before .rows-of .ensures .0 ∙ ap layoutOf (e .before .line-type .ensures) in
     let k : length (y .put .last .0) ≡ length (l .out) = give-kept-1 s (l .p) (l .a) (l .out) _ (l .inv .1) (is-line e) (y .put .last .0) _ (typed y) refl in
-    (c .before .rows-of .ensures .1, (rw (f, k) (omega (arith, give-room s (l .p) (l .a) (l .out) _ (l .inv .1) (is-line e))), rw f (give-right s (l .p) (l .a) (l .out) _ (l .inv .1) (is-line e))))
+    (c .before .rows-of .ensures .1 .0, (rw (f, k) (omega (arith, give-room s (l .p) (l .a) (l .out) _ (l .inv .1) (is-line e))), rw f (give-right s (l .p) (l .a) (l .out) _ (l .inv .1) (is-line e))))
 
 line-size-requires : tie.Need-line-size-requires Inv-loop μ-loop
 line-size-requires c κs = search needs

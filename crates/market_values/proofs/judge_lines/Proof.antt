@@ -88,7 +88,7 @@ add-values-fit : tie.Need-add-values-fit Inv-loop μ-loop
 add-values-fit c = let e = c .before .before .before .before in record { fits = omega (arith, whole e, small (e .before)) }
 
 values-fit-requires : tie.Need-values-fit-requires Inv-loop μ-loop
-values-fit-requires c κs = (whole (c .before .before .before .before), c .rows-of .ensures .1)
+values-fit-requires c κs = (whole (c .before .before .before .before), c .rows-of .ensures .1 .0)
 
 enum-known-f : tie.Need-enum-known-f Inv-loop μ-loop
 enum-known-f c = search needs

@@ -76,7 +76,7 @@ put-line-requires c κs =
     let y = c .before in
     let i = y .before .before .before in
     let l = i .before .loop in
-    (y .rows-of .ensures .1, (rw (rows y) (room i), rw (rows y) (put-fits (i .before .before .before .before .args .s .now) (l .p) (l .a) (l .out) _ (l .inv .1) (search needs))))
+    (y .rows-of .ensures .1 .0, (rw (rows y) (room i), rw (rows y) (put-fits (i .before .before .before .before .args .s .now) (l .p) (l .a) (l .out) _ (l .inv .1) (search needs))))
 
 line-long-requires : tie.Need-line-long-requires Inv-loop μ-loop
 line-long-requires c κs = search needs
