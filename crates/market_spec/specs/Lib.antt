@@ -12,3 +12,6 @@ pub mod TakenBack
 pub mod FileBytes
 pub mod BytesBack
 pub mod WrittenAgain
+pub mod Walk
+pub mod Given
+pub mod Lowest
