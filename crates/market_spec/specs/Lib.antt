@@ -15,3 +15,4 @@ pub mod WrittenAgain
 pub mod Walk
 pub mod Given
 pub mod Lowest
+pub mod Renamed

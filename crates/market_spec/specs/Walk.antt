@@ -207,7 +207,7 @@ pub record From (s : List ℕ) (k p : ℕ) : Type 0 where
   pub inside : p ≤ length s
   pub same-answer : faultOf s ≡ linesFault fuel k p s
 
-line-not : (t : ℕ) → isLine t ≡ true → (t ≡ 5 → ⊥) × ((t ≡ 6 → ⊥) × (t ≡ 0 → ⊥))
+pub line-not : (t : ℕ) → isLine t ≡ true → (t ≡ 5 → ⊥) × ((t ≡ 6 → ⊥) × (t ≡ 0 → ⊥))
 line-not t h = let q = both (leb 1 t) (leb t 4) h in (λ e. omega (arith, leb-true t 4 (q .1)), (λ e. omega (arith, leb-true t 4 (q .1)), λ e. omega (arith, leb-true 1 t (q .0))))
 
 pub line-from : {s : List ℕ} {k p : ℕ} (f : From s k p) → isLine (typeAt p s) ≡ true → faultOf s ≡ andThen (lineFault 43 (layoutOf (typeAt p s)) p s) (λ (e : ℕ). linesFault (f .fuel - 1) (k + 1) e s)
