@@ -8,8 +8,9 @@ use lib.Dec.{ltb, eqb}
 use lib.ListN.{length, getD}
 use Rattle.terms.specs.Paper.{Paper, answer, refusal, pick}
 use Rattle.step_spec.specs.Pieces.{SOH, untilOf}
-use Rattle.step_spec.specs.Fields.{fits}
-use Rattle.step_spec.specs.FieldLaws.{piece, rowIn}
+use Rattle.step_tags.specs.Forms.{fitRow}
+use Rattle.step_spec.specs.Fields.{isField, tagOf, valueOf}
+use Rattle.step_spec.specs.FieldLaws.{piece}
 use Rattle.step_frame.specs.declared.Field.{Field}
 use Rattle.step_frame.specs.declared.Field.the-variants.{At, NoField}
 use Rattle.step_frame.specs.declared.Fit.{Fit}
@@ -44,17 +45,16 @@ field-told NoField = refl
 pub field-one : (x y : Field) → fieldPaper x ≡ fieldPaper y → x ≡ y
 field-one x y e = sym (field-told x) ∙ ap (λ (p : Paper). toldField (p .values)) e ∙ field-told y
 
--- the piece at the front of t, which stands behind the place at, fits the type, and stands in a row
-pub record Fitting (type at : ℕ) (t : List ℕ) (row next : ℕ) : Type 0 where
+-- the piece at the front of t, which stands behind the place at, is a field, and the row is that of its tag and value
+pub record Fitting (at : ℕ) (t : List ℕ) (row next : ℕ) : Type 0 where
   pub found : untilOf SOH t < length t
-  pub fitting : fits type (piece t) ≡ true
-  pub rows : row ≡ rowIn t
-  pub small : row < 27
+  pub is : isField (piece t) ≡ true
+  pub rows : row ≡ fitRow (tagOf (piece t)) (valueOf (piece t))
   pub ends : next ≡ at + untilOf SOH t + 1
 
-abbrev pub FitSays : Fit → ℕ → ℕ → List ℕ → Type 0
-FitSays (Fit.Row row next) type at t = Fitting type at t row next
-FitSays Fit.Bad type at t = (ltb (untilOf SOH t) (length t) && fits type (piece t)) ≡ false
+abbrev pub FitSays : Fit → ℕ → List ℕ → Type 0
+FitSays (Fit.Row row next) at t = Fitting at t row next
+FitSays Fit.Bad at t = (ltb (untilOf SOH t) (length t) && isField (piece t)) ≡ false
 
 -- document 01's and 02's numbers
 abbrev pub stepNumber : StepRefusal → ℕ

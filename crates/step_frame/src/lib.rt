@@ -1,15 +1,20 @@
 // One STEP frame: its fields, reading, writing.
 ghost use mathlib.Core.Path.{_≡_};
-ghost use Prim.Native.Nat.{_+_, _-_, _≤_, _<_, min};
+ghost use mathlib.Core.Bool.{not, _&&_};
+ghost use Prim.Native.Nat.{_+_, _-_, _^_, _≤_, _<_, min};
 ghost use lib.ListN.{length, take, drop};
 ghost use Rattle.step_spec.specs.Pieces.{untilOf, pieces};
-ghost use Rattle.step_spec.specs.Fields.{fieldAt, complete, soundOf, begins52, unrealIn, judgeOf};
-ghost use Rattle.step_spec.specs.Frame.{front, orElse, digitRun, typeTag, kindCheck, window, lengthCheck, bodyStart, bodyLength, longCheck, typeCheck, headOf, sumCheck, stepReadOf};
+ghost use Rattle.step_spec.specs.Fields.{fieldAt, complete, begins52, unrealIn, judgeOf};
+ghost use Rattle.step_spec.specs.Seen.{seenIn};
+ghost use Rattle.step_spec.specs.Pass.{fineOf};
+ghost use Rattle.step_tags.specs.Masks.{isSet};
+ghost use Rattle.step_spec.specs.Frame.{front, digitRun, typeTag, kindCheck, window, lengthCheck, bodyStart, bodyLength, longCheck, typeCheck, headOf, sumCheck, stepReadOf};
 ghost use Rattle.step_frame.specs.Papers.{fieldPaper, FitSays, stepNumber, checkNumber, readPaper, HeadSays, Sized, stepWrittenPaper};
 ghost use Rattle.step_spec.specs.Written.{plainOf, frameOf, stepWriteOf, stepLeftOf};
 ghost use Rattle.octets.specs.Octets.{laid};
 ghost use Rattle.digits.specs.Digits.{widthOf};
 use digits::Decimal;
+ghost use Rattle.terms.specs.Checks.{orElse};
 
 // Why a frame or a message is refused. The numbers are those of document 02.
 pub enum StepRefusal {
@@ -65,9 +70,9 @@ pub enum Field {
     NoField,
 }
 
-// A field that suits a type: its row, and the place behind it; or not.
+// A field as the pass sees it: its row, or 27, and the place behind it; or none.
 enum Fit {
-    Row(usize, usize),
+    Row(u32, usize),
     Bad,
 }
 
@@ -112,9 +117,9 @@ pub fn field_at(fields: &[u8], place: usize) -> Field
     }
 }
 
-// The field at a place, if the type has it and its value has its form.
-fn fit_at(kind: u8, fields: &[u8], at: usize) -> Fit
-    ensures { λ r. ⌜ FitSays r kind at (drop at (now (fields .entry))) ⌝ }
+// The row of the field at a place, 27 where its value is not good, and the place behind it.
+fn fit_at(fields: &[u8], at: usize) -> Fit
+    ensures { λ r. ⌜ FitSays r at (drop at (now (fields .entry))) ⌝ }
 {
     match field_at(fields, at) {
         Field::NoField => Fit::Bad,
@@ -124,49 +129,52 @@ fn fit_at(kind: u8, fields: &[u8], at: usize) -> Fit
             len,
             next,
         } => {
-            let row = step_tags::row_of(tag);
-            if step_tags::use_of(row, kind) == b'.' {
-                return Fit::Bad;
-            }
             let end = value + len;
-            if !step_tags::form_ok(row, &fields[value..end]) {
-                return Fit::Bad;
-            }
-            Fit::Row(row, next)
+            Fit::Row(step_tags::fit(tag, &fields[value..end]), next)
         }
     }
+}
+
+// Whether a row is one of a type's rows, and not seen yet.
+fn may_stand(rows: u32, seen: u32, row: u32) -> bool
+    requires { ⌜ row ≤ 27 ⌝ }
+    ensures { λ r. ⌜ r ≡ (isSet rows row && not (isSet seen row)) ⌝ }
+{
+    ((rows >> row) % 2 == 1) & !((seen >> row) % 2 == 1)
+}
+
+fn with_row(seen: u32, row: u32) -> u32
+    requires { ⌜ (row < 27) × (seen + 2 ^ row < 2 ^ 27) ⌝ }
+    ensures { λ r. ⌜ r ≡ seen + 2 ^ row ⌝ }
+{
+    seen + (1u32 << row)
 }
 
 // Whether every row that a type needs is seen.
-fn is_complete(kind: u8, seen: [bool; 27]) -> bool
-    ensures { λ r. ⌜ r ≡ complete kind seen ⌝ }
+fn is_complete(kind: u8, seen: u32) -> bool
+    ensures { λ r. ⌜ r ≡ complete kind (seenIn 27 seen) ⌝ }
 {
-    let mut i: usize = 0;
-    while i < 27 {
-        if (step_tags::use_of(i, kind) == b'Y') & !seen[i] {
-            return false;
-        }
-        i += 1;
-    }
-    true
+    let need = step_tags::needed_by(kind);
+    seen & need == need
 }
 
-// Check 26: whether the fields are those of a type, each in its form, none twice and none missing.
-fn is_sound(kind: u8, fields: &[u8]) -> bool
-    ensures { λ r. ⌜ r ≡ soundOf kind (now (fields .entry)) ⌝ }
+// The checks 7 and 26 in one pass: whether the fields are those of a type, each good, none twice and none missing.
+fn is_fine(kind: u8, fields: &[u8]) -> bool
+    ensures { λ r. ⌜ r ≡ fineOf kind (now (fields .entry)) ⌝ }
 {
-    let mut seen = [false; 27];
+    let rows = step_tags::rows_of(kind);
+    let mut seen: u32 = 0;
     let mut i: usize = 0;
     while i < fields.len() {
-        match fit_at(kind, fields, i) {
+        match fit_at(fields, i) {
             Fit::Bad => {
                 return false;
             }
             Fit::Row(row, next) => {
-                if seen[row] {
+                if !may_stand(rows, seen, row) {
                     return false;
                 }
-                seen[row] = true;
+                seen = with_row(seen, row);
                 i = next;
             }
         }
@@ -204,17 +212,17 @@ fn is_unreal(fields: &[u8]) -> bool
     false
 }
 
-// All that is said of the fields of a message: 7, then 26.
+// All that is said of the fields of a message: 7, then 26. Where all is well one pass is enough; else it asks which of the two.
 fn judge(kind: u8, fields: &[u8]) -> Check
     ensures { λ r. ⌜ checkNumber r ≡ judgeOf kind (now (fields .entry)) ⌝ }
 {
+    if is_fine(kind, fields) {
+        return Check::Passed;
+    }
     if is_unreal(fields) {
         return Check::Refused(StepRefusal::Time);
     }
-    if !is_sound(kind, fields) {
-        return Check::Refused(StepRefusal::Fields);
-    }
-    Check::Passed
+    Check::Refused(StepRefusal::Fields)
 }
 
 // Whether the bytes from a place on begin with a literal; 1 where they end before a byte differs.

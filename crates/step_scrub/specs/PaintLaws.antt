@@ -21,7 +21,7 @@ use Rattle.step_tags.specs.Forms.{some, isText, suits, formOk, isUnreal}
 use Rattle.step_spec.specs.Pieces.{SOH, equals, untilOf, pieces, closed}
 use Rattle.step_spec.specs.PieceLaws.{until-le, until-found, until-here, until-on, pieces-cut, closed-cut, not-closed}
 use Rattle.step_spec.specs.Fields.{isField, tagOf, valueOf, fits, passes, soundOf, soundFrom, begins52, unrealIn, judgeOf}
-use Rattle.step_spec.specs.FieldLaws.{piece, decimal-same, long-52}
+use Rattle.step_spec.specs.FieldLaws.{piece, decimal-same, tag-52}
 use Rattle.step_scrub.specs.Scrubbed.{isPrivate, paintPiece, paintAll, joined, painted, allFields}
 use Rattle.step_scrub.specs.Turns.{mark-in, split-value, painted-long, painted-cut, fields-cut, closed-found, painted-end}
 
@@ -187,33 +187,6 @@ pub again-all : (ps : List (List ℕ)) → allFields ps ≡ true → paintAll (p
 unfolding paintAll allFields
 again-all [] h = refl
 again-all (p ∷ ps) h = let a = both (isField p) (allFields ps) h in rw (painted-again p (a .0), again-all ps (a .1))
-
--- `52=` is the tag 52
-until-52 : (r : List ℕ) → untilOf equals (53 ∷ 50 ∷ 61 ∷ r) ≡ 2
-unfolding untilOf
-until-52 r = refl
-
-said-52 : (r : List ℕ) → getD (decimalAt 0 (untilOf equals (53 ∷ 50 ∷ 61 ∷ r)) (53 ∷ 50 ∷ 61 ∷ r) .values) 0 0 ≡ 52
-unfolding allDigits saidBy numeral
-said-52 r =
-    let g : Says 0 2 (53 ∷ 50 ∷ 61 ∷ r) 52 = record { place = record { some = lit≤ tt; few = lit≤ tt; within = omega arith }; digits = refl; says = refl } in
-    let e : decimalAt 0 2 (53 ∷ 50 ∷ 61 ∷ r) ≡ number 52 = given-decimal 0 2 (53 ∷ 50 ∷ 61 ∷ r) 52 g refl in
-    rw (until-52 r, e)
-
-tag-52 : (x : List ℕ) → begins52 x ≡ true → tagOf x ≡ 52
-unfolding tagOf
-tag-52 x h =
-    let l = long-52 x h in
-    let a = both (eqb (getD x 0 0) 53 && eqb (getD x 1 0) 50) (eqb (getD x 2 0) equals) h in
-    let b = both (eqb (getD x 0 0) 53) (eqb (getD x 1 0) 50) (a .0) in
-    let e : x ≡ 53 ∷ 50 ∷ 61 ∷ drop 3 x = three x l ∙ rw (eqb-true (getD x 0 0) 53 (b .0), eqb-true (getD x 1 0) 50 (b .1), eqb-true (getD x 2 0) 61 (a .1)) in
-    ap (λ (s : List ℕ). getD (decimalAt 0 (untilOf equals s) s .values) 0 0) e ∙ said-52 (drop 3 x)
-  where
-    three : (s : List ℕ) → 3 ≤ length s → s ≡ getD s 0 0 ∷ getD s 1 0 ∷ getD s 2 0 ∷ drop 3 s
-    three [] h = absurd (omega arith)
-    three (a ∷ []) h = absurd (omega arith)
-    three (a ∷ b ∷ []) h = absurd (omega arith)
-    three (a ∷ b ∷ c ∷ s) h = refl
 
 -- so a piece that begins so is no private one, and is not painted
 private-not-52 : (p : List ℕ) → isPrivate (tagOf p) ≡ true → begins52 p ≡ false

@@ -12,6 +12,7 @@ use borrow.Author.Tests.{ltb-true, lt-ltb}
 use Rattle.terms.specs.Paper.{pick}
 use Rattle.terms.specs.Cases.{two, less, clash}
 use Rattle.octets.specs.Octets.{laid}
+use Rattle.octets.specs.Overlays.{laid-mid}
 use Rattle.digits.specs.Laws.{both}
 use Rattle.step_spec.specs.Pieces.{SOH, equals, untilOf, pieces, closed}
 use Rattle.step_spec.specs.PieceLaws.{until-le, until-found, pieces-cut, closed-cut, not-closed}
@@ -20,14 +21,6 @@ use Rattle.step_spec.specs.FieldLaws.{piece, FieldIs}
 use Rattle.step_scrub.specs.Scrubbed.{isPrivate, paintPiece, paintAll, joined, painted, allFields}
 
 -- LISTS
-
--- bytes laid over a middle part of their length
-pub laid-mid : (n : ℕ) (x y z bs : List ℕ) → length x ≡ n → length bs ≡ length y → laid n bs (x ++ (y ++ z)) ≡ x ++ (bs ++ z)
-unfolding laid
-laid-mid n x y z bs l e =
-    let t : take n (x ++ (y ++ z)) ≡ x = take-at x (y ++ z) n l in
-    let d : drop (n + length bs) (x ++ (y ++ z)) ≡ z = ap (λ (k : ℕ). drop (k + length bs) (x ++ (y ++ z))) (sym l) ∙ drop-append-add x (y ++ z) (length bs) ∙ drop-at y z (length bs) (sym e) in
-    rw (t, d)
 
 module _ (t : List ℕ) (h : untilOf SOH t < length t) where
   piece-length : length (piece t) ≡ untilOf SOH t

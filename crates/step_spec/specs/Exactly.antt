@@ -12,6 +12,7 @@ use lib.Seq.{take-take, take-at, drop-at, drop-cons, drop-drop, getD-take, getD-
 use borrow.Author.Tests.{eq-eqb, ne-eqb, eqb-true}
 use Rattle.terms.specs.Paper.{Paper, answer, refusal, pick, one-number}
 use Rattle.terms.specs.Cases.{two, less, same}
+use Rattle.terms.specs.Checks.{else-both}
 use Rattle.octets.specs.Octets.{sum8}
 use Rattle.digits.specs.Digits.{allDigits, saidBy, saidIfDigits, readable, digitsAt, decimalAt, shownOf, widthOf, number, nothing, plain}
 use Rattle.digits.specs.Laws.{length-decimal}
@@ -19,8 +20,8 @@ use Rattle.digits.specs.Texts.{plain-there, plain-lacks, digits-there, digits-l
 use Rattle.step_tags.specs.Table.{among, types}
 use Rattle.step_spec.specs.Pieces.{SOH, pieces}
 use Rattle.step_spec.specs.Fields.{judgeOf, soundOf, unrealIn}
-use Rattle.step_spec.specs.Frame.{begin, lengthTag, typeTag, trailerOf, front, orElse, digitRun, window, lengthCheck, bodyStart, bodyLength, bodyEnd, frameLength, longCheck, kindCheck, typeCheck, headOf, sumCheck, kind, fields, verdictOf, accepted, stepReadOf}
-use Rattle.step_spec.specs.FrontLaws.{else-both, front-is, front-length, reads-off, reads-on, kind-other, kind-there, kind-length, run-le}
+use Rattle.step_spec.specs.Frame.{begin, lengthTag, typeTag, trailerOf, front, digitRun, window, lengthCheck, bodyStart, bodyLength, bodyEnd, frameLength, longCheck, kindCheck, typeCheck, headOf, sumCheck, kind, fields, verdictOf, accepted, stepReadOf}
+use Rattle.step_spec.specs.FrontLaws.{front-is, front-length, reads-off, reads-on, kind-other, kind-there, kind-length, run-le}
 use Rattle.step_spec.specs.HeadLaws.{length-many, length-zero, length-more, length-open, length-none, long-off, type-short, type-is, type-room, sum-open, sum-is, sum-room}
 use Rattle.step_spec.specs.Written.{plainOf, frameOf}
 use Rattle.step_spec.specs.RoundTrip.{textOf, text-is, plain-long, read-of-written, judged-sound}

@@ -7,25 +7,21 @@ use mathlib.Core.Logic.{_⊎_, inl, inr, ⊎-elim}
 use native.Mathlib.Numerals.{add-one}
 use native.Mathlib.Omega.{arith}
 use native.Mathlib.Nat.{add-zero}
-use lib.Dec.{eqb, ltb, leb, lit<}
+use lib.Dec.{eqb, ltb, leb, lit<, lit≤}
 use lib.ListN.{length, getD, take, drop, set, length-drop, length-take, drop-of-length-le, List·getD-eq-default}
 use lib.Seq.{length-take-le, take-add, drop-at, take-take, drop-drop, take-all, getD-take, getD-drop}
-use borrow.Author.Tests.{lt-ltb, le-ltb, le-leb, ltb-true, ltb-false, not-true, not-false, ne-eqb}
+use borrow.Author.Tests.{lt-ltb, le-ltb, le-leb, ltb-true, ltb-false, not-true, not-false, ne-eqb, eqb-true}
 use Rattle.terms.specs.Paper.{Paper, answer, refusal, pick, one-number}
-use Rattle.terms.specs.Cases.{two, less, clash}
+use Rattle.terms.specs.Cases.{two, less, clash, and-false}
 use Rattle.digits.specs.Laws.{both}
-use Rattle.digits.specs.Digits.{decimalAt, digitsAt, number, nothing}
-use Rattle.digits.specs.Texts.{decimal-lacks}
-use Rattle.step_tags.specs.Table.{rowOf, has, needs, useOf}
-use Rattle.step_tags.specs.Laws.{use-needs, use-has}
+use Rattle.digits.specs.Digits.{decimalAt, digitsAt, allDigits, saidBy, number, nothing}
+use Rattle.digits.specs.Texts.{Says, given-decimal, decimal-lacks}
+use Rattle.octets.specs.Octets.{numeral}
+use Rattle.step_tags.specs.Table.{rowOf, has, needs}
 use Rattle.step_tags.specs.Forms.{formOk, some, isUnreal}
 use Rattle.step_spec.specs.Pieces.{SOH, equals, untilOf, pieces, closed}
 use Rattle.step_spec.specs.PieceLaws.{part, until-le, until-found, pieces-cut, pieces-last, closed-cut, not-closed}
 use Rattle.step_spec.specs.Fields.{isField, tagOf, valueOf, fits, allBelow, complete, passes, soundFrom, begins52, unrealIn, fieldFront, soundOf, judgeOf}
-
-and-false : (b : Bool) → (b && false) ≡ false
-and-false true = refl
-and-false false = refl
 
 -- the piece at the front
 abbrev pub piece : List ℕ → List ℕ
@@ -220,25 +216,6 @@ unreal-front s p =
 
 -- WHAT THE LOOPS FIND
 
--- a row that is needed and not seen, told by its letter
-pub row-missing : (type i u : ℕ) (seen : List Bool) → u ≡ useOf type i → (eqb u 89 && not (getD seen i false)) ≡ true → (not (needs type i) || getD seen i false) ≡ false
-row-missing type i u seen e h = turned (needs type i) (getD seen i false) (rw (e, use-needs type i) at h)
-  where
-    turned : (a b : Bool) → (a && not b) ≡ true → (not a || b) ≡ false
-    turned true true h = sym h
-    turned true false h = refl
-    turned false true h = sym h
-    turned false false h = sym h
-
-pub row-fine : (type i u : ℕ) (seen : List Bool) → u ≡ useOf type i → (eqb u 89 && not (getD seen i false)) ≡ false → (not (needs type i) || getD seen i false) ≡ true
-row-fine type i u seen e h = turned (needs type i) (getD seen i false) (rw (e, use-needs type i) at h)
-  where
-    turned : (a b : Bool) → (a && not b) ≡ false → (not a || b) ≡ true
-    turned true true h = refl
-    turned true false h = sym h
-    turned false true h = refl
-    turned false false h = refl
-
 -- from a place to the end
 pub until-all : (b at : ℕ) (s : List ℕ) → untilOf b (part s at (length s)) ≡ untilOf b (drop at s)
 until-all b at s = ap (untilOf b) (take-all (length s - at) (drop at s) (simp length-drop (omega arith)))
@@ -303,12 +280,6 @@ module _ (type : ℕ) (t : List ℕ) where
   sound-misfit seen p e =
       ⊎-elim (λ (l : untilOf SOH t < length t). sound-unfit type seen t l (rw (lt-ltb _ _ l) at e)) (λ (l : length t ≤ untilOf SOH t). sound-open type seen t p l) (less (untilOf SOH t) (length t))
 
-pub unhad : (type i u : ℕ) → u ≡ useOf type i → u ≡ 46 → has type i ≡ false
-unhad type i u e h = not-true (has type i) (sym (use-has type i) ∙ ap (λ (n : ℕ). eqb n 46) (sym e ∙ h))
-
-pub had : (type i u : ℕ) → u ≡ useOf type i → (u ≡ 46 → ⊥) → has type i ≡ true
-had type i u e h = not-false (has type i) (sym (use-has type i) ∙ ap (λ (n : ℕ). eqb n 46) (sym e) ∙ ne-eqb u 46 h)
-
 -- `52=` AT THE FRONT OF A PIECE
 
 pub short-52 : (p : List ℕ) → length p < 3 → begins52 p ≡ false
@@ -326,6 +297,33 @@ module _ (at u : ℕ) (s : List ℕ) (three : 3 ≤ u) where
 
   pub behind-52 : u ≤ length (drop at s) → drop 3 (take u (drop at s)) ≡ take (u - 3) (drop (at + 3) s)
   behind-52 room = ap (λ (n : ℕ). drop 3 (take n (drop at s))) (split-of u 3 three) ∙ drop-take 3 (u - 3) (drop at s) (omega arith) ∙ rw drop-drop
+
+-- `52=` is the tag 52
+until-52 : (r : List ℕ) → untilOf equals (53 ∷ 50 ∷ 61 ∷ r) ≡ 2
+unfolding untilOf
+until-52 r = refl
+
+said-52 : (r : List ℕ) → getD (decimalAt 0 (untilOf equals (53 ∷ 50 ∷ 61 ∷ r)) (53 ∷ 50 ∷ 61 ∷ r) .values) 0 0 ≡ 52
+unfolding allDigits saidBy numeral
+said-52 r =
+    let g : Says 0 2 (53 ∷ 50 ∷ 61 ∷ r) 52 = record { place = record { some = lit≤ tt; few = lit≤ tt; within = omega arith }; digits = refl; says = refl } in
+    let e : decimalAt 0 2 (53 ∷ 50 ∷ 61 ∷ r) ≡ number 52 = given-decimal 0 2 (53 ∷ 50 ∷ 61 ∷ r) 52 g refl in
+    rw (until-52 r, e)
+
+pub tag-52 : (x : List ℕ) → begins52 x ≡ true → tagOf x ≡ 52
+unfolding tagOf
+tag-52 x h =
+    let l = long-52 x h in
+    let a = both (eqb (getD x 0 0) 53 && eqb (getD x 1 0) 50) (eqb (getD x 2 0) equals) h in
+    let b = both (eqb (getD x 0 0) 53) (eqb (getD x 1 0) 50) (a .0) in
+    let e : x ≡ 53 ∷ 50 ∷ 61 ∷ drop 3 x = three x l ∙ rw (eqb-true (getD x 0 0) 53 (b .0), eqb-true (getD x 1 0) 50 (b .1), eqb-true (getD x 2 0) 61 (a .1)) in
+    ap (λ (s : List ℕ). getD (decimalAt 0 (untilOf equals s) s .values) 0 0) e ∙ said-52 (drop 3 x)
+  where
+    three : (s : List ℕ) → 3 ≤ length s → s ≡ getD s 0 0 ∷ getD s 1 0 ∷ getD s 2 0 ∷ drop 3 s
+    three [] h = absurd (omega arith)
+    three (a ∷ []) h = absurd (omega arith)
+    three (a ∷ b ∷ []) h = absurd (omega arith)
+    three (a ∷ b ∷ c ∷ s) h = refl
 
 -- the judgement, by its parts
 module _ (type : ℕ) (s : List ℕ) where

@@ -6,6 +6,7 @@ use mathlib.Core.List.{List, [], _∷_, _++_}
 use lib.Dec.{eqb, leb, ltb}
 use lib.ListN.{length, getD, take, drop}
 use Rattle.terms.specs.Paper.{Paper, answer, refusal, pick}
+use Rattle.terms.specs.Checks.{orElse}
 use Rattle.octets.specs.Octets.{sum8}
 use Rattle.digits.specs.Digits.{isDigit, decimalOf, decimalAt, plain}
 use Rattle.step_tags.specs.Table.{among, types}
@@ -32,10 +33,6 @@ unfoldable pub front : ℕ → List ℕ → List ℕ → ℕ
 front why [] s = 0
 front why (l ∷ ls) [] = 1
 front why (l ∷ ls) (x ∷ xs) = pick (eqb x l) (front why ls xs) why
-
--- the first of two checks that does not pass
-unfoldable pub orElse : ℕ → ℕ → ℕ
-orElse a b = pick (eqb a 0) b a
 
 -- how many digits stand in front
 unfoldable pub digitRun : List ℕ → ℕ

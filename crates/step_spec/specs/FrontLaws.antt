@@ -16,15 +16,7 @@ use Rattle.digits.specs.Digits.{isDigit}
 use Rattle.step_spec.specs.PieceLaws.{part, part-cons}
 use Rattle.step_tags.specs.Table.{among, types}
 use Rattle.step_spec.specs.Pieces.{SOH}
-use Rattle.step_spec.specs.Frame.{front, orElse, digitRun, kindCheck, verdictOf, accepted, stepReadOf}
-
-pub else-on : (a b : ℕ) → a ≡ 0 → orElse a b ≡ b
-unfolding orElse
-else-on a b e = rw e
-
-pub else-off : (a b : ℕ) → (a ≡ 0 → ⊥) → orElse a b ≡ a
-unfolding orElse
-else-off a b ne = rw (ne-eqb a 0 ne)
+use Rattle.step_spec.specs.Frame.{front, digitRun, kindCheck, verdictOf, accepted, stepReadOf}
 
 -- A LOOP OVER THE LITERAL
 
@@ -127,15 +119,6 @@ module _ (s : List ℕ) (p : ℕ) where
 
     pub kind-there : among (getD s p 0) types ≡ true → kindCheck (drop p s) ≡ front 25 (SOH ∷ []) (drop (p + 1) s)
     kind-there e = kind-cut ∙ rw e
-
--- CHECKS IN A ROW
-
-pub else-is : (a b n : ℕ) → a ≡ n → (n ≡ 0 → ⊥) → orElse a b ≡ n
-else-is a b n e ne = else-off a b (λ (z : a ≡ 0). ne (sym e ∙ z)) ∙ e
-
--- two checks pass where each does
-pub else-both : (a b : ℕ) → orElse a b ≡ 0 → (a ≡ 0) × (b ≡ 0)
-else-both a b h = ⊎-elim (λ (e : a ≡ 0). (e, sym (else-on a b e) ∙ h)) (λ (ne : a ≡ 0 → ⊥). absurd (ne (sym (else-off a b ne) ∙ h))) (same a 0)
 
 pub kind-length : (t : List ℕ) → kindCheck t ≡ 0 → 2 ≤ length t
 unfolding kindCheck

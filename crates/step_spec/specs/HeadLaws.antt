@@ -11,7 +11,8 @@ use lib.ListN.{length, getD, take, drop, length-take, length-drop, length-append
 use lib.Seq.{take-all, drop-drop, getD-take, getD-drop, length-take-le}
 use borrow.Author.Tests.{eq-eqb, ne-eqb, le-leb, lt-leb, lt-ltb, le-ltb}
 use Rattle.terms.specs.Paper.{Paper, answer, refusal, pick}
-use Rattle.terms.specs.Cases.{two, less}
+use Rattle.terms.specs.Cases.{two, less, and-false}
+use Rattle.terms.specs.Checks.{orElse, else-on, else-off, else-both}
 use Rattle.octets.specs.Octets.{sum8, laid}
 use Rattle.octets.specs.Papers.{laidIfRoom, laid-there}
 use Rattle.digits.specs.Digits.{decimalAt, decimalOf, number, nothing, plain}
@@ -21,12 +22,8 @@ use Rattle.step_spec.specs.Pieces.{SOH}
 use Rattle.step_spec.specs.PieceLaws.{part}
 use Rattle.step_spec.specs.Fields.{judgeOf}
 use Rattle.step_spec.specs.FieldLaws.{decimal-same}
-use Rattle.step_spec.specs.Frame.{front, orElse, digitRun, window, lengthCheck, bodyStart, bodyLength, bodyEnd, frameLength, longCheck, kindCheck, typeCheck, typeTag, headOf, begin, lengthTag, sumCheck, trailerOf, kind, fields, verdictOf, accepted, stepReadOf}
-use Rattle.step_spec.specs.FrontLaws.{else-on, else-off, else-both, kind-length, front-short, reads-off, reads-on}
-
-and-false : (b : Bool) → (b && false) ≡ false
-and-false true = refl
-and-false false = refl
+use Rattle.step_spec.specs.Frame.{front, digitRun, window, lengthCheck, bodyStart, bodyLength, bodyEnd, frameLength, longCheck, kindCheck, typeCheck, typeTag, headOf, begin, lengthTag, sumCheck, trailerOf, kind, fields, verdictOf, accepted, stepReadOf}
+use Rattle.step_spec.specs.FrontLaws.{kind-length, front-short, reads-off, reads-on}
 
 -- THE LENGTH FIELD, over its window
 

@@ -12,6 +12,7 @@ use lib.Seq.{take-append-le, take-append-add, take-at, drop-at, getD-at, drop-dr
 use borrow.Author.Tests.{eqb-true, eq-eqb, ne-eqb, le-leb, lt-leb, lt-ltb, le-ltb}
 use Rattle.terms.specs.Paper.{Paper, answer, refusal, pick}
 use Rattle.terms.specs.Cases.{two, less}
+use Rattle.terms.specs.Checks.{else-on}
 use Rattle.octets.specs.Octets.{sum8}
 use Rattle.digits.specs.Digits.{isDigit, allDigits, saidBy, decimalAt, decimalOf, shownOf, widthOf, number, plain}
 use Rattle.digits.specs.Laws.{both, length-decimal, all-decimal, said-decimal}
@@ -21,8 +22,8 @@ use Rattle.step_tags.specs.Table.{among, types}
 use Rattle.step_spec.specs.Pieces.{SOH, pieces, closed, closedBy}
 use Rattle.step_spec.specs.Fields.{judgeOf, soundOf, soundFrom, unrealIn}
 use Rattle.step_spec.specs.FieldLaws.{judged-7, judged-26}
-use Rattle.step_spec.specs.Frame.{begin, lengthTag, typeTag, trailerOf, front, orElse, digitRun, window, lengthCheck, bodyStart, bodyLength, bodyEnd, frameLength, longCheck, kindCheck, typeCheck, headOf, sumCheck, kind, fields, verdictOf, accepted, stepReadOf}
-use Rattle.step_spec.specs.FrontLaws.{else-on, front-of, kind-there}
+use Rattle.step_spec.specs.Frame.{begin, lengthTag, typeTag, trailerOf, front, digitRun, window, lengthCheck, bodyStart, bodyLength, bodyEnd, frameLength, longCheck, kindCheck, typeCheck, headOf, sumCheck, kind, fields, verdictOf, accepted, stepReadOf}
+use Rattle.step_spec.specs.FrontLaws.{front-of, kind-there}
 use Rattle.step_spec.specs.HeadLaws.{length-good, long-on, type-is, sum-is, read-frame}
 use Rattle.step_spec.specs.Written.{plainOf, frameOf}
 

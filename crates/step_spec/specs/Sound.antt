@@ -74,7 +74,7 @@ record Passing (type : ℕ) (seen : List Bool) (ps : List (List ℕ)) : Type 0 w
 fit-row : (type : ℕ) (p : List ℕ) → fits type p ≡ true → rowOf (tagOf p) < 27
 fit-row type p h = has-row type (rowOf (tagOf p)) (field-of type p h .known)
 
-seen-of : (a b : Bool) → (not a || b) ≡ true → a ≡ true → b ≡ true
+pub seen-of : (a b : Bool) → (not a || b) ≡ true → a ≡ true → b ≡ true
 seen-of true b h e = h
 seen-of false b h e = absurd (clash e refl)
 
@@ -156,7 +156,7 @@ passing type seen (p ∷ ps) l h =
     let b = both (fits type p) _ (a .0) in
     grown type seen p ps l (b .0) (not-true _ (b .1)) (passing type (set seen (rowOf (tagOf p)) true) ps (set-long seen (rowOf (tagOf p)) l) (a .1))
 
-all-seen : (type : ℕ) (seen : List Bool) → ((r : ℕ) → r < 27 → needs type r ≡ true → getD seen r false ≡ true) → complete type seen ≡ true
+pub all-seen : (type : ℕ) (seen : List Bool) → ((r : ℕ) → r < 27 → needs type r ≡ true → getD seen r false ≡ true) → complete type seen ≡ true
 unfolding complete
 all-seen type seen h = below-all (λ (i : ℕ). not (needs type i) || getD seen i false) 27 (λ i k. shows (needs type i) (getD seen i false) (h i k))
   where

@@ -11,20 +11,17 @@ use lib.Seq.{drop-append-le, take-append-le}
 use borrow.Author.Tests.{ne-eqb}
 use Rattle.terms.specs.Paper.{Paper, pick, one-number}
 use Rattle.terms.specs.Cases.{two, less, same}
+use Rattle.terms.specs.Checks.{else-both, else-one}
 use Rattle.digits.specs.Digits.{plain, isDigit}
 use Rattle.step_tags.specs.Table.{among, types}
 use Rattle.octets.specs.Octets.{sum8}
 use Rattle.step_spec.specs.Pieces.{SOH, pieces}
 use Rattle.step_spec.specs.Fields.{judgeOf, soundOf, unrealIn}
 use Rattle.step_spec.specs.FieldLaws.{judged-7, judged-26, judged-fine}
-use Rattle.step_spec.specs.Frame.{begin, lengthTag, typeTag, trailerOf, front, orElse, digitRun, window, lengthCheck, bodyStart, bodyLength, bodyEnd, frameLength, longCheck, kindCheck, typeCheck, headOf, sumCheck, kind, fields, verdictOf, stepReadOf}
-use Rattle.step_spec.specs.FrontLaws.{else-on, else-off, else-is, else-both, front-length, kind-other, kind-there, run-le, reads-on, reads-off}
+use Rattle.step_spec.specs.Frame.{begin, lengthTag, typeTag, trailerOf, front, digitRun, window, lengthCheck, bodyStart, bodyLength, bodyEnd, frameLength, longCheck, kindCheck, typeCheck, headOf, sumCheck, kind, fields, verdictOf, stepReadOf}
+use Rattle.step_spec.specs.FrontLaws.{front-length, kind-other, kind-there, run-le, reads-on, reads-off}
 use Rattle.step_spec.specs.HeadLaws.{length-many, length-zero, length-more, length-open, length-none, length-good, long-off, long-on, type-short, type-is, sum-short, sum-open, sum-is}
 use Rattle.step_spec.specs.Exactly.{LengthField, length-field, decimal-cases, trailer-long}
-
--- a row of checks says 1 only where one of them does
-else-one : (a b : ℕ) → orElse a b ≡ 1 → (a ≡ 1 → ⊥) → (a ≡ 0) × (b ≡ 1)
-else-one a b h ne = ⊎-elim (λ (e : a ≡ 0). (e, sym (else-on a b e) ∙ h)) (λ (z : a ≡ 0 → ⊥). absurd (ne (sym (else-off a b z) ∙ h))) (same a 0)
 
 front-decided : (why : ℕ) (ls s : List ℕ) → (why ≡ 1 → ⊥) → length ls ≤ length s → front why ls s ≡ 1 → ⊥
 unfolding front

@@ -11,28 +11,17 @@ use lib.Seq.{drop-append-le, take-append-le, take-append-add, take-append-seam, 
 use borrow.Author.Tests.{ne-eqb, lt-ltb, lt-leb, le-leb, eqb-true, eqb-false}
 use Rattle.terms.specs.Paper.{Paper, pick, one-number}
 use Rattle.terms.specs.Cases.{two, less, same, clash}
+use Rattle.terms.specs.Checks.{orElse, else-both, else-stays}
 use Rattle.digits.specs.Digits.{plain, isDigit, decimalAt}
 use Rattle.step_tags.specs.Table.{among, types}
 use Rattle.octets.specs.Octets.{sum8}
 use Rattle.step_spec.specs.Pieces.{SOH}
 use Rattle.step_spec.specs.Fields.{judgeOf}
 use Rattle.step_spec.specs.FieldLaws.{decimal-same}
-use Rattle.step_spec.specs.Frame.{begin, lengthTag, typeTag, trailerOf, front, orElse, digitRun, window, lengthCheck, bodyStart, bodyLength, bodyEnd, frameLength, longCheck, kindCheck, typeCheck, headOf, sumCheck, kind, fields, verdictOf, accepted, stepReadOf}
-use Rattle.step_spec.specs.FrontLaws.{reads-on, reads-off, else-on, else-off, else-both, front-length, kind-length, run-le}
+use Rattle.step_spec.specs.Frame.{begin, lengthTag, typeTag, trailerOf, front, digitRun, window, lengthCheck, bodyStart, bodyLength, bodyEnd, frameLength, longCheck, kindCheck, typeCheck, headOf, sumCheck, kind, fields, verdictOf, accepted, stepReadOf}
+use Rattle.step_spec.specs.FrontLaws.{reads-on, reads-off, front-length, kind-length, run-le}
 use Rattle.step_spec.specs.HeadLaws.{length-many, length-zero, length-more, type-short, type-is, type-room, sum-short, sum-open, sum-is, sum-room}
 use Rattle.step_spec.specs.Exactly.{LengthField, length-field}
-
--- ROWS OF CHECKS
-
-else-stays : (a b a' b' : ℕ) → (orElse a b ≡ 1 → ⊥) → ((a ≡ 1 → ⊥) → a' ≡ a) → (a ≡ 0 → (b ≡ 1 → ⊥) → b' ≡ b) → orElse a' b' ≡ orElse a b
-else-stays a b a' b' h f g =
-    ⊎-elim (λ (z : a ≡ 0).
-    let e : a' ≡ 0 = f (λ (o : a ≡ 1). omega arith) ∙ z in
-    else-on a' b' e ∙ g z (λ (o : b ≡ 1). h (else-on a b z ∙ o)) ∙ sym (else-on a b z))
-    (λ (z : a ≡ 0 → ⊥).
-    let e : a' ≡ a = f (λ (o : a ≡ 1). h (else-off a b z ∙ o)) in
-    else-off a' b' (λ (y : a' ≡ 0). z (sym e ∙ y)) ∙ e ∙ sym (else-off a b z))
-    (same a 0)
 
 front-stays : (why : ℕ) (ls s t : List ℕ) → (front why ls s ≡ 1 → ⊥) → front why ls (s ++ t) ≡ front why ls s
 unfolding front

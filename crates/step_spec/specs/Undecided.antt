@@ -40,6 +40,10 @@ unfolding rowIn
 row-tag [] t h = absurd (omega arith)
 row-tag (r ∷ rs) t h = ⊎-elim (λ (e : eqb t (r .tag) ≡ true). rw e (sym (eqb-true t (r .tag) e))) (λ (e : eqb t (r .tag) ≡ false). rw e (row-tag rs t (omega (arith, rw e at h)))) (two (eqb t (r .tag)))
 
+pub row-has : (t : ℕ) → rowOf t < 27 → rowAt (rowOf t) .tag ≡ t
+unfolding rowOf rows rowAt
+row-has t h = row-tag rows t h
+
 pub row-one : (t u : ℕ) → rowOf t < 27 → rowOf t ≡ rowOf u → t ≡ u
 unfolding rowOf rows
 row-one t u h e = sym (row-tag rows t h) ∙ ap (λ (i : ℕ). getD rows i noRow .tag) e ∙ row-tag rows u (omega arith)

@@ -10,6 +10,7 @@ use lib.ListN.{length, take, drop, getD, length-append}
 use borrow.Author.Tests.{eq-eqb, ne-eqb, le-leb, lt-leb}
 use Rattle.terms.specs.Paper.{Paper, answer, refusal, pick, one-number}
 use Rattle.terms.specs.Cases.{two, less, same}
+use Rattle.terms.specs.Checks.{else-on, else-is, else-both}
 use Rattle.octets.specs.Octets.{sum8, laid}
 use Rattle.octets.specs.Overlays.{laid-next, length-laid, take-front}
 use Rattle.octets.specs.Papers.{laidIfRoom, laid-there}
@@ -17,8 +18,7 @@ use Rattle.digits.specs.Digits.{widthOf, shownOf}
 use Rattle.step_tags.specs.Table.{among, types}
 use Rattle.step_spec.specs.Pieces.{SOH}
 use Rattle.step_spec.specs.Fields.{judgeOf}
-use Rattle.step_spec.specs.Frame.{begin, lengthTag, typeTag, trailerOf, orElse}
-use Rattle.step_spec.specs.FrontLaws.{else-on, else-off, else-is, else-both}
+use Rattle.step_spec.specs.Frame.{begin, lengthTag, typeTag, trailerOf}
 use Rattle.step_spec.specs.RoundTrip.{plain-long}
 use Rattle.step_spec.specs.Exactly.{trailer-long}
 use Rattle.step_spec.specs.Written.{plainOf, frameOf, messageOf, stepWriteOf, stepLeftOf}
@@ -92,14 +92,7 @@ module _ (type : ℕ) (fs : List ℕ) where
   unfolding stepLeftOf
   left-laid d e = rw e
 
--- PIECE BY PIECE
-
--- a piece laid behind what is laid already
-pub lay-next : (at : ℕ) (a b d e f : List ℕ) → f ≡ laidIfRoom at b e → e ≡ laid 0 a d → length a ≡ at → at + length b ≤ length d → f ≡ laid 0 (a ++ b) d
-lay-next at a b d e f p q l room =
-    let n : length e ≡ length d = ap length q ∙ length-laid 0 a d (omega arith) in
-    laid-next at a b d e f (p ∙ laid-there at (length b) b e refl (le-leb (at + length b) (length e) (omega (arith, n)))) q l (omega arith)
-
+-- the pieces in which it is stored
 pub plain-pieces : (type : ℕ) (fs : List ℕ) → (((begin ++ lengthTag) ++ shownOf (length fs + 5)) ++ (SOH ∷ (typeTag ++ (type ∷ SOH ∷ [])))) ++ fs ≡ plainOf type fs
 unfolding plainOf
 plain-pieces type fs = simp append-assoc

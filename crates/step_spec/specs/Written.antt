@@ -4,12 +4,13 @@ use mathlib.Core.List.{List, [], _∷_, _++_}
 use lib.Dec.{eqb, leb}
 use lib.ListN.{length}
 use Rattle.terms.specs.Paper.{Paper, answer, refusal, pick}
+use Rattle.terms.specs.Checks.{orElse}
 use Rattle.octets.specs.Octets.{sum8, laid}
 use Rattle.digits.specs.Digits.{shownOf}
 use Rattle.step_tags.specs.Table.{among, types}
 use Rattle.step_spec.specs.Pieces.{SOH}
 use Rattle.step_spec.specs.Fields.{judgeOf}
-use Rattle.step_spec.specs.Frame.{begin, lengthTag, typeTag, trailerOf, orElse}
+use Rattle.step_spec.specs.Frame.{begin, lengthTag, typeTag, trailerOf}
 
 -- all before the trailer: `8=FIXT.1.1`, `9=` and the length of what follows it, `35=` and the type, the fields
 unfoldable pub plainOf : ℕ → List ℕ → List ℕ

@@ -7,7 +7,7 @@ use lib.ListN.{length, getD}
 use Rattle.terms.specs.Paper.{Paper, pick}
 use Rattle.digits.specs.Digits.{decimalAt, digitsAt}
 use Rattle.calendar.specs.Calendar.{realTime}
-use Rattle.step_tags.specs.Table.{C, N, B, T, rowAt}
+use Rattle.step_tags.specs.Table.{C, N, B, T, rowAt, rowOf}
 
 -- text of 1 to w bytes
 abbrev pub isText : ℕ → List ℕ → Bool
@@ -53,3 +53,14 @@ suits f w v = pick (eqb f C) (isText w v) (pick (eqb f N) (isNumber w v) (pick (
 
 abbrev pub formOk : ℕ → List ℕ → Bool
 formOk i v = suits (rowAt i .form) (rowAt i .width) v
+
+-- a real time of the calendar in that form
+unfoldable pub isRealTime : List ℕ → Bool
+isRealTime v = isTime v && realTime (timeOf v)
+
+-- THE ROW OF A FIELD whose value has its form and, where it is a time, is real; 27 for any other
+unfoldable pub goodValue : ℕ → ℕ → List ℕ → Bool
+goodValue f w v = suits f w v && not (eqb f T && isUnreal v)
+
+unfoldable pub fitRow : ℕ → List ℕ → ℕ
+fitRow t v = pick (goodValue (rowAt (rowOf t) .form) (rowAt (rowOf t) .width) v) (rowOf t) 27

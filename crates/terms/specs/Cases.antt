@@ -1,7 +1,7 @@
 -- Deciding by cases: a test holds or fails, a number is below another or not, equal to it or not.
 use Prim.Native.Nat.{ℕ, _<_, _≤_}
 use mathlib.Core.Path.{_≡_, refl}
-use mathlib.Core.Bool.{Bool, true, false}
+use mathlib.Core.Bool.{Bool, true, false, _&&_}
 use mathlib.Core.Logic.{_⊎_, inl, inr, ⊎-elim}
 use native.Mathlib.Omega.{arith}
 use lib.Dec.{ltb, eqb}
@@ -19,3 +19,7 @@ same a b = ⊎-elim (λ t. inl (eqb-true a b t)) (λ f. inr (eqb-false a b f)) (
 
 pub clash : {b : Bool} → b ≡ true → b ≡ false → ⊥
 clash t f = let z : _≡_ {A = ℕ} 0 1 = cc in omega arith
+
+pub and-false : (b : Bool) → (b && false) ≡ false
+and-false true = refl
+and-false false = refl

@@ -1,5 +1,6 @@
 pub mod Paper
 pub mod Cases
+pub mod Checks
 pub mod Says
 pub mod Counters
 pub mod Refusals

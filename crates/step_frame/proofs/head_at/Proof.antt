@@ -1,6 +1,6 @@
 -- `head_at`: a literal that fails or ends early is the answer; else the next check's. Assumes nothing.
 use Rattle.step_frame.specs.Papers.{checkNumber, stepNumber, step-pos}
-use Rattle.step_spec.specs.FrontLaws.{else-on, else-is, front-length}
+use Rattle.step_spec.specs.FrontLaws.{front-length}
 use Rattle.step_spec.specs.Frame.{front, begin, lengthTag, headOf}
 use lib.Seq.{drop-drop}
 use lib.ListN.{length, drop, length-drop}
@@ -11,6 +11,7 @@ use native.Mathlib.Omega.{arith}
 use borrow.Author.Needs.{needs}
 use Rattle.step_frame.proofs.head_at.Statement.{statement}
 use Rattle.step_frame.proofs.head_at.Tie as tie
+use Rattle.terms.specs.Checks.{else-on, else-is}
 
 abbrev text : tie.Start → List ℕ
 text c = drop (c .args .at) (c .args .bytes .now)

@@ -1,7 +1,6 @@
 -- `measured`: 3 by the length alone, then the type. Assumes nothing.
 use Rattle.step_frame.specs.Papers.{checkNumber, stepNumber, step-pos}
 use Rattle.step_spec.specs.HeadLaws.{long-off, long-on, type-short, type-is, type-room}
-use Rattle.step_spec.specs.FrontLaws.{else-on, else-is}
 use Rattle.step_spec.specs.Frame.{bodyStart, bodyLength, frameLength, typeCheck}
 use lib.Seq.{drop-drop}
 use lib.ListN.{length, drop, length-drop}
@@ -12,6 +11,7 @@ use native.Mathlib.Omega.{arith}
 use borrow.Author.Needs.{needs}
 use Rattle.step_frame.proofs.measured.Statement.{statement}
 use Rattle.step_frame.proofs.measured.Tie as tie
+use Rattle.terms.specs.Checks.{else-on, else-is}
 
 abbrev text : tie.Start → List ℕ
 text c = drop (c .args .at) (c .args .bytes .now)

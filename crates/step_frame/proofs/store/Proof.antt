@@ -1,5 +1,5 @@
 -- `store`: the sum is that of what is laid, and the trailer goes behind it. Assumes nothing.
-use Rattle.step_spec.specs.WriteLaws.{lay-next}
+use Rattle.octets.specs.Papers.{lay-next}
 use Rattle.step_spec.specs.Written.{plainOf, frameOf}
 use Rattle.step_spec.specs.Exactly.{trailer-long}
 use Rattle.step_spec.specs.HeadLaws.{trailer-laid}

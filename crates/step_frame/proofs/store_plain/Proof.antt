@@ -1,5 +1,6 @@
 -- `store_plain`: each piece is laid behind the ones before it. Assumes nothing.
-use Rattle.step_spec.specs.WriteLaws.{frame-over, frame-size, lay-next, plain-pieces}
+use Rattle.octets.specs.Papers.{lay-next}
+use Rattle.step_spec.specs.WriteLaws.{frame-over, frame-size, plain-pieces}
 use Rattle.step_spec.specs.RoundTrip.{plain-long}
 use Rattle.step_spec.specs.Written.{frameOf}
 use Rattle.step_spec.specs.Frame.{begin, lengthTag, typeTag}

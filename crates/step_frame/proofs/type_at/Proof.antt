@@ -1,6 +1,6 @@
 -- `type_at`: the tag, then the byte, then SOH. Assumes nothing.
 use Rattle.step_frame.specs.Papers.{checkNumber, stepNumber, step-pos}
-use Rattle.step_spec.specs.FrontLaws.{else-on, else-off, front-length, kind-short, kind-other, kind-there}
+use Rattle.step_spec.specs.FrontLaws.{front-length, kind-short, kind-other, kind-there}
 use Rattle.step_spec.specs.Frame.{front, typeTag}
 use lib.ListN.{length, drop, length-drop}
 use borrow.Author.Tests.{not-true, not-false}
@@ -10,6 +10,7 @@ use native.Mathlib.Omega.{arith}
 use borrow.Author.Needs.{needs}
 use Rattle.step_frame.proofs.type_at.Statement.{statement}
 use Rattle.step_frame.proofs.type_at.Tie as tie
+use Rattle.terms.specs.Checks.{else-on, else-off}
 
 passed : (c : tie.After-enum-told) → let a = c .before .before .before .before .before .args in front 25 typeTag (drop (a .at) (a .bytes .now)) ≡ 0
 passed c = sym (c .before .before .expects .ensures) ∙ ap checkNumber (c .enum-told .given .1)

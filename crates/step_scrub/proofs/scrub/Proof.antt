@@ -1,6 +1,6 @@
--- `scrub`: a refusal is reading's; else the fields are painted as a part, and the sum is set anew. Assumes nothing.
+-- `scrub`: a refusal is reading's; else the fields are painted as a part, and the sum moved. Assumes nothing.
 use Rattle.step_spec.specs.Frame.{stepReadOf}
-use Rattle.step_scrub.specs.ScrubLaws.{Told, told, end-is, part-is, end-in, closed-fields, all-fields, same-long, painting, renewing, scrub-off, scrub-on}
+use Rattle.step_scrub.specs.ScrubLaws.{Told, told, end-is, part-is, end-in, sum-there, closed-fields, all-fields, same-long, painting, renewing, scrub-off, scrub-on}
 use Rattle.step_scrub.specs.Scrubbed.{painted}
 use Rattle.step_frame.specs.Papers.{readPaper, step-pos}
 use Rattle.step_spec.specs.Exactly.{fields-long}
@@ -28,16 +28,16 @@ says : (c : tie.After-place) → let g = c .place .given .0 in Told (all c) (g .
 says c = told _ _ _ _ _ (paper c)
 
 -- the buffer with its fields painted
-painted-is : (c : tie.After-paint-part) → let s = all (c .before .before .before) in c .paint-part .last .0 ≡ laid (bodyStart s + 5) (painted (fields s)) s
+painted-is : (c : tie.After-paint-part) → let s = all (c .before .before .before .before .before) in c .paint-part .last .0 ≡ laid (bodyStart s + 5) (painted (fields s)) s
 painted-is c =
-    let w = says (c .before .before .before) in
-    let s = all (c .before .before .before) in
-    c .paint-part .ensures ∙ painting s _ _ _ _ w
+    let w = says (c .before .before .before .before .before) in
+    let s = all (c .before .before .before .before .before) in
+    c .paint-part .ensures .0 ∙ painting s _ _ _ _ w
 
-room : (c : tie.After-paint-part) → let s = all (c .before .before .before) in length (c .paint-part .last .0) ≡ length s
+room : (c : tie.After-paint-part) → let s = all (c .before .before .before .before .before) in length (c .paint-part .last .0) ≡ length s
 room c =
-    let w = says (c .before .before .before) in
-    let s = all (c .before .before .before) in
+    let w = says (c .before .before .before .before .before) in
+    let s = all (c .before .before .before .before .before) in
     ap length (painted-is c) ∙ length-laid (bodyStart s + 5) (painted (fields s)) s (omega (arith, same-long s (w .goods), fields-long s (w .goods), end-in s _ _ _ _ w, end-is s _ _ _ _ w, w .goods .five))
 
 read-at-requires : tie.Need-read-at-requires
@@ -52,13 +52,18 @@ enum-known-place c = search needs
 add-end : tie.Need-add-end
 add-end c = let w = says (c .before) in omega (arith, end-in (all (c .before)) _ _ _ _ w)
 
+old-sum-requires : tie.Need-old-sum-requires
+old-sum-requires c κs = let w = says (c .before .before) in (end-in (all (c .before .before)) _ _ _ _ w, sum-there (all (c .before .before)) _ _ _ _ w)
+
 paint-part-requires : tie.Need-paint-part-requires
-paint-part-requires c κs = let w = says (c .before .before) in
-    let s = all (c .before .before) in
+paint-part-requires c κs = let w = says (c .before .before .before .before) in
+    let s = all (c .before .before .before .before) in
     (omega arith, omega (arith, end-in s _ _ _ _ w), rw (part-is s _ _ _ _ w) (closed-fields s (w .goods)), rw (part-is s _ _ _ _ w) (all-fields s (w .goods)))
 
-renew-sum-requires : tie.Need-renew-sum-requires
-renew-sum-requires c κs = let w = says (c .before .before .before .before .before .before) in omega (arith, end-in (all (c .before .before .before .before .before .before)) _ _ _ _ w, room (c .before .before .before))
+store-sum-requires : tie.Need-store-sum-requires
+store-sum-requires c κs =
+    let p = c .before .before .before in
+    omega (arith, end-in (all (p .before .before .before .before .before)) _ _ _ _ (says (p .before .before .before .before .before)), room p)
 
 same-length : tie.Need-same-length
 same-length c = search needs
@@ -70,11 +75,14 @@ same-length-2 : tie.Need-same-length-2
 same-length-2 c = search needs
 
 returns-2 : tie.Need-returns-2
-returns-2 c = let w = says (c .before .before .before .before .before .before .before .before .before) in
-    let s = all (c .before .before .before .before .before .before .before .before .before) in
-    let z = scrub-on s (sym (one-number (paper (c .before .before .before .before .before .before .before .before .before)))) in (
+returns-2 c =
+    let p = c .before .before .before .before .before .before in
+    let o = p .before .before .before .before .before in
+    let w = says o in
+    let s = all o in
+    let z = scrub-on s (sym (one-number (paper o))) in (
       ap (λ (n : ℕ). answer 0 (n ∷ [])) (w .total) ∙ z .0,
-      c .before .before .renew-sum .ensures ∙ renewing s _ _ _ _ w _ (painted-is (c .before .before .before .before .before .before)) ∙ z .1,
+      c .before .before .store-sum .ensures ∙ renewing s _ _ _ _ w _ _ _ (painted-is p) (p .before .before .old-sum .ensures) (p .paint-part .ensures .1) ∙ z .1,
     )
 
 pub scrub-spec : {M : Type 1} → statement M
@@ -85,8 +93,9 @@ scrub-spec =
     enum-known-why
     enum-known-place
     add-end
+    old-sum-requires
     paint-part-requires
-    renew-sum-requires
+    store-sum-requires
     same-length
     returns
     same-length-2
