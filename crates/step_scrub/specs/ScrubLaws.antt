@@ -207,3 +207,7 @@ pub scrub-kept : (s : List ℕ) (n : ℕ) → stepScrubOf s ≡ refusal n → (n
 unfolding stepScrubOf stepScrubLeft
 scrub-kept s n e ne =
     ⊎-elim (λ (z : stepReadOf s .number ≡ 0). absurd (ne (sym (one-number (rw z at e))))) (λ (z : stepReadOf s .number ≡ 0 → ⊥). rw (ne-eqb (stepReadOf s .number) 0 z)) (same (stepReadOf s .number) 0)
+
+pub scrub-unless : (s : List ℕ) → (stepScrubOf s .number ≡ 0 → ⊥) → stepScrubLeft s ≡ s
+unfolding stepScrubOf stepScrubLeft
+scrub-unless s ne = ⊎-elim (λ (z : stepReadOf s .number ≡ 0). absurd (ne (rw z))) (λ (z : stepReadOf s .number ≡ 0 → ⊥). rw (ne-eqb (stepReadOf s .number) 0 z)) (same (stepReadOf s .number) 0)

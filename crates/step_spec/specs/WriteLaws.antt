@@ -88,6 +88,10 @@ module _ (type : ℕ) (fs : List ℕ) where
   unfolding stepLeftOf
   left-kept d n e ne = rw (e, ne-eqb n 0 ne)
 
+  pub left-unless : (d : List ℕ) → (stepWriteOf type fs (length d) .number ≡ 0 → ⊥) → stepLeftOf type fs d ≡ d
+  unfolding stepLeftOf
+  left-unless d ne = rw (ne-eqb _ 0 ne)
+
   pub left-laid : (d : List ℕ) → stepWriteOf type fs (length d) .number ≡ 0 → stepLeftOf type fs d ≡ laid 0 (frameOf type fs) d
   unfolding stepLeftOf
   left-laid d e = rw e
