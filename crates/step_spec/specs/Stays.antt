@@ -23,14 +23,14 @@ use Rattle.step_spec.specs.FrontLaws.{reads-on, reads-off, front-length,
 use Rattle.step_spec.specs.HeadLaws.{length-many, length-zero, length-more, type-short, type-is, type-room, sum-short, sum-open, sum-is, sum-room}
 use Rattle.step_spec.specs.Exactly.{LengthField, length-field}
 
-front-stays : (why : ℕ) (ls s t : List ℕ) → (front why ls s ≡ 1 → ⊥) → front why ls (s ++ t) ≡ front why ls s
+pub front-stays : (why : ℕ) (ls s t : List ℕ) → (front why ls s ≡ 1 → ⊥) → front why ls (s ++ t) ≡ front why ls s
 unfolding front
 front-stays why [] s t h = refl
 front-stays why (l ∷ ls) [] t h = absurd (h refl)
 front-stays why (l ∷ ls) (x ∷ xs) t h =
     ⊎-elim (λ (e : eqb x l ≡ true). rw e (front-stays why ls xs t (λ (o : front why ls xs ≡ 1). h (rw e o)))) (λ (e : eqb x l ≡ false). rw e) (two (eqb x l))
 
-kind-stays : (s t : List ℕ) → (kindCheck s ≡ 1 → ⊥) → kindCheck (s ++ t) ≡ kindCheck s
+pub kind-stays : (s t : List ℕ) → (kindCheck s ≡ 1 → ⊥) → kindCheck (s ++ t) ≡ kindCheck s
 unfolding kindCheck
 kind-stays [] t h = absurd (h refl)
 kind-stays (x ∷ xs) t h =
@@ -70,7 +70,7 @@ still-not-plain k b h e = rw (ne-eqb k 1 (λ (z : k ≡ 1). omega arith), e)
 decimal-stays : (w t : List ℕ) (k : ℕ) → k ≤ length w → decimalAt 0 k (w ++ t) ≡ decimalAt 0 k w
 decimal-stays w t k h = sym (decimal-same 0 (length w) (w ++ t) (simp length-append (omega arith)) k h) ∙ ap (decimalAt 0 k) (take-append-seam w t)
 
-length-stays : (w t : List ℕ) → (lengthCheck w ≡ 1 → ⊥) → lengthCheck (w ++ t) ≡ lengthCheck w
+pub length-stays : (w t : List ℕ) → (lengthCheck w ≡ 1 → ⊥) → lengthCheck (w ++ t) ≡ lengthCheck w
 unfolding lengthCheck
 length-stays w t h =
     ⊎-elim (λ (m : 9 < digitRun w). length-many (w ++ t) (digitRun (w ++ t)) refl (omega (arith, run-more w t)) ∙ sym (length-many w _ refl m)) (λ (few : digitRun w ≤ 9).
@@ -99,7 +99,7 @@ module _ (s t : List ℕ) where
   abbrev st : List ℕ
   st = s ++ t
 
-  window-more : 13 ≤ length s → window st ≡ window s ++ take (10 - length (drop 13 s)) t
+  pub window-more : 13 ≤ length s → window st ≡ window s ++ take (10 - length (drop 13 s)) t
   window-more h = rw (drop-append-le 13 s t h) (take-more 10 (drop 13 s) t)
 
   module _ (h : 13 ≤ length s) (m : lengthCheck (window s) ≡ 0) where
@@ -157,7 +157,7 @@ module _ (s t : List ℕ) where
 
   -- THE SUM
 
-  sum-stays : (e : ℕ) → 1 ≤ e → (sumCheck e s ≡ 1 → ⊥) → sumCheck e st ≡ sumCheck e s
+  pub sum-stays : (e : ℕ) → 1 ≤ e → (sumCheck e s ≡ 1 → ⊥) → sumCheck e st ≡ sumCheck e s
   sum-stays e one o =
       ⊎-elim (λ (l : length s < e). absurd (o (sum-short e s l))) (λ (l : e ≤ length s).
       let l2 : e ≤ length st = simp length-append (omega arith) in

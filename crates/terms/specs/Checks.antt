@@ -1,6 +1,6 @@
 -- Checks in a row. A check is a number: 0 where it passes, 1 where more bytes must come before it is decided, else its refusal.
 use Prim.Native.Nat.{ℕ}
-use mathlib.Core.Path.{_≡_, sym, _∙_}
+use mathlib.Core.Path.{_≡_, sym, ap, _∙_}
 use mathlib.Core.Logic.{⊎-elim}
 use native.Mathlib.Omega.{arith}
 use lib.Dec.{eqb}
@@ -40,4 +40,10 @@ else-stays a b a' b' h f g =
     (λ (z : a ≡ 0 → ⊥).
     let e : a' ≡ a = f (λ (o : a ≡ 1). h (else-off a b z ∙ o)) in
     else-off a' b' (λ (y : a' ≡ 0). z (sym e ∙ y)) ∙ e ∙ sym (else-off a b z))
+    (same a 0)
+
+pub else-assoc : (a b c : ℕ) → orElse (orElse a b) c ≡ orElse a (orElse b c)
+else-assoc a b c =
+    ⊎-elim (λ (e : a ≡ 0). ap (λ (x : ℕ). orElse x c) (else-on a b e) ∙ sym (else-on a (orElse b c) e))
+    (λ (ne : a ≡ 0 → ⊥). ap (λ (x : ℕ). orElse x c) (else-off a b ne) ∙ else-off a c ne ∙ sym (else-off a (orElse b c) ne))
     (same a 0)
