@@ -1,38 +1,33 @@
 -- Demand 3, proved for every row of calls on a fresh ledger. Each sentence follows from the invariant `Agrees` alone. Assumes nothing.
-use mathlib.Core.Path.{_≡_, refl, sym, ap, ap₂, _∙_}
-use mathlib.Core.Logic.{inl, inr}
+use mathlib.Core.Path.{_≡_, refl, sym, ap, ap₂, _∙_, subst}
+use mathlib.Core.Logic.{_⊎_, inl, inr}
 use mathlib.Core.Bool.{Bool, true, false, _&&_, not}
 use mathlib.Core.List.{[], _∷_}
 use Prim.Native.Nat.{ℕ, zero, suc, _+_, _-_, _≤_, _<_, suc-le-suc}
 use native.Mathlib.Nat.{zero-lt-suc}
 use native.Mathlib.Decide.{decLt, decLe}
 use native.Mathlib.Omega.{arith}
-use borrow.Author.Tests.{eq-eqb, ne-eqb, le-leb, lt-leb, lt-ltb, le-ltb, eqb-true, eqb-false}
+use borrow.Author.Tests.{eq-eqb, le-leb, lt-leb, lt-ltb, le-ltb, eqb-true, eqb-false}
 use lib.Count.{ones, trailingZeros}
 use lib.Dec.{eqb, leb, ltb}
 use lib.ListN.{length}
 use Rattle.terms.specs.Cases.{clash}
 use Rattle.terms.specs.Paper.{Paper, answer, refusal, pick}
 use Rattle.map.specs.Bits.{bit, isSet, tally}
-use Rattle.map.proofs.Digits.{bit-lt, trailing-passed, trailing-stopped, tally-ext, tally-split, ones-tally}
-use Rattle.map.proofs.Ones.{all-one}
+use Rattle.map.proofs.Digits.{bit-lt, trailing-passed, trailing-stopped, tally-ext, ones-tally}
 use Rattle.book.specs.State.{Asked, nothing, range, Book, orElse, has, StateRules}
 use Rattle.book.specs.Calls.{Request, Missing, Held, isPending, elsewhere, ownNumber, asked, heldCount, missingCount, valuesOf, answerAt, answerTo}
 use Rattle.book.specs.Trace.{Calls, after, History, trace}
-use Rattle.book.specs.Words.{received, numbers, knownTop, pending, isIn, delivered, held, missing, one, count}
+use Rattle.book.specs.Words.{received, givenUp, settled, numbers, handedOut, knownTop, pending, isIn, delivered, held, missing, one, count, floorOf}
 use Rattle.book.specs.Demand3.{Deliveries, missingIn, MissingNumbers, LowestRun, Requests, Counts, Shown, Demand3}
-use Rattle.book.proofs.Tests.{and-false, and-true, one-of, pick-cases}
+use Rattle.book.proofs.Tests.{both, and-false, and-true, one-of, pick-cases}
 use Rattle.book.proofs.Rules.{has-below, has-above, bits-top}
 use Rattle.book.proofs.Numbers.{checked-test}
 use Rattle.book.proofs.Steps.{Asks, asks}
-use Rattle.book.proofs.Agree.{Agrees, agrees}
+use Rattle.book.proofs.Rows.{in-numbers, in-chosen, all-zero, count-split, count-low, count-ext, count-two, count-all, count-chosen}
+use Rattle.book.proofs.Agree.{Agrees, has-is, high-not, high-has, agrees}
 
 -- ---- counts in two parts
-
-all-zero : (k : ℕ) (f : ℕ → ℕ) → ((i : ℕ) → i < k → f i ≡ 0) → tally f k ≡ 0
-unfolding tally
-all-zero zero f h = refl
-all-zero (suc k) f h = omega (arith, h 0 (zero-lt-suc k), all-zero k (λ i. f (suc i)) (λ i l. h (suc i) (suc-le-suc l)))
 
 -- those that are and those that are not make all
 rest : (p : ℕ → Bool) (k : ℕ) → tally (λ i. one (p i)) k + tally (λ i. one (not (p i))) k ≡ k
@@ -44,44 +39,39 @@ rest p (suc k) = omega (arith, rest (λ i. p (suc i)) k, single (p 0))
     single true = refl
     single false = refl
 
--- a count from 1 to f, and from f + 1 to t
-count-split : (so : ℕ → Bool) (f t : ℕ) → f ≤ t → count so t ≡ tally (λ i. one (so (i + 1))) f + tally (λ i. one (so (f + i + 1))) (t - f)
-unfolding count
-count-split so f t h =
-    let e : t ≡ f + (t - f) = omega arith in
-    ap (tally (λ i. one (so (i + 1)))) e ∙ tally-split f (t - f) (λ i. one (so (i + 1)))
+-- four parts of which a number is in exactly one
+four : (d r g : Bool) → (d ≡ true → r ≡ true) → (r ≡ true → g ≡ false) → one d + one (r && not d) + one (not (orElse r g)) + one g ≡ 1
+four true true true h k = absurd (clash refl (k refl))
+four true true false h k = refl
+four true false g h k = absurd (clash (h refl) refl)
+four false true true h k = absurd (clash refl (k refl))
+four false true false h k = refl
+four false false true h k = refl
+four false false false h k = refl
 
-pub length-numbers : (a k : ℕ) → length (numbers a k) ≡ k
-unfolding numbers
-length-numbers a zero = refl
-length-numbers a (suc k) = ap suc (length-numbers (a + 1) k)
+tally-four : (k : ℕ) (p q r s : ℕ → ℕ) → ((i : ℕ) → i < k → p i + q i + r i + s i ≡ 1) → tally p k + tally q k + tally r k + tally s k ≡ k
+unfolding tally
+tally-four zero p q r s h = refl
+tally-four (suc k) p q r s h =
+    omega (arith, h 0 (zero-lt-suc k), tally-four k (λ i. p (suc i)) (λ i. q (suc i)) (λ i. r (suc i)) (λ i. s (suc i)) (λ i l. h (suc i) (suc-le-suc l)))
 
--- the numbers of a run
-in-numbers : (n a k : ℕ) → isIn n (numbers a k) ≡ leb a n && ltb n (a + k)
-unfolding numbers
-in-numbers n a zero = elim (decLe a n) [
-  | yes h ↦ (let g : a + 0 ≤ n = omega arith in sym (simp (le-leb _ _ h, le-ltb _ _ g)))
-  | no h ↦ (let g : n < a = omega arith in sym (simp (lt-leb _ _ g)))
-]
-in-numbers n a (suc k) = elim (decLt n a) [
-  | yes h ↦ (
-      let ne : n ≡ a → ⊥ = λ e. omega arith in
-      let g : n < a + 1 = omega arith in
-      ap₂ orElse (ne-eqb n a ne) (in-numbers n (a + 1) k) ∙ simp (lt-leb _ _ g, lt-leb _ _ h))
-  | no h ↦ elim (decLt a n) [
-    | yes g ↦ (
-        let ne : n ≡ a → ⊥ = λ e. omega arith in
-        let lo : a ≤ n = omega arith in
-        let up : a + 1 ≤ n = omega arith in
-        let e : a + 1 + k ≡ a + suc k = omega arith in
-        ap₂ orElse (ne-eqb n a ne) (in-numbers n (a + 1) k) ∙ simp (le-leb _ _ up, le-leb _ _ lo) (ap (ltb n) e))
-    | no g ↦ (
-        let eq : n ≡ a = omega arith in
-        let lo : a ≤ n = omega arith in
-        let up : n < a + suc k = omega arith in
-        ap (λ (t : Bool). orElse t (isIn n (numbers (a + 1) k))) (eq-eqb n a eq) ∙ sym (simp (le-leb _ _ lo, lt-ltb _ _ up)))
-  ]
-]
+-- of a received number: delivered or held
+two-parts : (d r : Bool) → (d ≡ true → r ≡ true) → one d + one (r && not d) ≡ one r
+two-parts true true h = refl
+two-parts true false h = absurd (clash (h refl) refl)
+two-parts false true h = refl
+two-parts false false h = refl
+
+-- of a settled number: received or given up
+one-each : (r g : Bool) → (r ≡ true → g ≡ false) → orElse r g ≡ true → one r + one g ≡ 1
+one-each true true h e = absurd (clash refl (h refl))
+one-each true false h e = refl
+one-each false true h e = refl
+one-each false false h e = absurd (clash e refl)
+
+not-and : (t : Bool) → t && not t ≡ false
+not-and true = refl
+not-and false = refl
 
 -- ---- what a book says of a missing number
 
@@ -144,26 +134,50 @@ request-view b channel r own =
 -- ---- the sentences
 
 module _ (h : History) (channel : ℕ) (b : Book) (a : Agrees h channel b) where
-  pub received-is : (n : ℕ) → 1 ≤ n → received h n ≡ has b n
-  received-is zero p = absurd (no-zero p)
-    where
-      no-zero : 1 ≤ 0 → ⊥
-      no-zero q = omega arith
-  received-is (suc n) p = sym (a .receipts n)
+  pub settled-is : (n : ℕ) → 1 ≤ n → settled h n ≡ has b n
+  unfolding settled
+  settled-is n p = sym (has-is h channel b a n p)
 
-  deliveries : Deliveries h
+  -- delivered: received, and up to the floor
+  delivered-is : (n : ℕ) → delivered h n ≡ received h n && (leb 1 n && ltb n (1 + b .floor))
+  unfolding delivered
+  delivered-is n = ap (isIn n) (a .handed) ∙ in-chosen (received h) n (numbers 1 (b .floor)) ∙ ap (received h n &&_) (in-numbers n 1 (b .floor))
+
+  delivered-received : (n : ℕ) → delivered h n ≡ true → received h n ≡ true
+  delivered-received n e = both (received h n) _ (sym (delivered-is n) ∙ e) .0
+
+  pub delivered-low : (n : ℕ) → 1 ≤ n → n ≤ b .floor → delivered h n ≡ received h n
+  delivered-low n p q = let up : n < 1 + b .floor = omega arith in delivered-is n ∙ simp (le-leb _ _ p, lt-ltb _ _ up) (and-true (received h n))
+
+  pub delivered-high : (n : ℕ) → b .floor < n → delivered h n ≡ false
+  delivered-high n p =
+      let up : 1 + b .floor ≤ n = omega arith in
+      delivered-is n ∙ simp (le-ltb _ _ up) (ap (received h n &&_) (and-false (leb 1 n)) ∙ and-false (received h n))
+
+  -- up to the floor: each number is settled
+  low-settled : (n : ℕ) → 1 ≤ n → n ≤ b .floor → orElse (received h n) (givenUp h n) ≡ true
+  low-settled n p q = sym (has-is h channel b a n p) ∙ has-below b n q
+
+  pub next-neither : settled h (b .floor + 1) ≡ false
+  next-neither = settled-is _ (omega arith) ∙ first-clear b (a .rules)
+
+  deliveries : Deliveries h b
   deliveries =
       record {
-        last = b .floor;
-        in-order = a .handed;
-        all-settled = λ n p q. received-is n p ∙ has-below b n q;
-        next-not-settled = received-is _ (omega arith) ∙ first-clear b (a .rules);
+        rising = a .handed;
+        delivered-or-given-up = λ n p q. either n p q (received h n) refl;
+        never-both = a .never-both;
+        next-neither = next-neither;
       }
+    where
+      either : (n : ℕ) → 1 ≤ n → n ≤ b .floor → (t : Bool) → received h n ≡ t → ((received h n ≡ true) × (delivered h n ≡ true)) ⊎ (givenUp h n ≡ true)
+      either n p q true e = inl (e, delivered-low n p q ∙ e)
+      either n p q false e = inr (sym (ap (λ (t : Bool). orElse t (givenUp h n)) e) ∙ low-settled n p q)
 
   -- a number above 0, told by the history
   missing-is : (n : ℕ) → 1 ≤ n → missing h n ≡ leb n (b .top) && not (has b n)
   unfolding missing
-  missing-is n p = simp (le-leb _ _ p) (ap₂ (λ (t : ℕ) (s : Bool). leb n t && not s) (sym (a .top-is)) (received-is n p))
+  missing-is n p = simp (le-leb _ _ p) (ap₂ (λ (t : ℕ) (s : Bool). leb n t && not s) (sym (a .top-is)) (settled-is n p))
 
   pub exactly : (n : ℕ) → missingIn b n ≡ missing h n
   exactly n = elim (decLe n (b .floor)) [ yes p ↦ missing-below b n p ∙ sym (below n p) | no p ↦ above n (omega arith) ]
@@ -252,31 +266,15 @@ module _ (h : History) (channel : ℕ) (b : Book) (a : Agrees h channel b) where
 
   -- ---- counts
 
-  delivered-is : (n : ℕ) → delivered h n ≡ leb 1 n && ltb n (1 + b .floor)
-  unfolding delivered
-  delivered-is n = ap (isIn n) (a .handed) ∙ in-numbers n 1 (b .floor)
-
-  -- up to the floor: delivered, and neither held nor missing
-  delivered-low : (i : ℕ) → i < b .floor → delivered h (i + 1) ≡ true
-  delivered-low i q =
-      let lo : 1 ≤ i + 1 = omega arith in
-      let up : i + 1 < 1 + b .floor = omega arith in
-      delivered-is (i + 1) ∙ simp (le-leb _ _ lo, lt-ltb _ _ up)
-
+  -- up to the floor: neither held nor missing
   held-low : (i : ℕ) → i < b .floor → held h (i + 1) ≡ false
   unfolding held
-  held-low i q = ap (λ (t : Bool). received h (i + 1) && not t) (delivered-low i q) ∙ and-false (received h (i + 1))
+  held-low i q = ap (λ (t : Bool). received h (i + 1) && not t) (delivered-low (i + 1) (omega arith) (omega arith)) ∙ not-and (received h (i + 1))
 
   missing-low : (i : ℕ) → i < b .floor → missing h (i + 1) ≡ false
   missing-low i q = sym (exactly (i + 1)) ∙ missing-below b (i + 1) (omega arith)
 
-  -- above the floor: not delivered; held where the place is, missing where it is not
-  delivered-high : (i : ℕ) → delivered h (b .floor + i + 1) ≡ false
-  delivered-high i =
-      let lo : 1 ≤ b .floor + i + 1 = omega arith in
-      let up : 1 + b .floor ≤ b .floor + i + 1 = omega arith in
-      delivered-is (b .floor + i + 1) ∙ simp (le-leb _ _ lo, le-ltb _ _ up)
-
+  -- above the floor: held where the place is, missing where it is not
   has-high : (i : ℕ) → has b (b .floor + i + 1) ≡ isSet (b .bits) i
   has-high i =
       let e : b .floor + i + 1 - b .floor - 1 ≡ i = omega arith in
@@ -285,7 +283,7 @@ module _ (h : History) (channel : ℕ) (b : Book) (a : Agrees h channel b) where
   held-high : (i : ℕ) → held h (b .floor + i + 1) ≡ isSet (b .bits) i
   unfolding held
   held-high i =
-      ap₂ (λ (x y : Bool). x && not y) (received-is (b .floor + i + 1) (omega arith) ∙ has-high i) (delivered-high i)
+      ap₂ (λ (x y : Bool). x && not y) (high-has h channel b a (b .floor + i + 1) (omega arith) ∙ has-high i) (delivered-high (b .floor + i + 1) (omega arith))
       ∙ and-true (isSet (b .bits) i)
 
   missing-high : (i : ℕ) → i < b .top - b .floor → missing h (b .floor + i + 1) ≡ not (isSet (b .bits) i)
@@ -305,12 +303,6 @@ module _ (h : History) (channel : ℕ) (b : Book) (a : Agrees h channel b) where
       ones-tally span (b .bits) (bits-top b (a .rules))
       ∙ tally-ext span (bit (b .bits)) (λ i. one (isSet (b .bits) i)) (λ i q. sym (one-of (bit (b .bits) i) (bit-lt (b .bits) i)))
 
-  delivered-count : count (delivered h) (b .top) ≡ b .floor
-  delivered-count =
-      let x : tally (λ i. one (delivered h (i + 1))) (b .floor) ≡ b .floor = all-one (b .floor) (λ i. one (delivered h (i + 1))) (λ i q. ap one (delivered-low i q)) in
-      let y : tally (λ i. one (delivered h (b .floor + i + 1))) span ≡ 0 = all-zero span (λ i. one (delivered h (b .floor + i + 1))) (λ i q. ap one (delivered-high i)) in
-      omega (arith, count-split (delivered h) (b .floor) (b .top) low)
-
   held-count : count (held h) (b .top) ≡ ones (b .bits)
   held-count =
       let x : tally (λ i. one (held h (i + 1))) (b .floor) ≡ 0 = all-zero (b .floor) (λ i. one (held h (i + 1))) (λ i q. ap one (held-low i q)) in
@@ -323,8 +315,45 @@ module _ (h : History) (channel : ℕ) (b : Book) (a : Agrees h channel b) where
       let y : tally (λ i. one (missing h (b .floor + i + 1))) span ≡ tally (λ i. one (not (isSet (b .bits) i))) span = tally-ext span (λ i. one (missing h (b .floor + i + 1))) (λ i. one (not (isSet (b .bits) i))) (λ i q. ap one (missing-high i q)) in
       omega (arith, count-split (missing h) (b .floor) (b .top) low, ones-are, rest (λ i. isSet (b .bits) i) span)
 
-  none-above : (n : ℕ) (t : Bool) → received h n ≡ t → knownTop h < n → t ≡ false
-  none-above n t e q = sym e ∙ received-is n (omega arith) ∙ a .rules .none-above n (omega (arith, a .top-is))
+  none-above : (n : ℕ) → knownTop h < n → settled h n ≡ false
+  none-above n q = settled-is n (omega arith) ∙ a .rules .none-above n (omega (arith, a .top-is))
+
+  -- the numbers up to the floor: handed out or given up
+  handed-count : length (handedOut h) ≡ count (received h) (b .floor)
+  handed-count = ap length (a .handed) ∙ count-chosen (received h) (b .floor)
+
+  delivered-count : count (delivered h) (b .top) ≡ count (received h) (b .floor)
+  delivered-count = count-low (delivered h) (b .floor) (b .top) low delivered-high ∙ count-ext (delivered h) (received h) (b .floor) delivered-low
+
+  given-count : count (givenUp h) (b .top) ≡ count (givenUp h) (b .floor)
+  given-count = count-low (givenUp h) (b .floor) (b .top) low (high-not h channel b a)
+
+  floor-count : count (received h) (b .floor) + count (givenUp h) (b .floor) ≡ b .floor
+  floor-count =
+      count-two (received h) (givenUp h) (λ n. true) (b .floor) (λ n p q. one-each (received h n) (givenUp h n) (a .never-both n) (low-settled n p q))
+      ∙ count-all (λ n. true) (b .floor) (λ n p q. refl)
+
+  pub floor-of : floorOf h ≡ b .floor
+  unfolding floorOf
+  floor-of = ap₂ (λ (x y : ℕ). x + y) handed-count (ap (count (givenUp h)) (sym (a .top-is)) ∙ given-count) ∙ floor-count
+
+  -- the four terms
+  missing-neither : (i : ℕ) → i < b .top → missing h (i + 1) ≡ not (orElse (received h (i + 1)) (givenUp h (i + 1)))
+  missing-neither i q =
+      let up : i + 1 ≤ b .top = omega arith in
+      missing-is (i + 1) (omega arith) ∙ simp (le-leb _ _ up) (ap not (has-is h channel b a (i + 1) (omega arith)))
+
+  sum : count (delivered h) (b .top) + count (held h) (b .top) + count (missing h) (b .top) + count (givenUp h) (b .top) ≡ b .top
+  unfolding count held
+  sum =
+      tally-four (b .top) (λ i. one (delivered h (i + 1))) (λ i. one (held h (i + 1))) (λ i. one (missing h (i + 1))) (λ i. one (givenUp h (i + 1)))
+      (λ i q. ap (λ (m : Bool). one (delivered h (i + 1)) + one (held h (i + 1)) + one m + one (givenUp h (i + 1))) (missing-neither i q)
+      ∙ four (delivered h (i + 1)) (received h (i + 1)) (givenUp h (i + 1)) (delivered-received (i + 1)) (a .never-both (i + 1)))
+
+  -- the ticks taken: delivered or held
+  received-count : count (delivered h) (b .top) + count (held h) (b .top) ≡ count (received h) (b .top)
+  unfolding held
+  received-count = count-two (delivered h) (held h) (received h) (b .top) (λ n p q. two-parts (delivered h n) (received h n) (delivered-received n))
 
   -- what the two counts are answered
   held-answer : answerTo b Held ≡ answer 0 (ones (b .bits) ∷ [])
@@ -335,29 +364,21 @@ module _ (h : History) (channel : ℕ) (b : Book) (a : Agrees h channel b) where
   unfolding answerTo valuesOf missingCount ownNumber
   missing-answer = rw (checked-test b Missing (a .rules) refl)
 
-  held-is : heldCount b ≡ ones (b .bits)
-  unfolding heldCount
-  held-is = refl
-
   counts : Counts h b
   counts =
-      let d : count (delivered h) (knownTop h) ≡ b .floor = ap (count (delivered h)) (sym (a .top-is)) ∙ delivered-count in
-      let e : count (held h) (knownTop h) ≡ ones (b .bits) = ap (count (held h)) (sym (a .top-is)) ∙ held-count in
-      let m : count (missing h) (knownTop h) ≡ count (missing h) (b .top) = ap (count (missing h)) (sym (a .top-is)) in
+      let t = a .top-is in
+      let e : count (held h) (knownTop h) ≡ ones (b .bits) = ap (count (held h)) (sym t) ∙ held-count in
+      let m : count (missing h) (knownTop h) ≡ count (missing h) (b .top) = ap (count (missing h)) (sym t) in
       let k : b .top - b .floor - ones (b .bits) ≡ count (missing h) (knownTop h) = omega (arith, missing-sum) in
       record {
-        sum = omega (arith, missing-sum, low, a .top-is);
-        none-above = λ n q. none-above n (received h n) refl q;
-        handed-out = ap length (a .handed) ∙ length-numbers 1 (b .floor) ∙ sym d;
-        each-once = sym (a .taken-is) ∙ taken-sum d e;
-        delivered-is = sym d;
+        sum = subst (λ (x : ℕ). count (delivered h) x + count (held h) x + count (missing h) x + count (givenUp h) x ≡ x) t sum;
+        none-above = none-above;
+        handed-out = handed-count ∙ sym delivered-count ∙ ap (count (delivered h)) t;
+        each-once = a .taken-is ∙ sym received-count ∙ ap (λ (x : ℕ). count (delivered h) x + count (held h) x) t;
+        floor-is = sym floor-count ∙ ap₂ (λ (x y : ℕ). x + y) (sym delivered-count ∙ ap (count (delivered h)) t) (sym given-count ∙ ap (count (givenUp h)) t);
         held-is = held-answer ∙ ap (λ (x : ℕ). answer 0 (x ∷ [])) (sym e);
         missing-is = missing-answer ∙ ap (λ (x : ℕ). answer 0 (x ∷ [])) k;
       }
-    where
-      taken-sum : count (delivered h) (knownTop h) ≡ b .floor → count (held h) (knownTop h) ≡ ones (b .bits)
-          → b .floor + heldCount b ≡ count (delivered h) (knownTop h) + count (held h) (knownTop h)
-      taken-sum d e = ap₂ (λ (x y : ℕ). x + y) (sym d) (held-is ∙ sym e)
 
   -- ---- what the ledger shows
 
@@ -365,8 +386,8 @@ module _ (h : History) (channel : ℕ) (b : Book) (a : Agrees h channel b) where
   shown =
       record {
         channel-is = a .channel-is;
-        floor-is = sym (ap length (a .handed) ∙ length-numbers 1 (b .floor));
-        next-not-received = received-is _ (omega arith) ∙ first-clear b (a .rules);
+        floor-is = sym floor-of;
+        next-not-settled = next-neither;
         top-is = a .top-is;
         pending-is = a .pending-is;
       }

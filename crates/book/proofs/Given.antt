@@ -12,7 +12,7 @@ use Rattle.terms.specs.Cases.{clash}
 use Rattle.terms.specs.Paper.{pick}
 use Rattle.book.specs.State.{Asked, nothing, range, Book, orElse, largest, has, soundOf, StateRules}
 use Rattle.book.specs.Calls.{Call, Tick, Announce, Request, Reply, Missing, Held, tickNumber, replyStatus, isPending, startsAt, elsewhere, ownNumber, checkedOf, numberTo, openNumber}
-use Rattle.book.specs.Given.{Own, HeldAt, ReceivedAt, MissingAt, StatusRight, Given18, Given10Tick, Given10Announcement, Given11, Given12, Given14, Given15, Given17, Given16, Fine, Given0}
+use Rattle.book.specs.Given.{Own, HeldAt, SettledAt, MissingAt, StatusRight, Given18, Given10Tick, Given10Announcement, Given11, Given12, Given14, Given15, Given17, Given16, Fine, Given0}
 use Rattle.book.proofs.Tests.{true-of, false-of, both, and-false, pick-cases, skip, hit}
 use Rattle.book.proofs.Rules.{has-below, has-above, rules-facts, rules-test, broken-test}
 use Rattle.book.proofs.Numbers.{checked-facts, checked-test, numbered}
@@ -55,12 +55,12 @@ bad-tick-fact (suc n) e = elim (decLe (suc n) largest) [
   | no h ↦ inr (omega arith)
 ]
 
-pub received-test : (b : Book) (n : ℕ) → ReceivedAt b n → has b n ≡ true
-received-test b n (inl h) = has-below b n h
-received-test b n (inr h) = has-above b n (h .above) ∙ ap (λ (d : ℕ). eqb d 1) (h .set)
+pub settled-test : (b : Book) (n : ℕ) → SettledAt b n → has b n ≡ true
+settled-test b n (inl h) = has-below b n h
+settled-test b n (inr h) = has-above b n (h .above) ∙ ap (λ (d : ℕ). eqb d 1) (h .set)
 
-pub received-fact : (b : Book) (n : ℕ) → has b n ≡ true → ReceivedAt b n
-received-fact b n e = elim (decLe n (b .floor)) [ yes h ↦ inl h | no h ↦ inr (above (omega arith)) ]
+pub settled-fact : (b : Book) (n : ℕ) → has b n ≡ true → SettledAt b n
+settled-fact b n e = elim (decLe n (b .floor)) [ yes h ↦ inl h | no h ↦ inr (above (omega arith)) ]
   where
     above : b .floor < n → HeldAt b n
     above l = record { above = l; set = eqb-true _ 1 (sym (has-above b n l) ∙ e) }
@@ -83,21 +83,21 @@ status-fact s e = told (leb 1 s && leb s 5) refl
 pub starts-test : (p : Asked) (first last : ℕ) → p ≡ range first last → startsAt p first ≡ true
 starts-test p first last e = ap (λ (x : Asked). startsAt x first) e ∙ eq-eqb first first refl
 
-record Starts (p : Asked) (first : ℕ) : Type 0 where
-  last : ℕ
-  is : p ≡ range first last
+pub record Starts (p : Asked) (first : ℕ) : Type 0 where
+  pub last : ℕ
+  pub is : p ≡ range first last
 
-starts-fact : (p : Asked) (first : ℕ) → startsAt p first ≡ true → Starts p first
+pub starts-fact : (p : Asked) (first : ℕ) → startsAt p first ≡ true → Starts p first
 starts-fact nothing first e = absurd (clash e refl)
 starts-fact (range x y) first e = record { last = y; is = ap (λ (z : ℕ). range z y) (eqb-true x first e) }
 
 -- nothing is missing exactly where the top is the floor: floor + 1 is never held
 whole-fact : (b : Book) → b .top ≡ b .floor → (n : ℕ) → MissingAt b n → ⊥
-whole-fact b e n m = m .not-received (inl (omega (arith, m .low)))
+whole-fact b e n m = m .not-settled (inl (omega (arith, m .low)))
 
 next-missing : (b : Book) → StateRules b → (b .top ≡ b .floor → ⊥) → MissingAt b (b .floor + 1)
 next-missing b r g =
-    record { above = omega arith; low = above-floor; not-received = λ q. clash (received-test b (b .floor + 1) q) (first-clear b r) }
+    record { above = omega arith; low = above-floor; not-settled = λ q. clash (settled-test b (b .floor + 1) q) (first-clear b r) }
   where
     above-floor : b .floor + 1 ≤ b .top
     above-floor = elim (decLe (b .top) (b .floor)) [ yes h ↦ absurd (g (omega (arith, r .low))) | no h ↦ omega arith ]
@@ -181,12 +181,12 @@ given-11 b channel n = (λ e. to e, λ g. from g)
         let s = skip (not (tickNumber n)) 10 (pick (has b n) 11 (pick (ltb (b .floor + 256) n) 12 0)) (c .own) (λ q. omega arith) in
         let t = hit (has b n) 11 (pick (ltb (b .floor + 256) n) 12 0) (s .1) (tick-near b n 11 (λ q. omega arith) (λ q. omega arith)) in
         let h = numbered n (not-false _ (s .0)) in
-        record { rules = c .rules; own = own-fact b (Tick channel n) (c .here); above = h .0; digits = h .1; repeat = received-fact b n t }
+        record { rules = c .rules; own = own-fact b (Tick channel n) (c .here); above = h .0; digits = h .1; repeat = settled-fact b n t }
 
     from : Given11 b channel n → numberTo b (Tick channel n) ≡ 11
     from g =
         checked-test b (Tick channel n) (g .rules) (own-test b (Tick channel n) (g .own))
-        ∙ simp (tick-test n (g .above) (g .digits), received-test b n (g .repeat))
+        ∙ simp (tick-test n (g .above) (g .digits), settled-test b n (g .repeat))
 
 pub given-12 : (b : Book) (channel n : ℕ) → (numberTo b (Tick channel n) ≡ 12) ↔ Given12 b channel n
 unfolding ownNumber
@@ -204,14 +204,14 @@ given-12 b channel n = (λ e. to e, λ g. from g)
           own = own-fact b (Tick channel n) (c .here);
           above = h .0;
           digits = h .1;
-          no-repeat = λ q. clash (received-test b n q) (t .0);
+          no-repeat = λ q. clash (settled-test b n q) (t .0);
           far = ltb-true _ _ u;
         }
 
     from : Given12 b channel n → numberTo b (Tick channel n) ≡ 12
     from g =
         checked-test b (Tick channel n) (g .rules) (own-test b (Tick channel n) (g .own))
-        ∙ simp (tick-test n (g .above) (g .digits), false-of (has b n) (λ e. g .no-repeat (received-fact b n e)), lt-ltb _ _ (g .far))
+        ∙ simp (tick-test n (g .above) (g .digits), false-of (has b n) (λ e. g .no-repeat (settled-fact b n e)), lt-ltb _ _ (g .far))
 
 -- ---- an announcement, and opening
 
@@ -320,7 +320,7 @@ fine-fact b (Tick channel n) r e =
     let t = skip (has b n) 11 (pick (ltb (b .floor + 256) n) 12 0) (s .1) (λ q. omega arith) in
     let u = skip (ltb (b .floor + 256) n) 12 0 (t .1) (λ q. omega arith) in
     let h = numbered n (not-false _ (s .0)) in
-    record { above = h .0; digits = h .1; no-repeat = λ q. clash (received-test b n q) (t .0); near = ltb-false _ _ (u .0) }
+    record { above = h .0; digits = h .1; no-repeat = λ q. clash (settled-test b n q) (t .0); near = ltb-false _ _ (u .0) }
 fine-fact b (Announce channel n) r e = ltb-false _ _ (skip (ltb largest n) 10 0 e (λ q. omega arith) .0)
 fine-fact b (Request channel) r e =
     let s = skip (isPending (b .pending)) 14 (pick (eqb (b .top) (b .floor)) 15 0) e (λ q. omega arith) in
@@ -337,7 +337,7 @@ fine-fact b Held r e = tt
 fine-test : (b : Book) (call : Call) → Fine b call → ownNumber b call ≡ 0
 unfolding ownNumber
 fine-test b (Tick channel n) f =
-    simp (tick-test n (f .above) (f .digits), false-of (has b n) (λ e. f .no-repeat (received-fact b n e)), le-ltb _ _ (f .near))
+    simp (tick-test n (f .above) (f .digits), false-of (has b n) (λ e. f .no-repeat (settled-fact b n e)), le-ltb _ _ (f .near))
 fine-test b (Announce channel n) f = simp (le-ltb _ _ f)
 fine-test b (Request channel) f = simp (f .free, ne-eqb _ _ (λ e. whole-fact b e (f .number) (f .is-missing)))
 fine-test b (Reply channel first status) f = simp (status-test status (f .right), starts-test (b .pending) first (f .last) (f .own-request))

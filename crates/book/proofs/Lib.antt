@@ -2,8 +2,12 @@ pub mod Agree
 pub mod Answers
 pub mod Demand3
 pub mod Given
+pub mod GivenUp
+pub mod Masks
 pub mod Numbers
 pub mod Places
+pub mod Rows
 pub mod Rules
 pub mod Steps
 pub mod Tests
+pub mod Told

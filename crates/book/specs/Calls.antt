@@ -2,7 +2,7 @@
 -- Document 01, "What each number says" and "Ledger".
 use mathlib.Core.Bool.{Bool, true, false, _&&_, not}
 use mathlib.Core.List.{List, [], _∷_}
-use Prim.Native.Nat.{ℕ, _+_, _-_, _/_, _^_, min, max}
+use Prim.Native.Nat.{ℕ, _+_, _-_, _/_, _%_, _^_, min, max}
 use lib.Bits.{bitOr}
 use lib.Count.{ones, trailingZeros}
 use lib.Dec.{eqb, leb, ltb}
@@ -74,6 +74,10 @@ numberTo b call = checkedOf b (elsewhere b call) (ownNumber b call)
 
 -- ======== The state after the call
 
+-- the book once its floor has passed k numbers of the map m, which moves down by as many
+abbrev pub moved : Book → (k m top : ℕ) → Asked → Book
+moved b k m top pending = record { channel = b .channel; floor = b .floor + k; top = top; bits = m / 2 ^ k; pending = pending }
+
 -- the map with the tick's place, and how many numbers the floor then passes: the run of held ones above it
 abbrev pub marked : Book → ℕ → ℕ
 marked b n = bitOr (b .bits) (2 ^ (n - b .floor - 1))
@@ -83,14 +87,34 @@ passes b n = run 256 (marked b n)
 
 -- "marked received; the floor moves to just below the first number not received"
 unfoldable pub taken : Book → ℕ → Book
-taken b n =
-    record {
-      channel = b .channel;
-      floor = b .floor + passes b n;
-      top = max (b .top) n;
-      bits = marked b n / 2 ^ passes b n;
-      pending = b .pending;
-    }
+taken b n = moved b (passes b n) (marked b n) (max (b .top) n) (b .pending)
+
+-- ---- a reply: "On status 4, each number of the pending range not received so far is given up"
+
+abbrev pub lastOf : Asked → ℕ
+lastOf nothing = 0
+lastOf (range first last) = last
+
+-- how many numbers above the floor the pending range reaches, on status 4
+unfoldable pub reach : Book → ℕ → ℕ
+reach b status = pick (eqb status 4) (lastOf (b .pending) - b .floor) 0
+
+-- the map with all of them, and how many numbers the floor then passes: "over them and over all that follows and was received"
+abbrev pub covered : Book → ℕ → ℕ
+covered b w = bitOr (b .bits) (2 ^ w - 1)
+
+unfoldable pub leaps : Book → ℕ → ℕ
+leaps b w = run 256 (covered b w)
+
+-- the given-up numbers, and the received ones newly passed: each as one number, whose digit i stands for floor + 1 + i
+unfoldable pub gaveUp : Book → ℕ → ℕ
+gaveUp b w = (2 ^ w - 1) - b .bits % 2 ^ w
+
+unfoldable pub handed : Book → ℕ → ℕ
+handed b w = b .bits % 2 ^ leaps b w
+
+unfoldable pub replied : Book → ℕ → Book
+replied b w = moved b (leaps b w) (covered b w) (b .top) nothing
 
 -- the top raised to n, if it was lower
 unfoldable pub raised : Book → ℕ → Book
@@ -108,7 +132,7 @@ unfoldable pub done : Book → Call → Book
 done b (Tick channel n) = taken b n
 done b (Announce channel n) = raised b n
 done b (Request channel) = waiting b (range (b .floor + 1) (b .floor + asked b))
-done b (Reply channel first status) = waiting b nothing
+done b (Reply channel first status) = replied b (reach b status)
 done b Missing = b
 done b Held = b
 
@@ -124,21 +148,22 @@ heldCount b = ones (b .bits)
 unfoldable pub missingCount : Book → ℕ
 missingCount b = b .top - b .floor - ones (b .bits)
 
--- a tick's answer: the first number newly passed, and how many; a request's: first and last number; a count's: the count
+-- a tick's answer: the first number newly passed, and how many; a request's: first and last number; a count's: the count;
+-- a reply's: the floor + 1 that both its sets count from, the given-up numbers, and the received ones newly passed
 unfoldable pub valuesOf : Book → Call → List ℕ
 valuesOf b (Tick channel n) = (b .floor + 1) ∷ passes b n ∷ []
 valuesOf b (Announce channel n) = []
 valuesOf b (Request channel) = (b .floor + 1) ∷ (b .floor + asked b) ∷ []
-valuesOf b (Reply channel first status) = []
+valuesOf b (Reply channel first status) = (b .floor + 1) ∷ gaveUp b (reach b status) ∷ handed b (reach b status) ∷ []
 valuesOf b Missing = missingCount b ∷ []
 valuesOf b Held = heldCount b ∷ []
 
--- beside a refusal: nothing; beside a refused count, 0
+-- beside a refusal: nothing; beside a refused count, 0, and beside a refused reply 0 and two empty sets
 abbrev pub beside : Call → List ℕ
 beside (Tick channel n) = []
 beside (Announce channel n) = []
 beside (Request channel) = []
-beside (Reply channel first status) = []
+beside (Reply channel first status) = 0 ∷ 0 ∷ 0 ∷ []
 beside Missing = 0 ∷ []
 beside Held = 0 ∷ []
 

@@ -16,19 +16,19 @@ Own b (Reply channel first status) = channel ≡ b .channel
 Own b Missing = Unit
 Own b Held = Unit
 
--- received: up to the floor, or held above it
+-- settled (received, or given up): up to the floor, or held above it
 pub record HeldAt (b : Book) (n : ℕ) : Type 0 where
   pub above : b .floor < n
   pub set : bit (b .bits) (n - b .floor - 1) ≡ 1
 
-abbrev pub ReceivedAt : Book → ℕ → Type 0
-ReceivedAt b n = (n ≤ b .floor) ⊎ HeldAt b n
+abbrev pub SettledAt : Book → ℕ → Type 0
+SettledAt b n = (n ≤ b .floor) ⊎ HeldAt b n
 
--- missing: up to the top, and not received
+-- missing: up to the top, and not settled
 pub record MissingAt (b : Book) (n : ℕ) : Type 0 where
   pub above : 1 ≤ n
   pub low : n ≤ b .top
-  pub not-received : ReceivedAt b n → ⊥
+  pub not-settled : SettledAt b n → ⊥
 
 abbrev pub StatusRight : ℕ → Type 0
 StatusRight s = ((1 ≤ s) × (s ≤ 5)) ⊎ (s ≡ 99)
@@ -49,13 +49,13 @@ pub record Given10Announcement (b : Book) (channel n : ℕ) : Type 0 where
   pub own : channel ≡ b .channel
   pub number : largest < n
 
--- 11: "tick already received"
+-- 11: "tick already received", or given up
 pub record Given11 (b : Book) (channel n : ℕ) : Type 0 where
   pub rules : StateRules b
   pub own : channel ≡ b .channel
   pub above : 1 ≤ n
   pub digits : n ≤ largest
-  pub repeat : ReceivedAt b n
+  pub repeat : SettledAt b n
 
 -- 12: "tick above floor + 256 and not a repeat"
 pub record Given12 (b : Book) (channel n : ℕ) : Type 0 where
@@ -63,7 +63,7 @@ pub record Given12 (b : Book) (channel n : ℕ) : Type 0 where
   pub own : channel ≡ b .channel
   pub above : 1 ≤ n
   pub digits : n ≤ largest
-  pub no-repeat : ReceivedAt b n → ⊥
+  pub no-repeat : SettledAt b n → ⊥
   pub far : b .floor + 256 < n
 
 -- 14: "a request is pending"
@@ -98,7 +98,7 @@ pub record Given16 (b : Book) (channel first status : ℕ) : Type 0 where
 pub record FineTick (b : Book) (n : ℕ) : Type 0 where
   pub above : 1 ≤ n
   pub digits : n ≤ largest
-  pub no-repeat : ReceivedAt b n → ⊥
+  pub no-repeat : SettledAt b n → ⊥
   pub near : n ≤ b .floor + 256
 
 pub record FineRequest (b : Book) : Type 0 where

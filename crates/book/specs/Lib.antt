@@ -5,3 +5,4 @@ pub mod Words
 pub mod Given
 pub mod Answers
 pub mod Demand3
+pub mod GivenUp

@@ -1,11 +1,11 @@
 -- The words of demand 3, each told from a history alone: the calls and their answers, and no ledger.
 use mathlib.Core.Bool.{Bool, true, false, _&&_, not}
 use mathlib.Core.List.{List, [], _∷_, _++_}
-use Prim.Native.Nat.{ℕ, zero, suc, _+_, max}
+use Prim.Native.Nat.{ℕ, zero, suc, _+_, _-_, max}
 use lib.Dec.{eqb, leb}
-use lib.ListN.{getD}
+use lib.ListN.{getD, length}
 use Rattle.terms.specs.Paper.{Paper, pick}
-use Rattle.map.specs.Bits.{tally}
+use Rattle.map.specs.Bits.{isSet, tally}
 use Rattle.book.specs.State.{Asked, nothing, range, orElse}
 use Rattle.book.specs.Calls.{Call, Tick, Announce, Request, Reply, Missing, Held}
 use Rattle.book.specs.Trace.{History, start, _▸_⇒_}
@@ -31,21 +31,43 @@ unfoldable pub received : History → ℕ → Bool
 received start n = false
 received (before ▸ call ⇒ a) n = orElse (receives call a n) (received before n)
 
--- a number that need not be waited for: received. (Request 7 adds the numbers given up.)
-abbrev pub settled : History → ℕ → Bool
-settled h n = received h n
+-- a set of numbers as one number: its digit i stands for first + i
+abbrev pub inSet : ℕ → ℕ → ℕ → Bool
+inSet first set n = leb first n && isSet set (n - first)
+
+-- "It is given up once a reply answered 0 names it so": the reply's first value is the number that both sets count from, the second the set given up
+abbrev pub givesUp : Call → Paper → ℕ → Bool
+givesUp (Tick channel m) a n = false
+givesUp (Announce channel m) a n = false
+givesUp (Request channel) a n = false
+givesUp (Reply channel first status) a n = answered a 0 && inSet (valueAt a 0) (valueAt a 1) n
+givesUp Missing a n = false
+givesUp Held a n = false
+
+unfoldable pub givenUp : History → ℕ → Bool
+givenUp start n = false
+givenUp (before ▸ call ⇒ a) n = orElse (givesUp call a n) (givenUp before n)
+
+-- a number that need not be waited for: received or given up
+unfoldable pub settled : History → ℕ → Bool
+settled h n = orElse (received h n) (givenUp h n)
 
 -- first, first + 1, first + 2 and so on: as many as count says
 unfoldable pub numbers : ℕ → ℕ → List ℕ
 numbers first zero = []
 numbers first (suc count) = first ∷ numbers (first + 1) count
 
--- the numbers that an answer names for delivery: a tick's, if it was answered 0
+-- those of a row that are so
+unfoldable pub chosen : (ℕ → Bool) → List ℕ → List ℕ
+chosen so [] = []
+chosen so (x ∷ xs) = pick (so x) (x ∷ chosen so xs) (chosen so xs)
+
+-- the numbers that an answer names for delivery, if it was answered 0: a tick's run; a reply's set of received numbers newly passed, rising
 unfoldable pub namedBy : Call → Paper → List ℕ
 namedBy (Tick channel n) a = pick (answered a 0) (numbers (valueAt a 0) (valueAt a 1)) []
 namedBy (Announce channel n) a = []
 namedBy (Request channel) a = []
-namedBy (Reply channel first status) a = []
+namedBy (Reply channel first status) a = pick (answered a 0) (chosen (inSet (valueAt a 0) (valueAt a 2)) (numbers (valueAt a 0) 256)) []
 namedBy Missing a = []
 namedBy Held a = []
 
@@ -115,3 +137,7 @@ ticksTaken (before ▸ call ⇒ a) = ticks call a + ticksTaken before
 -- how many of the numbers from 1 to k are so: counted one by one
 unfoldable pub count : (ℕ → Bool) → ℕ → ℕ
 count so k = tally (λ i. one (so (i + 1))) k
+
+-- the floor, as the caller knows it: how many numbers were handed out, and how many were given up
+unfoldable pub floorOf : History → ℕ
+floorOf h = length (handedOut h) + count (givenUp h) (knownTop h)

@@ -4,17 +4,21 @@ use Prim.Native.Nat.{ℕ}
 use mathlib.Core.Path.{_≡_, ap, ap₂, _∙_}
 use mathlib.Core.List.{List}
 use Rattle.terms.specs.declared.ChannelNumber.{ChannelNumber}
+use Rattle.terms.specs.declared.TickNumber.{TickNumber}
 use Rattle.terms.specs.declared.Refusal.{Refusal}
 use Rattle.terms.specs.Paper.{Paper, answer, refusal, one-number}
 use Rattle.terms.specs.Refusals.{numberOf}
 use Rattle.terms.specs.Counters.{channelOf}
 use Rattle.book.specs.Calls.{Call, answerTo, openNumber, openOf}
 use Rattle.ledger.specs.declared.Ledger.{Ledger}
-use Rattle.ledger.specs.State.{bookOf, ledgerOf, nextIn}
-use Rattle.words.specs.Told.{Tells, tells-done, tells-why}
+use Rattle.ledger.specs.State.{bookOf, ledgerOf, nextIn, laidFrom}
+use Rattle.ledger.specs.Papers.{replyPaper}
+use Rattle.ledger.specs.declared.ReplyAnswer.the-variants.{Cleared}
+use Rattle.map.specs.declared.Map.{Map}
+use Rattle.words.specs.Told.{Tells, retold, tells-done, tells-why}
 use Rattle.words.specs.Words.{ledgerIn}
 use Rattle.words.specs.Calls.{keptBy, callTold, wordsAfter}
-use Rattle.host_ledger.specs.Words.{openWords}
+use Rattle.host_ledger.specs.Words.{openWords, rowOf, settledRow, replyTold, settled-row}
 
 -- the call as it is given, on the ledger l, and the ledger next that it gives
 module _ (w : List ℕ) {l next : Ledger} {given call : Call} (le : l ≡ ledgerIn w) (ce : given ≡ call) (xe : next ≡ nextIn l given) where
@@ -39,6 +43,17 @@ module _ (w : List ℕ) {l next : Ledger} {given call : Call} (le : l ≡ ledger
   pub tells : (vs was : List ℕ) {row : List ℕ} → answer 0 vs ≡ answerTo (bookOf l) given → row ≡ keptBy 0 next w
       → Tells (callTold w call) was 0 vs × (row ≡ wordsAfter w call)
   tells vs was pe e = (tells-done _ was vs (pe ∙ paper-is), words-are (one-number pe) e)
+
+  -- a reply, whose sets are told as words: refused, and done
+  pub reply-refuses : (why : Refusal) (was : List ℕ) {n : ℕ} {row : List ℕ} → numberOf why ≡ answerTo (bookOf l) given .number → n ≡ numberOf why → row ≡ keptBy n next w
+      → Tells (replyTold w call) was n was × (row ≡ wordsAfter w call)
+  reply-refuses why was pe ne e = (tells-why _ was why _ ne (pe ∙ one-number paper-is), words-are (ne ∙ pe) e)
+
+  pub reply-tells : (f : TickNumber) (m p : Map) (was : List ℕ) {told row : List ℕ} → replyPaper Cleared f m p ≡ answerTo (bookOf l) given
+      → m ≡ laidFrom f m → p ≡ laidFrom f p → told ≡ rowOf (f .0) m p → row ≡ keptBy 0 next w
+      → Tells (replyTold w call) was 0 told × (row ≡ wordsAfter w call)
+  reply-tells f m p was pe me ge te e =
+      (rw (te ∙ settled-row f m p me ge) (tells-done (replyTold w call) was _ (ap (retold settledRow) (pe ∙ paper-is))), words-are (one-number pe) e)
 
 -- opening
 pub opened-words : (was : List ℕ) {channel : ℕ} {k : ChannelNumber} {n : ℕ} {next : Ledger} {row : List ℕ} → k ≡ channelOf channel → n ≡ openNumber channel

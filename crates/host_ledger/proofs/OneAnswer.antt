@@ -59,13 +59,13 @@ pub rk-ledger-request-refused-keeps : RefusedKeeps _ rk-ledger-request-kinds.ps 
 rk-ledger-request-refused-keeps κs a x s p w = ap₂ both (tells-kept (p .0) w) (p .1 ∙ request-kept _ _ (λ z. w (p .0 .answered ∙ z)))
 
 pub rk-ledger-reply-one-answer : OneAnswer _ rk-ledger-reply-kinds.ps rk-ledger-reply-kinds.r rk-ledger-reply.Post
-rk-ledger-reply-one-answer κs a x y s t p q = p .0 ∙ sym (q .0)
+rk-ledger-reply-one-answer κs a x y s t p q = p .0 .answered ∙ sym (q .0 .answered)
 
-pub rk-ledger-reply-one-buffer : OneBuffer _ rk-ledger-reply-kinds.ps rk-ledger-reply-kinds.r rk-ledger-reply.Post (λ κs s. now (s .0))
-rk-ledger-reply-one-buffer κs a x y s t p q = p .1 ∙ sym (q .1)
+pub rk-ledger-reply-one-buffer : OneBuffer _ rk-ledger-reply-kinds.ps rk-ledger-reply-kinds.r rk-ledger-reply.Post (λ κs s. both (now (s .1 .1 .1 .1 .0)) (now (s .0)))
+rk-ledger-reply-one-buffer κs a x y s t p q = ap₂ both (p .0 .told ∙ sym (q .0 .told)) (p .1 ∙ sym (q .1))
 
-pub rk-ledger-reply-refused-keeps : RefusedKeeps _ rk-ledger-reply-kinds.ps rk-ledger-reply-kinds.r rk-ledger-reply.Post (λ κs x. Refuses x) (λ κs a. now (a .0)) (λ κs s. now (s .0))
-rk-ledger-reply-refused-keeps κs a x s p w = p .1 ∙ reply-kept _ _ _ _ (λ z. w (p .0 ∙ z))
+pub rk-ledger-reply-refused-keeps : RefusedKeeps _ rk-ledger-reply-kinds.ps rk-ledger-reply-kinds.r rk-ledger-reply.Post (λ κs x. Refuses x) (λ κs a. both (now (a .1 .1 .1 .1 .0)) (now (a .0))) (λ κs s. both (now (s .1 .1 .1 .1 .0)) (now (s .0)))
+rk-ledger-reply-refused-keeps κs a x s p w = ap₂ both (tells-kept (p .0) w) (p .1 ∙ reply-kept _ _ _ _ (λ z. w (p .0 .answered ∙ z)))
 
 pub rk-ledger-told-one-answer : OneAnswer _ rk-ledger-told-kinds.ps rk-ledger-told-kinds.r rk-ledger-told.Post
 rk-ledger-told-one-answer κs a x y s t p q = p .answered ∙ sym (q .answered)

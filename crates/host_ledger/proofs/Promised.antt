@@ -1,9 +1,11 @@
 -- A ledger call through the host is the book's own call, from the promises that the checker makes of the `ensures`; and demand 3 holds of every
 -- row of such calls on words that rk_ledger_open wrote. Assumes nothing.
-use Prim.Native.Nat.{ℕ, max, _≤_, _<_}
+use Prim.Native.Nat.{ℕ, _+_, _%_, _^_, max, _≤_, _<_}
+use native.Mathlib.Nat.{lt-of-lt-of-le, lt-of-le-of-lt, mod-le}
+use lib.Pow.{pow-mono, ones-sub-lt}
 use mathlib.Core.Path.{_≡_, refl, sym, ap, ap₂, _∙_}
 use mathlib.Core.Bool.{true, false}
-use mathlib.Core.Logic.{⊎-elim}
+use mathlib.Core.Logic.{⊎-elim, _↔_}
 use mathlib.Core.List.{List, [], _∷_}
 use native.Mathlib.Omega.{arith}
 use contract.Lifetimes.{Lfts}
@@ -13,31 +15,37 @@ use denote.Ref.{now}
 use denote.Triple.Clauses.{AtExit}
 use lib.Dec.{eqb}
 use lib.ListN.{length, getD}
-use Rattle.terms.specs.Paper.{Paper, answer, one-number}
+use Rattle.terms.specs.Paper.{Paper, answer, refusal, one-number}
 use Rattle.terms.specs.Cases.{two, same, clash}
+use Rattle.map.specs.Bits.{bitsIn, mapOf}
+use Rattle.map.specs.Ring.{rotated, laid}
+use Rattle.map.proofs.Ring.{rotated-laid}
 use Rattle.book.specs.State.{Book, soundOf, StateRules}
-use Rattle.book.specs.Calls.{Call, Tick, Announce, Request, Reply, Missing, Held, offered, elsewhere, ownNumber, checkedOf, raised, done, valuesOf, beside, numberTo, answerTo, nextOf, openOf, missingCount, heldCount}
+use Rattle.book.specs.Calls.{Call, Tick, Announce, Request, Reply, Missing, Held, offered, elsewhere, ownNumber, checkedOf, reach, leaps, gaveUp, handed, raised, done, valuesOf, beside, numberTo, answerTo, nextOf, openOf, missingCount, heldCount}
 use Rattle.book.specs.Trace.{Calls, none, _▸_, after, History, start, _▸_⇒_, trace}
-use Rattle.book.specs.Words.{valueAt}
-use Rattle.book.specs.Demand3.{Demand3}
+use Rattle.book.specs.Words.{valueAt, answered, givesUp, givenUp}
+use Rattle.book.specs.Answers.{TickAnswers, AnnounceAnswers, ReplyAnswers}
+use Rattle.book.specs.GivenUp.{InRange, NamesApart}
+use Rattle.book.specs.Demand3.{Demand3, Requests}
 use Rattle.book.proofs.Answers.{keeps}
 use Rattle.book.proofs.Demand3.{demand-3}
+use Rattle.book.proofs.Told.{told-tick, told-announce, told-request, told-reply, told-late, told-gives-up, told-names-apart}
 use Rattle.book.proofs.Given.{given-13}
-use Rattle.book.proofs.Numbers.{checked-test}
+use Rattle.book.proofs.Numbers.{checked-facts, checked-test}
 use Rattle.book.proofs.Rules.{rules-facts, rules-test}
-use Rattle.book.proofs.Steps.{rules-kept}
+use Rattle.book.proofs.Steps.{reach-near, rules-kept}
 use Rattle.ledger.specs.declared.Ledger.{Ledger}
 use Rattle.ledger.specs.declared.Pending.{Pending}
 use Rattle.ledger.specs.declared.Pending.the-variants.{Nothing, Range}
 use Rattle.ledger.specs.State.{askedOf, bookOf, ledgerOf, topped}
-use Rattle.ledger.proofs.Seam.{done-by, far-by}
+use Rattle.ledger.proofs.Seam.{laid-of, done-by, far-by}
 use Rattle.words.specs.Told.{Tells, toldBy, seen}
 use Rattle.words.specs.Words.{firstAsked, lastAsked, wordsOf, ledgerIn, withTop, bookIn}
 use Rattle.words.specs.Calls.{keptBy, callTold, wordsAfter}
 use Rattle.words.proofs.Back.{words-back, book-back}
 use Rattle.words.proofs.Rows.{call-words, far-words}
-use Rattle.host_ledger.specs.Words.{openWords, ledgerTold}
-use Rattle.host_ledger.specs.Called.{counted, Called, HostRan, opening, one-more, askedNumbers, bookNumbers, historyNumbers}
+use Rattle.host_ledger.specs.Words.{openWords, ledgerTold, settledRow, replyTold}
+use Rattle.host_ledger.specs.Called.{counted, setsIn, settledBy, Called, HostRan, opening, one-more, askedNumbers, bookNumbers, historyNumbers}
 use Rattle.host_ledger.proofs.Kept.{call-kept}
 use Rattle.host_ledger.proofs.rk_ledger_open.Reads as opens
 use Rattle.host_ledger.proofs.rk_ledger_open.Kinds as opens-kinds
@@ -138,6 +146,41 @@ module _ (w : List ℕ) (call : Call) where
       (two (eqb (numberTo b call) 0)) in
       called g (p .1)
 
+-- ======== A reply's sets, read from the words that it tells
+
+set-back : (s m : ℕ) → m < 2 ^ 256 → rotated s (bitsIn (mapOf (laid s m))) ≡ m
+set-back s m h = ap (rotated s) (laid-of s m h) ∙ rotated-laid s m h
+
+module _ (w : List ℕ) (channel first status : ℕ) where
+  abbrev asks : Call
+  asks = Reply channel first status
+
+  abbrev wide : ℕ
+  wide = reach (bookIn w) status
+
+  given-small : StateRules (bookIn w) → gaveUp (bookIn w) wide < 2 ^ 256
+  unfolding gaveUp
+  given-small r = lt-of-lt-of-le (ones-sub-lt wide (bookIn w .bits % 2 ^ wide)) (pow-mono (reach-near (bookIn w) status r .1))
+
+  passed-small : StateRules (bookIn w) → handed (bookIn w) wide < 2 ^ 256
+  unfolding handed
+  passed-small r = lt-of-le-of-lt (mod-le (bookIn w .bits) (2 ^ leaps (bookIn w) wide)) (r .places)
+
+  sets-back : numberTo (bookIn w) asks ≡ 0 → setsIn (settledRow (valuesOf (bookIn w) asks)) ≡ valuesOf (bookIn w) asks
+  unfolding settledRow valuesOf
+  sets-back e =
+      let r = checked-facts (bookIn w) asks e (λ q. omega arith) (λ q. omega arith) .rules in
+      ap₂ (λ (x y : ℕ). (bookIn w .floor + 1) ∷ x ∷ y ∷ []) (set-back (bookIn w .floor + 1) _ (given-small r)) (set-back (bookIn w .floor + 1) _ (passed-small r))
+
+  tells-sets : {was row : List ℕ} {n : ℕ} {w′ : List ℕ} → Tells (replyTold w asks) was n row × (w′ ≡ wordsAfter w asks) → Called w asks w′ (settledBy n row)
+  unfolding answerTo toldBy
+  tells-sets {was} {row} {n} {w′} p =
+      let g : settledBy n row ≡ callTold w asks =
+      ⊎-elim (λ (z : numberTo (bookIn w) asks ≡ 0). rw (p .0 .told, p .0 .answered, z) (ap (answer 0) (sets-back z)))
+      (λ (f : numberTo (bookIn w) asks ≡ 0 → ⊥). rw (p .0 .answered, ne-eqb _ 0 f))
+      (same (numberTo (bookIn w) asks) 0) in
+      called w asks g (p .1)
+
 -- ======== One call
 
 -- opening starts a row of calls
@@ -165,10 +208,9 @@ pub request-is-call : (κs : Lfts 2) (a : Dens κs request-kinds.ps) (x : resT r
     → Called (now (a .0)) (Request (a .1 .0)) (now (s .0)) (seen x (now (s .1 .1 .0)))
 request-is-call κs a x s p = tells-row _ (Request (a .1 .0)) refl p
 
-pub reply-is-call : (κs : Lfts 1) (a : Dens κs reply-kinds.ps) (x : resT reply-kinds.r κs .Denot) (s : AtExit (endedOf 1 reply-kinds.ps reply-kinds.r) κs) → reply.Post κs a x s
-    → Called (now (a .0)) (Reply (a .1 .0) (a .1 .1 .0) (a .1 .1 .1 .0)) (now (s .0)) (answer x [])
-unfolding valuesOf
-reply-is-call κs a x s p = silent _ (Reply (a .1 .0) (a .1 .1 .0) (a .1 .1 .1 .0)) refl refl p
+pub reply-is-call : (κs : Lfts 2) (a : Dens κs reply-kinds.ps) (x : resT reply-kinds.r κs .Denot) (s : AtExit (endedOf 2 reply-kinds.ps reply-kinds.r) κs) → reply.Post κs a x s
+    → Called (now (a .0)) (Reply (a .1 .0) (a .1 .1 .0) (a .1 .1 .1 .0)) (now (s .0)) (settledBy x (now (s .1 .1 .1 .1 .0)))
+reply-is-call κs a x s p = tells-sets (now (a .0)) (a .1 .0) (a .1 .1 .0) (a .1 .1 .1 .0) p
 
 -- ======== What a ledger has to tell
 
@@ -282,6 +324,33 @@ module _ (channel : ℕ) (small : channel ≤ 9999) where
     -- whatever a further call is answered is what the calls before it tell
     pub host-answers : (call : Call) (w′ : List ℕ) (a : Paper) → Called w call w′ a → a ≡ answerTo (after channel calls) call
     host-answers call w′ a c = c .answer-is ∙ ap (λ (x : Book). answerTo x call) host-book
+
+    -- demand 3 of what the caller sees of one more call, told from the calls and answers before it
+    pub host-tick : (n : ℕ) (w′ : List ℕ) (a : Paper) → Called w (Tick channel n) w′ a → TickAnswers h n a
+    host-tick n w′ a c = told-tick channel small calls (host-ran-is-trace r .1) n (host-answers _ w′ a c)
+
+    pub host-announce : (n : ℕ) (w′ : List ℕ) (a : Paper) → Called w (Announce channel n) w′ a → AnnounceAnswers n a
+    host-announce n w′ a c = told-announce channel small calls (host-ran-is-trace r .1) n (host-answers _ w′ a c)
+
+    pub host-request : (w′ : List ℕ) (a : Paper) → Called w (Request channel) w′ a → Requests h a
+    host-request w′ a c = told-request channel small calls (host-ran-is-trace r .1) (host-answers _ w′ a c)
+
+    pub host-reply : (first status : ℕ) (w′ : List ℕ) (a : Paper) → Called w (Reply channel first status) w′ a → ReplyAnswers h first status a
+    host-reply first status w′ a c = told-reply channel small calls (host-ran-is-trace r .1) first status (host-answers _ w′ a c)
+
+    -- and request 7's sentences
+    pub host-gives-up : (first : ℕ) (w′ : List ℕ) (a : Paper) → Called w (Reply channel first 4) w′ a → answered a 0 ≡ true
+        → (n : ℕ) → (givesUp (Reply channel first 4) a n ≡ true) ↔ InRange h n
+    host-gives-up first w′ a c e n = told-gives-up channel small calls (host-ran-is-trace r .1) first (host-answers _ w′ a c) e n
+
+    pub host-names-apart : (first status : ℕ) (w′ : List ℕ) (a : Paper) → Called w (Reply channel first status) w′ a → answered a 0 ≡ true
+        → NamesApart h (h ▸ Reply channel first status ⇒ a) (Reply channel first status) a
+    host-names-apart first status w′ a c e = told-names-apart channel small calls (host-ran-is-trace r .1) first status (host-answers _ w′ a c) e
+
+    pub host-late : (n : ℕ) (w′ : List ℕ) (a : Paper) → Called w (Tick channel n) w′ a → givenUp h n ≡ true → (a ≡ refusal 11) × (w′ ≡ w)
+    host-late n w′ a c g =
+        let e = told-late channel small calls (host-ran-is-trace r .1) n (host-answers _ w′ a c) g in
+        (e, c .kept (λ (z : a .number ≡ 0). omega (arith, z, one-number e)) (λ (z : a .number ≡ 12). omega (arith, z, one-number e)))
 
     -- the seven numbers that rk_ledger_told then tells are those that the calls and answers tell, each counted from them alone
     pub host-told : (κs : Lfts 2) (a : Dens κs told-kinds.ps) (x : resT told-kinds.r κs .Denot) (s : AtExit (endedOf 2 told-kinds.ps told-kinds.r) κs) → told.Post κs a x s

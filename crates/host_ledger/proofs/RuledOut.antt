@@ -1,6 +1,6 @@
 -- For each function that a host may call on a ledger: wrong answers that its promise rules out, as tables of what is given and what is then wrong.
 -- A ledger is nine words: channel, floor, top, the map's four, and the pending range. Assumes nothing.
-use Prim.Native.Nat.{ℕ, _^_}
+use Prim.Native.Nat.{ℕ, _+_, _^_}
 use mathlib.Core.Path.{_≡_, refl, ap₂}
 use mathlib.Core.List.{List, [], _∷_}
 use denote.Ref.{now}
@@ -10,12 +10,12 @@ use Rattle.terms.specs.RuledOut.{Row, _never_, _only_, Kept, RulesOut, ruled, n
 use Rattle.map.specs.Bits.{valueOf, mapOf, run}
 use Rattle.map.specs.Ring.{rotated}
 use Rattle.book.specs.State.{has, rangeRules, mapRules, soundOf}
-use Rattle.book.specs.Calls.{Call, Tick, Announce, Request, Reply, openNumber, ownNumber, checkedOf, numberTo, passes, taken, raised, waiting, asked, done, missingCount, heldCount, valuesOf, answerTo, fresh, openOf}
+use Rattle.book.specs.Calls.{Call, Tick, Announce, Request, Reply, openNumber, ownNumber, checkedOf, numberTo, passes, taken, reach, leaps, gaveUp, handed, replied, raised, waiting, asked, done, missingCount, heldCount, valuesOf, answerTo, fresh, openOf}
 use Rattle.ledger.specs.State.{bookOf, ledgerOf, nextBy}
 use Rattle.words.specs.Words.{wordsOf, pendingIn, ledgerIn}
 use Rattle.words.specs.Calls.{keptBy, callTold, wordsAfter}
 use Rattle.words.specs.Told.{toldBy, Tells}
-use Rattle.host_ledger.specs.Words.{openWords, ledgerTold}
+use Rattle.host_ledger.specs.Words.{openWords, ledgerTold, settledRow, replyTold}
 use Rattle.host_ledger.proofs.rk_ledger_open.Reads as rk-open
 use Rattle.host_ledger.proofs.rk_ledger_open.Kinds as rk-open-kinds
 use Rattle.host_ledger.proofs.rk_ledger_tick.Reads as rk-tick
@@ -58,7 +58,7 @@ rk-ledger-open-wrong =
     ∷ []
 
 pub rk-ledger-open-rules-out : RulesOut (Kept _ rk-open-kinds.ps rk-open-kinds.r rk-open.Post) (λ c. (c .args .0, now (c .args .1 .0))) (λ c. shown (c .result) [] (now (c .exit .1 .0))) rk-ledger-open-wrong
-unfolding bookOf ledgerOf nextBy rotated mapOf valueOf numberTo ownNumber checkedOf soundOf mapRules rangeRules has passes taken raised waiting asked done missingCount heldCount valuesOf answerTo fresh openOf run trailingZeros ones wordsOf pendingIn ledgerIn keptBy wordsAfter toldBy openWords ledgerTold
+unfolding bookOf ledgerOf nextBy rotated mapOf valueOf numberTo ownNumber checkedOf soundOf mapRules rangeRules has passes taken reach leaps gaveUp handed replied raised waiting asked done missingCount heldCount valuesOf answerTo fresh openOf run trailingZeros ones wordsOf pendingIn ledgerIn keptBy wordsAfter toldBy openWords ledgerTold settledRow
 rk-ledger-open-rules-out = ruled (beside numbers (beside lists lists)) (λ (i : ℕ × List ℕ). shown (openNumber (i .0)) [] (openWords (i .0) (i .1))) (λ c p. plain p) _ refl
 
 -- CALLS: the words, a call, and the told row before
@@ -76,7 +76,7 @@ rk-ledger-tick-wrong =
     ∷ []
 
 pub rk-ledger-tick-rules-out : RulesOut (Kept _ rk-tick-kinds.ps rk-tick-kinds.r rk-tick.Post) (λ c. (now (c .args .0), (Tick (c .args .1 .0) (c .args .1 .1 .0), now (c .args .1 .1 .1 .0)))) (λ c. shown (c .result) (now (c .exit .1 .1 .1 .0)) (now (c .exit .0))) rk-ledger-tick-wrong
-unfolding bookOf ledgerOf nextBy rotated mapOf valueOf numberTo ownNumber checkedOf soundOf mapRules rangeRules has passes taken raised waiting asked done missingCount heldCount valuesOf answerTo fresh openOf run trailingZeros ones wordsOf pendingIn ledgerIn keptBy wordsAfter toldBy openWords ledgerTold
+unfolding bookOf ledgerOf nextBy rotated mapOf valueOf numberTo ownNumber checkedOf soundOf mapRules rangeRules has passes taken reach leaps gaveUp handed replied raised waiting asked done missingCount heldCount valuesOf answerTo fresh openOf run trailingZeros ones wordsOf pendingIn ledgerIn keptBy wordsAfter toldBy openWords ledgerTold settledRow
 rk-ledger-tick-rules-out = ruled (beside numbers (beside lists lists)) (λ (i : Input). tells (callTold (i .0) (i .1 .0)) (i .1 .1) (wordsAfter (i .0) (i .1 .0))) (λ c p. said p) _ refl
 
 abbrev pub rk-ledger-request-wrong : List (Row Input Outcome)
@@ -87,10 +87,10 @@ rk-ledger-request-wrong =
     ∷ []
 
 pub rk-ledger-request-rules-out : RulesOut (Kept _ rk-request-kinds.ps rk-request-kinds.r rk-request.Post) (λ c. (now (c .args .0), (Request (c .args .1 .0), now (c .args .1 .1 .0)))) (λ c. shown (c .result) (now (c .exit .1 .1 .0)) (now (c .exit .0))) rk-ledger-request-wrong
-unfolding bookOf ledgerOf nextBy rotated mapOf valueOf numberTo ownNumber checkedOf soundOf mapRules rangeRules has passes taken raised waiting asked done missingCount heldCount valuesOf answerTo fresh openOf run trailingZeros ones wordsOf pendingIn ledgerIn keptBy wordsAfter toldBy openWords ledgerTold
+unfolding bookOf ledgerOf nextBy rotated mapOf valueOf numberTo ownNumber checkedOf soundOf mapRules rangeRules has passes taken reach leaps gaveUp handed replied raised waiting asked done missingCount heldCount valuesOf answerTo fresh openOf run trailingZeros ones wordsOf pendingIn ledgerIn keptBy wordsAfter toldBy openWords ledgerTold settledRow
 rk-ledger-request-rules-out = ruled (beside numbers (beside lists lists)) (λ (i : Input). tells (callTold (i .0) (i .1 .0)) (i .1 .1) (wordsAfter (i .0) (i .1 .0))) (λ c p. said p) _ refl
 
--- two that tell nothing
+-- one that tells nothing
 abbrev pub rk-ledger-announce-wrong : List (Row (List ℕ × Call) Outcome)
 rk-ledger-announce-wrong =
     (words 0 9 0 0 0, Announce 100 3) never shown 0 [] (words 0 3 0 0 0)  -- the top lowered
@@ -98,19 +98,31 @@ rk-ledger-announce-wrong =
     ∷ []
 
 pub rk-ledger-announce-rules-out : RulesOut (Kept _ rk-announce-kinds.ps rk-announce-kinds.r rk-announce.Post) (λ c. (now (c .args .0), Announce (c .args .1 .0) (c .args .1 .1 .0))) (λ c. shown (c .result) [] (now (c .exit .0))) rk-ledger-announce-wrong
-unfolding bookOf ledgerOf nextBy rotated mapOf valueOf numberTo ownNumber checkedOf soundOf mapRules rangeRules has passes taken raised waiting asked done missingCount heldCount valuesOf answerTo fresh openOf run trailingZeros ones wordsOf pendingIn ledgerIn keptBy wordsAfter toldBy openWords ledgerTold
+unfolding bookOf ledgerOf nextBy rotated mapOf valueOf numberTo ownNumber checkedOf soundOf mapRules rangeRules has passes taken reach leaps gaveUp handed replied raised waiting asked done missingCount heldCount valuesOf answerTo fresh openOf run trailingZeros ones wordsOf pendingIn ledgerIn keptBy wordsAfter toldBy openWords ledgerTold settledRow
 rk-ledger-announce-rules-out = ruled (beside numbers (beside lists lists)) (λ (i : List ℕ × Call). shown (callTold (i .0) (i .1) .number) [] (wordsAfter (i .0) (i .1))) (λ c p. plain p) _ refl
 
-abbrev pub rk-ledger-reply-wrong : List (Row (List ℕ × Call) Outcome)
+-- A REPLY tells nine words: the number that both sets count from, then a map of the given-up numbers and one of those passed, number n at place n % 256
+abbrev sets : ℕ → ℕ → ℕ → List ℕ
+sets first givenUp passed = first ∷ givenUp ∷ 0 ∷ 0 ∷ 0 ∷ passed ∷ 0 ∷ 0 ∷ 0 ∷ []
+
+-- 1 to 6 asked for, 1 and 2 passed, 4, 7 and 10 held
+abbrev waits : ℕ → ℕ → List ℕ
+waits first last = words 2 12 (2 ^ 4 + 2 ^ 7 + 2 ^ 10) first last
+
+abbrev pub rk-ledger-reply-wrong : List (Row Input Outcome)
 rk-ledger-reply-wrong =
-    (words 0 3 0 1 3, Reply 100 1 1) never shown 0 [] (words 3 3 0 0 0)  -- numbers received because a reply says so
-    ∷ (words 0 3 0 1 3, Reply 100 1 1) only shown 0 [] (words 0 3 0 0 0)
-    ∷ (words 0 3 0 1 3, Reply 100 2 1) only shown 16 [] (words 0 3 0 1 3)
+    (words 0 3 0 1 3, (Reply 100 1 1, sets 9 9 9)) never shown 0 (sets 1 0 0) (words 3 3 0 0 0)  -- numbers received because a reply says so
+    ∷ (words 0 3 0 1 3, (Reply 100 1 1, sets 9 9 9)) only shown 0 (sets 1 0 0) (words 0 3 0 0 0)
+    ∷ (waits 1 6, (Reply 100 1 4, sets 9 9 9)) never shown 0 (sets 3 0 0) (waits 0 0)  -- status 4 only clears
+    ∷ (waits 1 6, (Reply 100 1 4, sets 9 9 9)) never shown 0 (sets 3 (2 ^ 4 + 2 ^ 7) (2 ^ 3 + 2 ^ 5 + 2 ^ 6)) (words 7 12 (2 ^ 10) 0 0)  -- the sets swapped
+    ∷ (waits 1 6, (Reply 100 1 4, sets 9 9 9)) only shown 0 (sets 3 (2 ^ 3 + 2 ^ 5 + 2 ^ 6) (2 ^ 4 + 2 ^ 7)) (words 7 12 (2 ^ 10) 0 0)
+    ∷ (waits 1 6, (Reply 100 2 4, sets 9 9 9)) never shown 16 (sets 0 0 0) (waits 1 6)  -- sets written beside 16
+    ∷ (waits 1 6, (Reply 100 2 4, sets 9 9 9)) only shown 16 (sets 9 9 9) (waits 1 6)
     ∷ []
 
-pub rk-ledger-reply-rules-out : RulesOut (Kept _ rk-reply-kinds.ps rk-reply-kinds.r rk-reply.Post) (λ c. (now (c .args .0), Reply (c .args .1 .0) (c .args .1 .1 .0) (c .args .1 .1 .1 .0))) (λ c. shown (c .result) [] (now (c .exit .0))) rk-ledger-reply-wrong
-unfolding bookOf ledgerOf nextBy rotated mapOf valueOf numberTo ownNumber checkedOf soundOf mapRules rangeRules has passes taken raised waiting asked done missingCount heldCount valuesOf answerTo fresh openOf run trailingZeros ones wordsOf pendingIn ledgerIn keptBy wordsAfter toldBy openWords ledgerTold
-rk-ledger-reply-rules-out = ruled (beside numbers (beside lists lists)) (λ (i : List ℕ × Call). shown (callTold (i .0) (i .1) .number) [] (wordsAfter (i .0) (i .1))) (λ c p. plain p) _ refl
+pub rk-ledger-reply-rules-out : RulesOut (Kept _ rk-reply-kinds.ps rk-reply-kinds.r rk-reply.Post) (λ c. (now (c .args .0), (Reply (c .args .1 .0) (c .args .1 .1 .0) (c .args .1 .1 .1 .0), now (c .args .1 .1 .1 .1 .0)))) (λ c. shown (c .result) (now (c .exit .1 .1 .1 .1 .0)) (now (c .exit .0))) rk-ledger-reply-wrong
+unfolding bookOf ledgerOf nextBy rotated mapOf valueOf numberTo ownNumber checkedOf soundOf mapRules rangeRules has passes taken reach leaps gaveUp handed replied raised waiting asked done missingCount heldCount valuesOf answerTo fresh openOf run trailingZeros ones wordsOf pendingIn ledgerIn keptBy wordsAfter toldBy openWords ledgerTold settledRow
+rk-ledger-reply-rules-out = ruled (beside numbers (beside lists lists)) (λ (i : Input). tells (replyTold (i .0) (i .1 .0)) (i .1 .1) (wordsAfter (i .0) (i .1 .0))) (λ c p. said p) _ refl
 
 -- TOLD: the words, and the told row before
 abbrev pub rk-ledger-told-wrong : List (Row (List ℕ × List ℕ) (ℕ × List ℕ))
@@ -121,5 +133,5 @@ rk-ledger-told-wrong =
     ∷ []
 
 pub rk-ledger-told-rules-out : RulesOut (Kept _ rk-told-kinds.ps rk-told-kinds.r rk-told.Post) (λ c. (now (c .args .0), now (c .args .1 .0))) (λ c. (c .result, now (c .exit .1 .0))) rk-ledger-told-wrong
-unfolding bookOf ledgerOf nextBy rotated mapOf valueOf numberTo ownNumber checkedOf soundOf mapRules rangeRules has passes taken raised waiting asked done missingCount heldCount valuesOf answerTo fresh openOf run trailingZeros ones wordsOf pendingIn ledgerIn keptBy wordsAfter toldBy openWords ledgerTold
+unfolding bookOf ledgerOf nextBy rotated mapOf valueOf numberTo ownNumber checkedOf soundOf mapRules rangeRules has passes taken reach leaps gaveUp handed replied raised waiting asked done missingCount heldCount valuesOf answerTo fresh openOf run trailingZeros ones wordsOf pendingIn ledgerIn keptBy wordsAfter toldBy openWords ledgerTold settledRow
 rk-ledger-told-rules-out = ruled (beside numbers lists) (λ (i : List ℕ × List ℕ). (ledgerTold (i .0) .number, toldBy (ledgerTold (i .0)) (i .1))) (λ c p. ap₂ (λ (n : ℕ) (r : List ℕ). (n, r)) (p .answered) (p .told)) _ refl

@@ -4,18 +4,31 @@ use Prim.Native.Nat.{ℕ}
 use mathlib.Core.Path.{_≡_}
 use mathlib.Core.List.{List, [], _∷_}
 use lib.Dec.{eqb}
-use lib.ListN.{length}
+use lib.ListN.{getD}
 use Rattle.terms.specs.Paper.{Paper, answer, pick}
+use Rattle.map.specs.Bits.{valueOf}
+use Rattle.map.specs.Ring.{rotated}
 use Rattle.book.specs.State.{Asked, nothing, range, Book, StateRules}
 use Rattle.book.specs.Calls.{Call, numberTo, answerTo, nextOf, fresh, missingCount, heldCount}
 use Rattle.book.specs.Trace.{Calls, none, _▸_, History, start, _▸_⇒_}
-use Rattle.book.specs.Words.{handedOut, knownTop, pending, held, missing, count}
+use Rattle.book.specs.Words.{knownTop, pending, held, missing, count, floorOf}
 use Rattle.ledger.specs.State.{ledgerOf}
 use Rattle.words.specs.Words.{wordsOf, bookIn}
 
 -- WHAT THE CALLER SEES of a count, which is one number of a told row: 0 beside a refusal
 abbrev pub counted : ℕ → ℕ → Paper
 counted number count = answer number (pick (eqb number 0) count 0 ∷ [])
+
+-- and of a reply's two sets, told as nine words: each is read round from the place of the number that both count from. 0 and two empty sets beside a refusal
+abbrev pub setsIn : List ℕ → List ℕ
+setsIn row =
+    getD row 0 0
+    ∷ rotated (getD row 0 0) (valueOf (getD row 1 0) (getD row 2 0) (getD row 3 0) (getD row 4 0))
+    ∷ rotated (getD row 0 0) (valueOf (getD row 5 0) (getD row 6 0) (getD row 7 0) (getD row 8 0))
+    ∷ []
+
+abbrev pub settledBy : ℕ → List ℕ → Paper
+settledBy number row = answer number (pick (eqb number 0) (setsIn row) (0 ∷ 0 ∷ 0 ∷ []))
 
 -- A CALL on the words w, which leaves w′ and of which the caller sees a: it is the book's own call on the book that w stands for
 pub record Called (w : List ℕ) (call : Call) (w′ : List ℕ) (a : Paper) : Type 0 where
@@ -44,4 +57,4 @@ bookNumbers b = b .channel ∷ b .floor ∷ b .top ∷ missingCount b ∷ heldCo
 
 -- the same from the calls and their answers alone
 abbrev pub historyNumbers : ℕ → History → List ℕ
-historyNumbers channel h = channel ∷ length (handedOut h) ∷ knownTop h ∷ count (missing h) (knownTop h) ∷ count (held h) (knownTop h) ∷ askedNumbers (pending h)
+historyNumbers channel h = channel ∷ floorOf h ∷ knownTop h ∷ count (missing h) (knownTop h) ∷ count (held h) (knownTop h) ∷ askedNumbers (pending h)

@@ -2,15 +2,16 @@
 // nothing; only 12 changes a ledger, and only its top.
 ghost use mathlib.Core.Path.{_≡_};
 ghost use Rattle.book.specs.Calls.{Tick, Announce, Request, Reply, openNumber};
-ghost use Rattle.ledger.specs.Papers.{paperOf, replyPaper};
+ghost use Rattle.ledger.specs.Papers.{paperOf};
 ghost use Rattle.words.specs.Told.{Tells};
 ghost use Rattle.words.specs.Calls.{keptBy, callTold, wordsAfter};
-ghost use Rattle.host_ledger.specs.Words.{openWords, ledgerTold};
+ghost use Rattle.host_ledger.specs.Words.{openWords, ledgerTold, rowOf, replyTold};
 use ledger::Answer;
 use ledger::Ledger;
 use ledger::ReplyAnswer;
 use ledger::RequestAnswer;
 use ledger::TickAnswer;
+use map::Map;
 use terms::ChannelNumber;
 use terms::TickNumber;
 
@@ -115,19 +116,36 @@ pub extern "C" fn rk_ledger_request(state: &mut [u64; 9], channel: u16, told: &m
     }
 }
 
-fn reply_number(a: ReplyAnswer) -> u32
-    ensures { λ r. ⌜ r ≡ replyPaper a .number ⌝ }
+// A reply's two sets as nine words.
+fn settled_row(first: TickNumber, given_up: Map, passed: Map) -> [u64; 9]
+    ensures { λ r. ⌜ r ≡ rowOf (first .0) «given_up» passed ⌝ }
 {
-    match a {
-        ReplyAnswer::Cleared => 0,
-        ReplyAnswer::Refused(why) => why.number(),
-    }
+    let g = given_up.words;
+    let p = passed.words;
+    [
+        first.value(),
+        g[0],
+        g[1],
+        g[2],
+        g[3],
+        p[0],
+        p[1],
+        p[2],
+        p[3],
+    ]
 }
 
-// The exchange's reply to the pending request, which is cleared.
+// The exchange's reply to the pending request, which is cleared. Told: the floor + 1 as it was, the numbers given up, and the received ones that the
+// floor has newly passed, for delivery; both sets are empty but on status 4.
 #[no_mangle]
-pub extern "C" fn rk_ledger_reply(state: &mut [u64; 9], channel: u16, first: u64, status: u8) -> u32
-    ensures { λ r. ⌜ (r ≡ callTold (now (state .entry)) (Reply channel first status) .number)
+pub extern "C" fn rk_ledger_reply(
+    state: &mut [u64; 9],
+    channel: u16,
+    first: u64,
+    status: u8,
+    told: &mut [u64; 9],
+) -> u32
+    ensures { λ r. ⌜ Tells (replyTold (now (state .entry)) (Reply channel first status)) (now (told .entry)) r (now (told .exit))
         × (now (state .exit) ≡ wordsAfter (now (state .entry)) (Reply channel first status)) ⌝ }
 {
     let replied = words::ledger_in(state).reply(
@@ -135,11 +153,23 @@ pub extern "C" fn rk_ledger_reply(state: &mut [u64; 9], channel: u16, first: u64
         TickNumber::new(first),
         status,
     );
-    let cleared = replied.next;
-    let given = replied.answer;
-    let answer = reply_number(given);
-    keep(state, answer, cleared);
-    answer
+    let next = replied.next;
+    let from = replied.first;
+    let given_up = replied.given_up;
+    let passed = replied.passed;
+    let answer = replied.answer;
+    match answer {
+        ReplyAnswer::Refused(why) => {
+            let n = why.number();
+            keep(state, n, next);
+            n
+        }
+        ReplyAnswer::Cleared => {
+            keep(state, 0, next);
+            *told = settled_row(from, given_up, passed);
+            0
+        }
+    }
 }
 
 // What a ledger has to tell. Told: channel, floor, top, how many numbers are missing and how many are held, and the pending

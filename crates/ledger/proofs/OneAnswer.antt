@@ -4,6 +4,8 @@ use Prim.Native.Nat.{ℕ}
 use Rattle.terms.specs.OneAnswer.{OneAnswer}
 use Rattle.terms.specs.Paper.{Paper}
 use Rattle.ledger.specs.Papers.{paperOf, countPaper, tick-paper-one, request-paper-one, reply-paper-one, paper-one, count-paper-one, pending-paper-one}
+use Rattle.terms.specs.declared.TickNumber.{TickNumber}
+use Rattle.map.specs.declared.Map.{Map}
 use Rattle.ledger.specs.declared.Ledger.{Ledger}
 use Rattle.ledger.specs.declared.Noted.{Noted}
 use Rattle.ledger.specs.declared.Counted.{Counted}
@@ -60,7 +62,10 @@ Ledger-request-one-answer κs a x y s t p q =
 
 pub Ledger-reply-one-answer : OneAnswer _ reply-kinds.ps reply-kinds.r reply.Post
 Ledger-reply-one-answer κs a x y s t p q =
-    ap₂ (λ (n : Ledger) (a : ReplyAnswer). record { next = n; answer = a }) (p .1 ∙ sym (q .1)) (reply-paper-one (x .answer) (y .answer) (p .0 ∙ sym (q .0)))
+    let e = reply-paper-one (x .answer) (y .answer) (x .first) (y .first) (x .«given_up») (y .«given_up») (x .passed) (y .passed) (p .0 ∙ sym (q .0)) (p .2) (q .2) (p .3) (q .3) in
+    ap₂ (λ (n : Ledger) (b : ReplyAnswer). record { next = n; answer = b; first = x .first; «given_up» = x .«given_up»; passed = x .passed }) (p .1 ∙ sym (q .1)) (e .answer-same)
+    ∙ ap₂ (λ (f : TickNumber) (m : Map). record { next = y .next; answer = y .answer; first = f; «given_up» = m; passed = x .passed }) (e .first-same) (e .given-same)
+    ∙ ap (λ (m : Map). record { next = y .next; answer = y .answer; first = y .first; «given_up» = y .«given_up»; passed = m }) (e .passed-same)
 
 pub Ledger-missing-one-answer : OneAnswer _ missing-kinds.ps missing-kinds.r missing.Post
 Ledger-missing-one-answer κs a x y s t p q = counted-one x y p q

@@ -49,7 +49,7 @@ pub request-is-step : (κs : Lfts 0) (a : Dens κs request-kinds.ps) (x : resT r
 request-is-step κs a x s p = record { paper-is = p .0; next-is = p .1 }
 
 pub reply-is-step : (κs : Lfts 0) (a : Dens κs reply-kinds.ps) (x : resT reply-kinds.r κs .Denot) (s : AtExit (endedOf 0 reply-kinds.ps reply-kinds.r) κs)
-    → reply.Post κs a x s → Promise (a .0) (Reply (a .1 .0 .0) (a .1 .1 .0 .0) (a .1 .1 .1 .0)) (x .next) (replyPaper (x .answer))
+    → reply.Post κs a x s → Promise (a .0) (Reply (a .1 .0 .0) (a .1 .1 .0 .0) (a .1 .1 .1 .0)) (x .next) (replyPaper (x .answer) (x .first) (x .«given_up») (x .passed))
 reply-is-step κs a x s p = record { paper-is = p .0; next-is = p .1 }
 
 pub missing-is-step : (κs : Lfts 0) (a : Dens κs missing-kinds.ps) (x : resT missing-kinds.r κs .Denot) (s : AtExit (endedOf 0 missing-kinds.ps missing-kinds.r) κs)

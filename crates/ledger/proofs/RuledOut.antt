@@ -1,5 +1,5 @@
 -- For each call of a ledger: wrong answers that its promise rules out, as tables of what is given and what is then wrong. Assumes nothing.
-use Prim.Native.Nat.{ℕ, _+_, _^_}
+use Prim.Native.Nat.{ℕ, _+_, _-_, _^_}
 use mathlib.Core.Path.{_≡_, refl, ap, ap₂, _∙_}
 use mathlib.Core.List.{List, [], _∷_}
 use lib.Count.{ones, trailingZeros}
@@ -9,7 +9,7 @@ use Rattle.terms.specs.Counters.{tickOf, channelOf}
 use Rattle.map.specs.Bits.{valueOf, bitsIn, mapOf, run}
 use Rattle.map.specs.Ring.{rotated}
 use Rattle.book.specs.State.{Asked, nothing, range, has, rangeRules, mapRules, soundOf}
-use Rattle.book.specs.Calls.{Call, Tick, Announce, Request, Reply, Missing, Held, ownNumber, checkedOf, numberTo, passes, taken, raised, waiting, asked, done, missingCount, heldCount, valuesOf, answerTo, fresh, openNumber, openOf}
+use Rattle.book.specs.Calls.{Call, Tick, Announce, Request, Reply, Missing, Held, ownNumber, checkedOf, numberTo, passes, taken, reach, leaps, gaveUp, handed, replied, raised, waiting, asked, done, missingCount, heldCount, valuesOf, answerTo, fresh, openNumber, openOf}
 use Rattle.ledger.specs.State.{bookOf, pendingOf, ledgerOf, nextBy, nextIn}
 use Rattle.ledger.specs.Papers.{tickPaper, requestPaper, replyPaper, paperOf, countPaper, pendingPaper, askedPaper}
 use Rattle.ledger.specs.declared.Ledger.{Ledger}
@@ -84,6 +84,9 @@ Ledger-tick-wrong =
     ∷ (ledger 0 3 (2 ^ 9) nothing, Tick 100 2) only (refusal 13, seen (ledger 0 3 (2 ^ 9) nothing))  -- a number above the top is not held
     ∷ (ledger 0 3 (2 ^ 1) nothing, Tick 100 2) only (refusal 13, seen (ledger 0 3 (2 ^ 1) nothing))  -- nor is floor + 1; and a refusal gives back the ledger as it is
     ∷ (ledger 5 9 (2 ^ 7) nothing, Tick 100 7) only (refusal 11, seen (ledger 5 9 (2 ^ 7) nothing))
+    ∷ (ledger 7 12 0 nothing, Tick 100 5) never (answer 0 (8 ∷ 0 ∷ []), seen (ledger 7 12 (2 ^ 5) nothing))  -- a given-up number, below the floor, taken late
+    ∷ (ledger 7 12 0 nothing, Tick 100 5) never (refusal 12, seen (ledger 7 12 0 nothing))  -- or answered 12
+    ∷ (ledger 7 12 0 nothing, Tick 100 5) only (refusal 11, seen (ledger 7 12 0 nothing))
     ∷ []
 
 pub Ledger-tick-rules-out : RulesOut (Kept _ tick-kinds.ps tick-kinds.r tick.Post) (λ c. (c .args .0, Tick (c .args .1 .0 .0) (c .args .1 .1 .0 .0))) (λ c. shown (tickPaper (c .result .answer)) (c .result .next)) Ledger-tick-wrong
@@ -115,17 +118,37 @@ pub Ledger-request-rules-out : RulesOut (Kept _ request-kinds.ps request-kinds.r
 unfolding bookOf ledgerOf nextBy rotated mapOf valueOf numberTo ownNumber checkedOf soundOf mapRules rangeRules waiting asked done valuesOf answerTo trailingZeros
 Ledger-request-rules-out = ruled (beside papers lists) answered (λ c p. both p) _ refl
 
+-- A REPLY names two sets, each as one number whose digit i stands for the first value + i.
+-- 1 to 6 was asked for and 1 and 2 came; 4, 7 and 10 are held: 3, 5 and 6 are to be given up, 4 and 7 passed, and 10 stays held.
+abbrev waits : Asked → Ledger
+waits pending = ledger 2 12 (2 ^ 4 + 2 ^ 7 + 2 ^ 10) pending
+
 abbrev pub Ledger-reply-wrong : List (Row Input Outcome)
 Ledger-reply-wrong =
-    (ledger 0 3 0 (range 1 3), Reply 100 1 1) never (answer 0 [], seen (ledger 3 3 0 nothing))  -- numbers received because a reply says so
-    ∷ (ledger 0 3 0 (range 1 3), Reply 100 1 1) only (answer 0 [], seen (ledger 0 3 0 nothing))
-    ∷ (ledger 0 3 0 (range 1 3), Reply 100 2 1) only (refusal 16, seen (ledger 0 3 0 (range 1 3)))  -- not cleared by a reply with another first number
-    ∷ (ledger 0 3 0 (range 1 3), Reply 100 1 6) only (refusal 17, seen (ledger 0 3 0 (range 1 3)))
+    (ledger 0 3 0 (range 1 3), Reply 100 1 1) never (answer 0 (1 ∷ 0 ∷ 0 ∷ []), seen (ledger 3 3 0 nothing))  -- numbers received because a reply says so
+    ∷ (ledger 0 3 0 (range 1 3), Reply 100 1 1) only (answer 0 (1 ∷ 0 ∷ 0 ∷ []), seen (ledger 0 3 0 nothing))
+    ∷ (waits (range 1 6), Reply 100 1 3) never (answer 0 (3 ∷ 13 ∷ 18 ∷ []), seen (ledger 7 12 (2 ^ 10) nothing))  -- status 3 gives up too
+    ∷ (waits (range 1 6), Reply 100 1 3) only (answer 0 (3 ∷ 0 ∷ 0 ∷ []), seen (waits nothing))
+    ∷ (waits (range 1 6), Reply 100 1 4) never (answer 0 (3 ∷ 0 ∷ 0 ∷ []), seen (waits nothing))  -- status 4 only clears
+    ∷ (waits (range 1 6), Reply 100 1 4) never (answer 0 (1 ∷ 55 ∷ 72 ∷ []), seen (ledger 7 12 (2 ^ 10) nothing))  -- given up from the range's first number on, received ones too
+    ∷ (waits (range 1 6), Reply 100 1 4) never (answer 0 (3 ∷ 13 ∷ 31 ∷ []), seen (ledger 7 12 (2 ^ 10) nothing))  -- given-up numbers named for delivery
+    ∷ (waits (range 1 6), Reply 100 1 4) never (answer 0 (3 ∷ 15 ∷ 18 ∷ []), seen (ledger 7 12 (2 ^ 10) nothing))  -- a received number, 4, given up
+    ∷ (waits (range 1 6), Reply 100 1 4) never (answer 0 (3 ∷ 13 ∷ 2 ∷ []), seen (ledger 6 12 (2 ^ 7 + 2 ^ 10) nothing))  -- the floor stops before the received run behind the range
+    ∷ (waits (range 1 6), Reply 100 1 4) never (answer 0 (3 ∷ 13 ∷ 16 ∷ []), seen (ledger 7 12 (2 ^ 10) nothing))  -- passed numbers named from the range on alone: 4 is lost
+    ∷ (waits (range 1 6), Reply 100 1 4) never (answer 0 (3 ∷ 13 ∷ 18 ∷ []), seen (ledger 7 12 (2 ^ 10) (range 1 6)))  -- the request stays pending
+    ∷ (waits (range 1 6), Reply 100 1 4) never (answer 0 (3 ∷ 13 ∷ 18 ∷ []), seen (ledger 7 13 (2 ^ 10) nothing))  -- the top raised
+    ∷ (waits (range 1 6), Reply 100 1 4) never (answer 0 (3 ∷ 13 ∷ 18 ∷ []), seen (ledger 7 12 0 nothing))  -- 10, held behind the new floor, is dropped
+    ∷ (waits (range 1 6), Reply 100 1 4) only (answer 0 (3 ∷ 13 ∷ 18 ∷ []), seen (ledger 7 12 (2 ^ 10) nothing))
+    ∷ (ledger 2 12 (2 ^ 4) (range 1 6), Reply 100 1 4) never (answer 0 (3 ∷ 29 ∷ 2 ∷ []), seen (ledger 7 12 0 nothing))  -- 7, one past the range, given up
+    ∷ (ledger 9 12 0 (range 1 6), Reply 100 1 4) only (answer 0 (10 ∷ 0 ∷ 0 ∷ []), seen (ledger 9 12 0 nothing))  -- the floor has passed the whole range: nothing to give up
+    ∷ (ledger 199 455 (2 ^ 256 - 1 - 2 ^ 200) (range 1 200), Reply 100 1 4) only (answer 0 (200 ∷ 1 ∷ (2 ^ 256 - 2) ∷ []), seen (ledger 455 455 0 nothing))  -- 455 is passed, 454 behind the range's first
+    ∷ (waits (range 1 6), Reply 100 2 4) only (answer 16 (0 ∷ 0 ∷ 0 ∷ []), seen (waits (range 1 6)))  -- not cleared by a reply with another first number, and no set stands beside 16
+    ∷ (waits (range 1 6), Reply 100 1 6) only (answer 17 (0 ∷ 0 ∷ 0 ∷ []), seen (waits (range 1 6)))
     ∷ []
 
-pub Ledger-reply-rules-out : RulesOut (Kept _ reply-kinds.ps reply-kinds.r reply.Post) (λ c. (c .args .0, Reply (c .args .1 .0 .0) (c .args .1 .1 .0 .0) (c .args .1 .1 .1 .0))) (λ c. shown (replyPaper (c .result .answer)) (c .result .next)) Ledger-reply-wrong
-unfolding bookOf ledgerOf nextBy rotated mapOf valueOf numberTo ownNumber checkedOf soundOf mapRules rangeRules waiting done valuesOf answerTo
-Ledger-reply-rules-out = ruled (beside papers lists) answered (λ c p. both p) _ refl
+pub Ledger-reply-rules-out : RulesOut (Kept _ reply-kinds.ps reply-kinds.r reply.Post) (λ c. (c .args .0, Reply (c .args .1 .0 .0) (c .args .1 .1 .0 .0) (c .args .1 .1 .1 .0))) (λ c. shown (replyPaper (c .result .answer) (c .result .first) (c .result .«given_up») (c .result .passed)) (c .result .next)) Ledger-reply-wrong
+unfolding bookOf ledgerOf nextBy rotated mapOf valueOf numberTo ownNumber checkedOf soundOf mapRules rangeRules reach leaps gaveUp handed replied run done valuesOf answerTo
+Ledger-reply-rules-out = ruled (beside papers lists) answered (λ c p. both (p .0, p .1)) _ refl
 
 abbrev pub Ledger-missing-wrong : List (Row Input Outcome)
 Ledger-missing-wrong =

@@ -22,11 +22,12 @@ use Rattle.map.proofs.Digits.{bit-lt, bit-shr, bit-above, bit-ext}
 use Rattle.map.proofs.Words.{list-lt, list-bit, value-of, map-of, map-words}
 use Rattle.map.proofs.Ring.{rotated-lt}
 use Rattle.book.specs.State.{Asked, Book, has}
-use Rattle.book.specs.Calls.{Call, Tick, Announce, Request, Reply, Missing, Held, offered, marked, passes, taken, raised, waiting, done, numberTo, answerTo, nextOf, fresh}
+use Rattle.book.specs.Calls.{Call, Tick, Announce, Request, Reply, Missing, Held, offered, marked, passes, taken, reach, covered, leaps, replied, raised, waiting, done, numberTo, answerTo, nextOf, fresh}
 use Rattle.book.specs.Trace.{Calls, none, _▸_, after, History, start, _▸_⇒_}
 use Rattle.book.specs.Words.{one, answered}
 use Rattle.book.proofs.Tests.{pick-cases, one-of}
-use Rattle.book.proofs.Numbers.{tick-done}
+use Rattle.book.proofs.Numbers.{tick-done, checked-facts}
+use Rattle.book.proofs.Steps.{reach-near, covered-lt, leaps-short}
 use Rattle.book.proofs.Agree.{agrees}
 use Rattle.ledger.specs.State.{askedOf, pendingOf, bookOf, ledgerOf, topped, nextBy}
 use Rattle.ledger.specs.Old.{oldBookOf, oldLedgerOf}
@@ -74,11 +75,14 @@ old-words b = map-words _
 
 -- a call keeps the map within its 256 places, on every state
 done-places : (b : Book) (call : Call) → b .bits < 2 ^ 256 → numberTo b call ≡ 0 → done b call .bits < 2 ^ 256
-unfolding done taken raised waiting
+unfolding done taken replied raised waiting
 done-places b (Tick channel n) h e = lt-of-le-of-lt (shr-le (marked b n) (passes b n)) (marked-lt b n h (tick-done b channel n e .near))
 done-places b (Announce channel n) h e = h
 done-places b (Request channel) h e = h
-done-places b (Reply channel first status) h e = h
+done-places b (Reply channel first status) h e =
+    let r = checked-facts b (Reply channel first status) e (λ q. omega arith) (λ q. omega arith) .rules in
+    let near = reach-near b status r in
+    lt-of-le-of-lt (shr-le (covered b (reach b status)) (leaps b (reach b status))) (covered-lt b r (reach b status) (near .0) (near .1))
 done-places b Missing h e = h
 done-places b Held h e = h
 
@@ -102,7 +106,7 @@ never-passed : (f n : ℕ) → f < n → n ≤ f → ⊥
 never-passed f n h l = omega arith
 
 freed : (b : Book) (call : Call) → b .bits < 2 ^ 256 → numberTo b call ≡ 0 → (n : ℕ) → b .floor < n → n ≤ done b call .floor → Freed (done b call) n
-unfolding done taken raised waiting passes has
+unfolding done taken replied raised waiting passes has
 freed b (Tick channel m) h e n lo hi =
     let k = passes b m in
     let le : k ≤ 256 = run-le 256 (marked b m) in
@@ -115,7 +119,19 @@ freed b (Tick channel m) h e n lo hi =
     }
 freed b (Announce channel m) h e n lo hi = absurd (never-passed _ _ lo hi)
 freed b (Request channel) h e n lo hi = absurd (never-passed _ _ lo hi)
-freed b (Reply channel first status) h e n lo hi = absurd (never-passed _ _ lo hi)
+freed b (Reply channel first status) h e n lo hi =
+    let r = checked-facts b (Reply channel first status) e (λ q. omega arith) (λ q. omega arith) .rules in
+    let near = reach-near b status r in
+    let w = reach b status in
+    let k = leaps b w in
+    let le : k ≤ 256 = leaps-short b r w (near .0) (near .1) in
+    let up : b .floor + k < n + 256 = omega arith in
+    let i = n + 256 - (b .floor + k) - 1 in
+    let far : 256 ≤ k + (n + 256 - (b .floor + k) - 1) = omega arith in
+    record {
+      above = up;
+      not-held = simp (lt-leb _ _ up) (ap (λ (x : ℕ). eqb x 1) (bit-shr (covered b w) k i ∙ bit-above 256 (k + i) (covered-lt b r w (near .0) (near .1)) far));
+    }
 freed b Missing h e n lo hi = absurd (never-passed _ _ lo hi)
 freed b Held h e n lo hi = absurd (never-passed _ _ lo hi)
 

@@ -3,13 +3,14 @@ use mathlib.Core.Path.{_≡_, refl, sym, ap, ap₂, _∙_, subst}
 use mathlib.Core.Bool.{Bool, true, false, _&&_, not}
 use mathlib.Core.Logic.{⊎-elim}
 use Prim.Native.Nat.{ℕ, _+_, _-_, _/_, _%_, _^_, _≤_, _<_, min, max}
-use native.Mathlib.Nat.{add-zero, le-of-lt, mod-eq-of-lt, div-eq-of-lt, div-one, zero-div}
+use native.Mathlib.Nat.{add-zero, lt-of-le-of-lt, mod-lt, le-of-lt, mod-eq-of-lt, div-eq-of-lt, div-one, zero-div}
+use native.Mathlib.Decide.{decLt, decLe}
 use native.Mathlib.Omega.{arith}
 use borrow.Author.Tests.{eq-eqb, ne-eqb}
 use lib.Bits.{bitOr, or-lt}
 use lib.Count.{ones, trailingZeros}
 use lib.Dec.{eqb, leb, ltb}
-use lib.Pow.{pow-lt}
+use lib.Pow.{pow-lt, pow-pos, shr-le, ones-sub-lt}
 use Rattle.terms.specs.Paper.{answer, pick}
 use Rattle.terms.specs.Cases.{two}
 use Rattle.terms.specs.Counters.{tickOf}
@@ -18,21 +19,24 @@ use Rattle.terms.specs.declared.TickNumber.{TickNumber}
 use Rattle.terms.specs.declared.ChannelNumber.{ChannelNumber}
 use Rattle.terms.specs.declared.Refusal.{Refusal}
 use Rattle.map.specs.Bits.{Words, bit, isSet, bitsIn, mapOf, run}
-use Rattle.map.specs.Ring.{rotated, laid, without}
+use Rattle.map.specs.Ring.{rotated, laid, without, only, lacking}
 use Rattle.map.specs.declared.Map.{Map}
 use Rattle.map.proofs.Laws.{run-le}
-use Rattle.map.proofs.Digits.{bit-above}
+use Rattle.map.proofs.Digits.{bit-above, bit-ext, bit-shr, run-passed, run-stopped}
 use Rattle.map.proofs.Words.{map-of, value-of, list-lt}
-use Rattle.map.proofs.Ring.{rotated-round, rotated-none, none-outside, rotated-lt, rotated-bit, rotated-ones, rotated-zero, rotated-set, rotated-laid, laid-rotated}
-use Rattle.map.proofs.Stretch.{without-down}
-use Rattle.book.specs.State.{Asked, nothing, range, Book, largest, mapRules, soundOf}
-use Rattle.ledger.specs.State.{askedOf, pendingOf, bookOf, ledgerOf, topped, nextBy, nextIn}
-use Rattle.book.specs.Calls.{Call, Announce, Request, Reply, replyStatus, isPending, startsAt, elsewhere, ownNumber, checkedOf, marked, passes, taken, waiting, fresh, done, raised, offered, valuesOf, beside, numberTo, answerTo, nextOf}
+use Rattle.map.proofs.Ring.{bit-mod, rotated-round, rotated-none, none-outside, rotated-lt, rotated-bit, rotated-ones, rotated-zero, rotated-set, rotated-laid, laid-rotated}
+use Rattle.map.proofs.Stretch.{without-down, only-lt, only-read}
+use Rattle.book.specs.State.{Asked, nothing, range, Book, largest, mapRules, soundOf, StateRules}
+use Rattle.ledger.specs.State.{askedOf, pendingOf, bookOf, ledgerOf, topped, nextBy, nextIn, laidFrom}
+use Rattle.book.specs.Calls.{Call, Announce, Request, Reply, replyStatus, isPending, startsAt, elsewhere, ownNumber, checkedOf, marked, passes, taken, covered, leaps, gaveUp, handed, replied, waiting, fresh, done, raised, offered, valuesOf, beside, numberTo, answerTo, nextOf}
 use Rattle.ledger.specs.Papers.{verdictNumber}
 use Rattle.ledger.specs.declared.Ledger.{Ledger}
 use Rattle.ledger.specs.declared.Verdict.{Verdict}
 use Rattle.ledger.specs.declared.Pending.{Pending}
 use Rattle.ledger.specs.declared.Pending.the-variants.{Nothing, Range}
+use Rattle.book.proofs.Masks.{bit-not}
+use Rattle.book.proofs.Steps.{covered-lt, covered-in, covered-out, leaps-cover, leaps-short}
+use Rattle.book.proofs.Rules.{rules-facts}
 use Rattle.book.proofs.Tests.{and-false, and-true, pick-cases}
 
 -- ---- a ledger and its book
@@ -160,6 +164,147 @@ module _ (l : Ledger) (w : Words (l .map .words)) where
       let e : d ≡ mapOf (laid (l .floor .0 + k + 1) (rotated (l .floor .0 + 1) (bitsIn m) / 2 ^ k)) =
       z ∙ ap mapOf (without-down (l .floor .0 + 1) k (bitsIn m) lt le ∙ ap (λ (s : ℕ). laid s (rotated (l .floor .0 + 1) (bitsIn m) / 2 ^ k)) at) in
       cc (pending-of (l .pending))
+
+-- ---- a reply: the floor passes the w numbers above it, and the run of held places behind them
+
+-- the digits that are set, and the one that is not, fix a run
+run-is : (k m z : ℕ) → z ≤ k → ((i : ℕ) → i < z → bit m i ≡ 1) → (z < k → bit m z ≡ 0) → z ≡ run k m
+run-is k m z h passed stopped =
+    elim (decLt z (run k m)) [
+      | yes l ↦ absurd (early l)
+      | no g ↦ elim (decLt (run k m) z) [ yes l ↦ absurd (late l) | no f ↦ omega arith ]
+    ]
+  where
+    early : z < run k m → ⊥
+    early l = let b : z < k = omega (arith, run-le k m) in omega (arith, stopped b, run-passed k m z l)
+
+    late : run k m < z → ⊥
+    late l = let b : run k m < k = omega arith in omega (arith, passed (run k m) l, run-stopped k m b)
+
+-- a set beside an answer is laid as it is read
+pub laid-kept : (first : TickNumber) (v : ℕ) → v < 2 ^ 256 → mapOf v ≡ laidFrom first (mapOf v)
+laid-kept first v h = sym (ap (λ (x : ℕ). mapOf (laid (first .0) (rotated (first .0) x))) (value-of v h) ∙ ap mapOf (laid-rotated (first .0) v h))
+
+-- what the code needs of a sound state's numbers
+pub sound-low : (l : Ledger) → soundOf (bookOf l) ≡ true → (l .floor .0 ≤ l .top .0) × (l .top .0 ≤ largest)
+unfolding bookOf
+sound-low l e = let r = rules-facts (bookOf l) e in (r .low, r .top-small)
+
+pub book-known : (l : Ledger) (w : ℕ) → w ≤ l .top .0 - l .floor .0 → w ≤ bookOf l .top - bookOf l .floor
+unfolding bookOf
+book-known l w h = h
+
+pub ledger-known : (l : Ledger) (w : ℕ) → w ≤ bookOf l .top - bookOf l .floor → w ≤ l .top .0 - l .floor .0
+unfolding bookOf
+ledger-known l w h = h
+
+pub floor-is : (l : Ledger) → bookOf l .floor ≡ l .floor .0
+unfolding bookOf
+floor-is l = refl
+
+ledger-replied : (l : Ledger) (w : ℕ) → _≡_ {A = Ledger} (record {
+  channel = l .channel;
+  floor = tickOf (l .floor .0 + leaps (bookOf l) w);
+  top = l .top;
+  map = mapOf (laid (l .floor .0 + leaps (bookOf l) w + 1) (covered (bookOf l) w / 2 ^ leaps (bookOf l) w));
+  pending = Nothing;
+}) (ledgerOf (replied (bookOf l) w))
+unfolding ledgerOf bookOf replied
+ledger-replied l w = refl
+
+module _ (l : Ledger) (ws : Words (l .map .words)) (r : StateRules (bookOf l)) (w : ℕ) (known : w ≤ bookOf l .top - bookOf l .floor) (short : w ≤ 256) where
+  abbrev s : ℕ
+  s = l .floor .0 + 1
+
+  abbrev m : ℕ
+  m = bitsIn (l .map)
+
+  abbrev b : Book
+  b = bookOf l
+
+  small : bitsIn (l .map) < 2 ^ 256
+  small = list-lt (l .map .words) ws
+
+  bits-is : bookOf l .bits ≡ rotated (l .floor .0 + 1) (bitsIn (l .map))
+  unfolding bookOf
+  bits-is = refl
+
+  behind-bit : (j : ℕ) → w + j < 256 → bit (rotated (l .floor .0 + 1 + w) (bitsIn (l .map))) j ≡ bit (bookOf l .bits) (w + j)
+  behind-bit j h =
+      let e : (l .floor .0 + 1 + w + j) % 256 ≡ (l .floor .0 + 1 + (w + j)) % 256 = omega arith in
+      rotated-bit (l .floor .0 + 1 + w) m small j (omega arith) ∙ ap (bit m) e ∙ sym (rotated-bit s m small (w + j) h) ∙ ap (λ (x : ℕ). bit x (w + j)) (sym bits-is)
+
+  -- the run behind the range ends before it comes round to floor + 1, which is not held
+  behind-short : w + run 256 (rotated (l .floor .0 + 1 + w) (bitsIn (l .map))) ≤ 256
+  behind-short = elim (decLe (w + run 256 (rotated (l .floor .0 + 1 + w) m)) 256) [ yes h ↦ h | no h ↦ absurd (never (omega arith)) ]
+    where
+      never : 256 < w + run 256 (rotated (l .floor .0 + 1 + w) (bitsIn (l .map))) → ⊥
+      never h =
+          let le = run-le 256 (rotated (l .floor .0 + 1 + w) m) in
+          let p : bit (rotated (l .floor .0 + 1 + w) m) (256 - w) ≡ 1 = run-passed 256 (rotated (l .floor .0 + 1 + w) m) (256 - w) (omega arith) in
+          let e : (l .floor .0 + 1 + w + (256 - w)) % 256 ≡ (l .floor .0 + 1 + 0) % 256 = omega arith in
+          let q : bit (rotated (l .floor .0 + 1 + w) m) (256 - w) ≡ bit (rotated s m) 0 =
+          rotated-bit (l .floor .0 + 1 + w) m small (256 - w) (omega arith) ∙ ap (bit m) e ∙ sym (rotated-bit s m small 0 (omega arith)) in
+          let z : bit (rotated s m) 0 ≡ 0 = ap (λ (x : ℕ). bit x 0) (sym bits-is) ∙ r .next-not-held in
+          omega arith
+
+  pub leaps-of : w + run 256 (rotated (l .floor .0 + 1 + w) (bitsIn (l .map))) ≡ leaps (bookOf l) w
+  unfolding leaps
+  leaps-of = run-is 256 (covered b w) (w + run 256 (rotated (l .floor .0 + 1 + w) m)) behind-short passed stopped
+    where
+      passed : (i : ℕ) → i < w + run 256 (rotated (l .floor .0 + 1 + w) (bitsIn (l .map))) → bit (covered (bookOf l) w) i ≡ 1
+      passed i h = elim (decLt i w) [
+        | yes p ↦ covered-in b r w known short i p
+        | no p ↦ (
+            let e : w + (i - w) ≡ i = omega arith in
+            covered-out b r w known short i (omega arith) ∙ ap (bit (b .bits)) (sym e) ∙ sym (behind-bit (i - w) (omega (arith, behind-short)))
+            ∙ run-passed 256 (rotated (l .floor .0 + 1 + w) m) (i - w) (omega arith))
+      ]
+
+      stopped : w + run 256 (rotated (l .floor .0 + 1 + w) (bitsIn (l .map))) < 256 → bit (covered (bookOf l) w) (w + run 256 (rotated (l .floor .0 + 1 + w) (bitsIn (l .map)))) ≡ 0
+      stopped h = covered-out b r w known short _ (omega arith) ∙ sym (behind-bit (run 256 (rotated (l .floor .0 + 1 + w) m)) h) ∙ run-stopped 256 (rotated (l .floor .0 + 1 + w) m) (omega arith)
+
+  -- above what is passed nothing was covered
+  rest-same : (k : ℕ) → w ≤ k → rotated (l .floor .0 + 1) (bitsIn (l .map)) / 2 ^ k ≡ covered (bookOf l) w / 2 ^ k
+  rest-same k h =
+      bit-ext 256 _ _ (lt-of-le-of-lt (shr-le (rotated s m) k) (rotated-lt s m small)) (lt-of-le-of-lt (shr-le (covered b w) k) (covered-lt b r w known short))
+      (λ i q. bit-shr (rotated s m) k i ∙ ap (λ (x : ℕ). bit x (k + i)) (sym bits-is) ∙ sym (covered-out b r w known short (k + i) (omega arith)) ∙ sym (bit-shr (covered b w) k i))
+
+  pub replied-of : (k : ℕ) (f : TickNumber) (d : Map) → k ≡ leaps (bookOf l) w → f ≡ tickOf (l .floor .0 + k) → d ≡ mapOf (without (l .floor .0 + 1) k (bitsIn (l .map)))
+      → _≡_ {A = Ledger} (record { channel = l .channel; floor = f; top = l .top; map = d; pending = Nothing }) (ledgerOf (replied (bookOf l) w))
+  replied-of k f d q x z =
+      let le : k ≤ 256 = omega (arith, q, leaps-short b r w known short) in
+      let lo : w ≤ k = omega (arith, q, leaps-cover b r w known short) in
+      let at : l .floor .0 + 1 + k ≡ l .floor .0 + k + 1 = omega arith in
+      let e : d ≡ mapOf (laid (l .floor .0 + k + 1) (covered b w / 2 ^ k)) =
+      z ∙ ap mapOf (without-down (l .floor .0 + 1) k m small le ∙ ap₂ laid at (rest-same k lo)) in
+      ap₂ (λ (g : TickNumber) (n : Map). record { channel = l .channel; floor = g; top = l .top; map = n; pending = Nothing }) x e
+      ∙ ap (λ (j : ℕ). record { channel = l .channel; floor = tickOf (l .floor .0 + j); top = l .top; map = mapOf (laid (l .floor .0 + j + 1) (covered b w / 2 ^ j)); pending = Nothing }) q
+      ∙ ledger-replied l w
+
+  -- the two sets, read round from floor + 1
+  pub given-lt : lacking (l .floor .0 + 1) w (bitsIn (l .map)) < 2 ^ 256
+  unfolding lacking
+  given-lt = only-lt s w w _ (ones-sub-lt 256 m) (omega arith)
+
+  pub given-of : rotated (l .floor .0 + 1) (bitsIn (mapOf (lacking (l .floor .0 + 1) w (bitsIn (l .map))))) ≡ gaveUp (bookOf l) w
+  unfolding lacking gaveUp
+  given-of =
+      ap (rotated s) (value-of _ given-lt) ∙ only-read s w w _ (ones-sub-lt 256 m) (omega arith)
+      ∙ bit-ext w _ _ (mod-lt _ (pow-pos w)) (ones-sub-lt w (b .bits % 2 ^ w))
+      (λ i q.
+      let p : (l .floor .0 + 1 + i) % 256 < 256 = omega arith in
+      let at : bit (b .bits) i ≡ bit m ((l .floor .0 + 1 + i) % 256) = ap (λ (x : ℕ). bit x i) bits-is ∙ rotated-bit s m small i (omega arith) in
+      bit-mod (rotated s ((2 ^ 256 - 1) - m)) w i q ∙ rotated-bit s ((2 ^ 256 - 1) - m) (ones-sub-lt 256 m) i (omega arith)
+      ∙ bit-not 256 ((l .floor .0 + 1 + i) % 256) m small p ∙ ap (λ (x : ℕ). 1 - x) (sym at)
+      ∙ sym (bit-not w i (b .bits % 2 ^ w) (mod-lt _ (pow-pos w)) q ∙ ap (λ (x : ℕ). 1 - x) (bit-mod (b .bits) w i q)))
+
+  pub passed-lt : (k : ℕ) → only (l .floor .0 + 1) k (bitsIn (l .map)) < 2 ^ 256
+  passed-lt k = only-lt s k (min k 256) m small refl
+
+  pub passed-of : (k : ℕ) → k ≡ leaps (bookOf l) w → rotated (l .floor .0 + 1) (bitsIn (mapOf (only (l .floor .0 + 1) k (bitsIn (l .map))))) ≡ handed (bookOf l) w
+  unfolding handed
+  passed-of k q = ap (rotated s) (value-of _ (passed-lt k)) ∙ only-read s k (min k 256) m small refl ∙ ap₂ (λ (x j : ℕ). x % 2 ^ j) (sym bits-is) q
 
 -- ---- an answer by its number
 

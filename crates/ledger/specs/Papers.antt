@@ -1,11 +1,15 @@
 -- Document 01's number and values for each case of the code's answers; and that each case can be told from its paper.
-use mathlib.Core.Path.{_≡_, refl, sym, ap, _∙_}
+use mathlib.Core.Path.{_≡_, refl, sym, ap, ap₂, _∙_}
 use mathlib.Core.List.{List, [], _∷_}
 use Prim.Native.Nat.{ℕ}
 use lib.ListN.{getD}
 use Rattle.terms.specs.Paper.{Paper, answer, refusal}
 use Rattle.terms.specs.Counters.{tickOf}
 use Rattle.terms.specs.Refusals.{numberOf, told, told-refused}
+use Rattle.terms.specs.declared.TickNumber.{TickNumber}
+use Rattle.map.specs.declared.Map.{Map}
+use Rattle.map.specs.Bits.{bitsIn, mapOf}
+use Rattle.map.specs.Ring.{rotated, laid}
 use Rattle.ledger.specs.declared.TickAnswer.{TickAnswer}
 use Rattle.ledger.specs.declared.TickAnswer.the-variants as tick
 use Rattle.ledger.specs.declared.RequestAnswer.{RequestAnswer}
@@ -15,7 +19,7 @@ use Rattle.ledger.specs.declared.ReplyAnswer.the-variants as reply
 use Rattle.ledger.specs.declared.Answer.{Answer}
 use Rattle.ledger.specs.declared.Answer.the-variants as plain
 use Rattle.book.specs.State.{Asked, nothing, range}
-use Rattle.ledger.specs.State.{askedOf}
+use Rattle.ledger.specs.State.{askedOf, laidFrom}
 use Rattle.ledger.specs.declared.Pending.{Pending}
 use Rattle.ledger.specs.declared.Pending.the-variants.{Nothing, Range}
 use Rattle.ledger.specs.declared.Verdict.{Verdict}
@@ -31,9 +35,13 @@ abbrev pub requestPaper : RequestAnswer → Paper
 requestPaper (request.Granted first last) = answer 0 (first .0 ∷ last .0 ∷ [])
 requestPaper (request.Refused r) = refusal (numberOf r)
 
-abbrev pub replyPaper : ReplyAnswer → Paper
-replyPaper reply.Cleared = answer 0 []
-replyPaper (reply.Refused r) = refusal (numberOf r)
+-- a reply's two sets stand beside its answer, beside a refused one too: each read round from the first number
+abbrev replyNumber : ReplyAnswer → ℕ
+replyNumber reply.Cleared = 0
+replyNumber (reply.Refused r) = numberOf r
+
+abbrev pub replyPaper : ReplyAnswer → TickNumber → Map → Map → Paper
+replyPaper a first givenUp passed = answer (replyNumber a) (first .0 ∷ rotated (first .0) (bitsIn givenUp) ∷ rotated (first .0) (bitsIn passed) ∷ [])
 
 -- opening and announcing
 abbrev pub paperOf : Answer → Paper
@@ -92,16 +100,31 @@ request-back (request.Refused r) = told-refused requestDone (λ w. request.Refus
 pub request-paper-one : (x y : RequestAnswer) → requestPaper x ≡ requestPaper y → x ≡ y
 request-paper-one x y e = sym (request-back x) ∙ ap requestBack e ∙ request-back y
 
-abbrev replyBack : Paper → ReplyAnswer
-replyBack p = told (λ vs. reply.Cleared) (λ r. reply.Refused r) p
+abbrev replyBack : ℕ → ReplyAnswer
+replyBack n = told (λ vs. reply.Cleared) (λ r. reply.Refused r) (answer n [])
 
-reply-back : (a : ReplyAnswer) → replyBack (replyPaper a) ≡ a
+reply-back : (a : ReplyAnswer) → replyBack (replyNumber a) ≡ a
 unfolding told
 reply-back reply.Cleared = refl
 reply-back (reply.Refused r) = told-refused (λ vs. reply.Cleared) (λ w. reply.Refused w) r
 
-pub reply-paper-one : (x y : ReplyAnswer) → replyPaper x ≡ replyPaper y → x ≡ y
-reply-paper-one x y e = sym (reply-back x) ∙ ap replyBack e ∙ reply-back y
+-- and the sets, where each is laid as it is read
+pub record SameReply (x y : ReplyAnswer) (f g : TickNumber) (m n p q : Map) : Type 0 where
+  pub answer-same : x ≡ y
+  pub first-same : f ≡ g
+  pub given-same : m ≡ n
+  pub passed-same : p ≡ q
+
+pub reply-paper-one : (x y : ReplyAnswer) (f g : TickNumber) (m n p q : Map) → replyPaper x f m p ≡ replyPaper y g n q
+    → m ≡ laidFrom f m → n ≡ laidFrom g n → p ≡ laidFrom f p → q ≡ laidFrom g q → SameReply x y f g m n p q
+reply-paper-one x y f g m n p q e a b c d =
+    let v : f .0 ≡ g .0 = ap (λ (z : Paper). getD (z .values) 0 0) e in
+    record {
+      answer-same = sym (reply-back x) ∙ ap (λ (z : Paper). replyBack (z .number)) e ∙ reply-back y;
+      first-same = ap tickOf v;
+      given-same = a ∙ ap₂ (λ (s z : ℕ). mapOf (laid s z)) v (ap (λ (z : Paper). getD (z .values) 1 0) e) ∙ sym b;
+      passed-same = c ∙ ap₂ (λ (s z : ℕ). mapOf (laid s z)) v (ap (λ (z : Paper). getD (z .values) 2 0) e) ∙ sym d;
+    }
 
 abbrev pendingTold : List ℕ → Pending
 pendingTold [] = Nothing

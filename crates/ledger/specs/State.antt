@@ -5,6 +5,8 @@ use Prim.Native.Nat.{ℕ, _+_, max}
 use lib.Dec.{eqb}
 use Rattle.terms.specs.Paper.{pick}
 use Rattle.map.specs.Bits.{bitsIn, mapOf}
+use Rattle.terms.specs.declared.TickNumber.{TickNumber}
+use Rattle.map.specs.declared.Map.{Map}
 use Rattle.map.specs.Ring.{rotated, laid}
 use Rattle.book.specs.State.{Asked, nothing, range, Book}
 use Rattle.book.specs.Calls.{Call, offered, numberTo, done}
@@ -55,3 +57,7 @@ nextBy read keep l call =
 
 abbrev pub nextIn : Ledger → Call → Ledger
 nextIn l call = nextBy bookOf ledgerOf l call
+
+-- a set of numbers beside an answer, read round from `first` and laid back: the map itself, where it is made of four words
+abbrev pub laidFrom : TickNumber → Map → Map
+laidFrom first m = mapOf (laid (first .0) (rotated (first .0) (bitsIn m)))

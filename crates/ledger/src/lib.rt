@@ -1,7 +1,7 @@
 // The gap ledger of one tick channel: which numbers were received, which are handed out, and what to ask for.
 // Every call takes the ledger, sound or not, and gives back the next one beside its answer.
 ghost use mathlib.Core.Path.{_≡_};
-ghost use mathlib.Core.Bool.{not};
+ghost use mathlib.Core.Bool.{true, not};
 ghost use mathlib.Core.List.{[], _∷_};
 ghost use Prim.Native.Nat.{_+_, _-_, _≤_, _<_, min, max};
 ghost use lib.Dec.{eqb};
@@ -10,8 +10,8 @@ ghost use Rattle.terms.specs.Refusals.{numberOf};
 ghost use Rattle.map.specs.Bits.{bitsIn};
 ghost use Rattle.map.specs.Ring.{rotated};
 ghost use Rattle.book.specs.State.{range, largest, rangeRules, mapRules, soundOf};
-ghost use Rattle.ledger.specs.State.{askedOf, bookOf, ledgerOf, topped, nextIn};
-ghost use Rattle.book.specs.Calls.{Tick, Announce, Request, Reply, Missing, Held, replyStatus, startsAt, ownNumber, checkedOf, passes, taken, waiting, asked, answerTo, openNumber, openOf, fresh};
+ghost use Rattle.ledger.specs.State.{askedOf, bookOf, ledgerOf, topped, nextIn, laidFrom};
+ghost use Rattle.book.specs.Calls.{Tick, Announce, Request, Reply, Missing, Held, replyStatus, startsAt, ownNumber, checkedOf, passes, taken, lastOf, reach, gaveUp, handed, replied, waiting, asked, answerTo, openNumber, openOf, fresh};
 ghost use Rattle.ledger.specs.Papers.{tickPaper, requestPaper, replyPaper, paperOf, countPaper, verdictNumber, pendingPaper, askedPaper};
 use map::Map;
 use terms::ChannelNumber;
@@ -27,7 +27,7 @@ pub enum Pending {
 // The fields are open, so that a host can hand in any state; a broken one is refused by 13.
 pub struct Ledger {
     pub channel: ChannelNumber,
-    // All numbers up to it are received.
+    // All numbers up to it are received or given up.
     pub floor: TickNumber,
     // The largest number offered and not refused by 18 or 10, or announced.
     pub top: TickNumber,
@@ -62,9 +62,16 @@ pub enum ReplyAnswer {
     Refused(Refusal),
 }
 
+// Beside the answer two sets, each a map whose places are read as the ledger's are: a number's place is its remainder by 256. They hold numbers from
+// `first`, the floor + 1 as it was before the call, to 256 behind it. Beside a refusal `first` is 0, and both are empty.
 pub struct Replied {
     pub next: Ledger,
     pub answer: ReplyAnswer,
+    pub first: TickNumber,
+    // Given up: of the pending range, on status 4, those not received.
+    pub given_up: Map,
+    // Received and newly passed by the floor: for delivery.
+    pub passed: Map,
 }
 
 pub enum Answer {
@@ -175,6 +182,22 @@ impl Pending {
         match self {
             Pending::Nothing => false,
             Pending::Range { first, last: _ } => first.value() == n,
+        }
+    }
+
+    // How many numbers above the floor the range reaches: none where the floor has passed it.
+    fn reach(self, floor: u64) -> u64
+        ensures { λ r. ⌜ r ≡ lastOf (askedOf self) - floor ⌝ }
+    {
+        match self {
+            Pending::Nothing => 0,
+            Pending::Range { first: _, last } => {
+                let end = last.value();
+                if end < floor {
+                    return 0;
+                }
+                end - floor
+            }
         }
     }
 }
@@ -452,21 +475,71 @@ impl Ledger {
         Verdict::Fine
     }
 
-    // The pending request is cleared; nothing is marked received, whatever the status says. 13, 18, 17, 16.
+    // On status 4, how far the pending range reaches above the floor.
+    fn reach(self, status: u8) -> u64
+        ensures { λ r. ⌜ r ≡ reach (bookOf self) status ⌝ }
+    {
+        let pending = self.pending;
+        let floor = self.floor.value();
+        if status != 4 {
+            return 0;
+        }
+        pending.reach(floor)
+    }
+
+    // The pending request is cleared, and the floor passes the w numbers above it and the run of held ones behind them: floor + 1 is not held, so that run
+    // ends before it comes round. Those of the w not held are given up; the held ones passed are named apart.
+    fn replied(self, w: u64) -> Replied
+        requires { ⌜ (soundOf (bookOf self) ≡ true) × (w ≤ 256) × (w ≤ self .top .0 - self .floor .0) ⌝ }
+        ensures { λ r. ⌜ (replyPaper (r .answer) (r .first) (r .«given_up») (r .passed) ≡ answer 0 ((self .floor .0 + 1) ∷ gaveUp (bookOf self) w ∷ handed (bookOf self) w ∷ []))
+            × (r .next ≡ ledgerOf (replied (bookOf self) w))
+            × (r .«given_up» ≡ laidFrom (r .first) (r .«given_up»)) × (r .passed ≡ laidFrom (r .first) (r .passed)) ⌝ }
+    {
+        let channel = self.channel;
+        let top = self.top;
+        let map = self.map;
+        let floor = self.floor.value();
+        let count = w + map.run_from(floor + 1 + w);
+        Replied {
+            next: Ledger {
+                channel,
+                floor: TickNumber::new(floor + count),
+                top,
+                map: map.cleared(floor + 1, count),
+                pending: Pending::Nothing,
+            },
+            answer: ReplyAnswer::Cleared,
+            first: TickNumber::new(floor + 1),
+            given_up: map.lacking(floor + 1, w),
+            passed: map.only(floor + 1, count),
+        }
+    }
+
+    // A reply that is refused names no number.
+    fn reply_refused(self, why: Refusal) -> Replied
+        ensures { λ r. ⌜ (replyPaper (r .answer) (r .first) (r .«given_up») (r .passed) ≡ answer (numberOf why) (0 ∷ 0 ∷ 0 ∷ []))
+            × (r .next ≡ self)
+            × (r .«given_up» ≡ laidFrom (r .first) (r .«given_up»)) × (r .passed ≡ laidFrom (r .first) (r .passed)) ⌝ }
+    {
+        Replied {
+            next: self,
+            answer: ReplyAnswer::Refused(why),
+            first: TickNumber::new(0),
+            given_up: Map::new(),
+            passed: Map::new(),
+        }
+    }
+
+    // The pending request is cleared; on status 4 what is missing of it is given up, and the floor goes on. 13, 18, 17, 16.
     pub fn reply(self, channel: ChannelNumber, first: TickNumber, status: u8) -> Replied
-        ensures { λ r. ⌜ (replyPaper (r .answer) ≡ answerTo (bookOf self) (Reply (channel .0) (first .0) status))
-            × (r .next ≡ nextIn self (Reply (channel .0) (first .0) status)) ⌝ }
+        ensures { λ r. ⌜ (replyPaper (r .answer) (r .first) (r .«given_up») (r .passed) ≡ answerTo (bookOf self) (Reply (channel .0) (first .0) status))
+            × (r .next ≡ nextIn self (Reply (channel .0) (first .0) status))
+            × (r .«given_up» ≡ laidFrom (r .first) (r .«given_up»)) × (r .passed ≡ laidFrom (r .first) (r .passed)) ⌝ }
     {
         let verdict = self.checked(channel, self.reply_verdict(first.value(), status));
         match verdict {
-            Verdict::Bad(why) => Replied {
-                next: self,
-                answer: ReplyAnswer::Refused(why),
-            },
-            Verdict::Fine => Replied {
-                next: self.waiting(Pending::Nothing),
-                answer: ReplyAnswer::Cleared,
-            },
+            Verdict::Bad(why) => self.reply_refused(why),
+            Verdict::Fine => self.replied(self.reach(status)),
         }
     }
 

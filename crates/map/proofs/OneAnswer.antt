@@ -19,6 +19,10 @@ use Rattle.map.proofs.Map.held_from.Reads as held-from
 use Rattle.map.proofs.Map.held_from.Kinds as held-from-kinds
 use Rattle.map.proofs.Map.cleared.Reads as cleared
 use Rattle.map.proofs.Map.cleared.Kinds as cleared-kinds
+use Rattle.map.proofs.Map.only.Reads as only
+use Rattle.map.proofs.Map.only.Kinds as only-kinds
+use Rattle.map.proofs.Map.lacking.Reads as lacking
+use Rattle.map.proofs.Map.lacking.Kinds as lacking-kinds
 
 pub Map-new-one-answer : OneAnswer _ new-kinds.ps new-kinds.r new.Post
 Map-new-one-answer κs a x y s t p q = p ∙ sym q
@@ -46,3 +50,9 @@ Map-held-from-one-answer κs a x y s t p q = p ∙ sym q
 
 pub Map-cleared-one-answer : OneAnswer _ cleared-kinds.ps cleared-kinds.r cleared.Post
 Map-cleared-one-answer κs a x y s t p q = p ∙ sym q
+
+pub Map-only-one-answer : OneAnswer _ only-kinds.ps only-kinds.r only.Post
+Map-only-one-answer κs a x y s t p q = p ∙ sym q
+
+pub Map-lacking-one-answer : OneAnswer _ lacking-kinds.ps lacking-kinds.r lacking.Post
+Map-lacking-one-answer κs a x y s t p q = p ∙ sym q

@@ -8,7 +8,7 @@ use lib.Count.{ones, trailingZeros}
 use lib.Dec.{eqb}
 use Rattle.terms.specs.RuledOut.{Row, _never_, _only_, Kept, RulesOut, ruled, numbers, bools}
 use Rattle.map.specs.Bits.{valueOf, bitsIn, mapOf, isSet, run}
-use Rattle.map.specs.Ring.{rotated, without}
+use Rattle.map.specs.Ring.{rotated, without, only, lacking}
 use Rattle.map.specs.declared.Map.{Map}
 use Rattle.map.proofs.Map.new.Reads as new
 use Rattle.map.proofs.Map.new.Kinds as new-kinds
@@ -28,6 +28,10 @@ use Rattle.map.proofs.Map.empty.Reads as empty
 use Rattle.map.proofs.Map.empty.Kinds as empty-kinds
 use Rattle.map.proofs.Map.cleared.Reads as cleared
 use Rattle.map.proofs.Map.cleared.Kinds as cleared-kinds
+use Rattle.map.proofs.Map.only.Reads as only-reads
+use Rattle.map.proofs.Map.only.Kinds as only-kinds
+use Rattle.map.proofs.Map.lacking.Reads as lacking-reads
+use Rattle.map.proofs.Map.lacking.Kinds as lacking-kinds
 
 -- A map is given as one number, whose digit i is place i.
 
@@ -133,3 +137,27 @@ Map-cleared-wrong =
 pub Map-cleared-rules-out : RulesOut (Kept _ cleared-kinds.ps cleared-kinds.r cleared.Post) (λ c. (bitsIn (c .args .0), c .args .1 .0, c .args .1 .1 .0)) (λ c. bitsIn (c .result)) Map-cleared-wrong
 unfolding valueOf mapOf rotated without
 Map-cleared-rules-out = ruled numbers (λ (i : ℕ × ℕ × ℕ). bitsIn (mapOf (without (i .1) (i .2) (i .0)))) (λ c p. ap bitsIn p) _ refl
+
+abbrev pub Map-only-wrong : List (Row (ℕ × ℕ × ℕ) ℕ)
+Map-only-wrong =
+    (7, 0, 2) never 4  -- what lies outside kept in place of what lies within
+    ∷ (7, 0, 2) only 3
+    ∷ (2 ^ 255 + 3, 255, 2) only (2 ^ 255 + 1)  -- gone round
+    ∷ (2 ^ 100, 7, 300) only (2 ^ 100)  -- beyond 256 all of them
+    ∷ []
+
+pub Map-only-rules-out : RulesOut (Kept _ only-kinds.ps only-kinds.r only-reads.Post) (λ c. (bitsIn (c .args .0), c .args .1 .0, c .args .1 .1 .0)) (λ c. bitsIn (c .result)) Map-only-wrong
+unfolding valueOf mapOf rotated only
+Map-only-rules-out = ruled numbers (λ (i : ℕ × ℕ × ℕ). bitsIn (mapOf ((only) (i .1) (i .2) (i .0)))) (λ c p. ap bitsIn p) _ refl
+
+abbrev pub Map-lacking-wrong : List (Row (ℕ × ℕ × ℕ) ℕ)
+Map-lacking-wrong =
+    (5, 0, 4) never 5  -- the held places in place of the others
+    ∷ (5, 0, 4) never 15  -- all places, held or not
+    ∷ (5, 0, 4) only 10
+    ∷ (1, 255, 2) only (2 ^ 255)  -- gone round
+    ∷ []
+
+pub Map-lacking-rules-out : RulesOut (Kept _ lacking-kinds.ps lacking-kinds.r lacking-reads.Post) (λ c. (bitsIn (c .args .0), c .args .1 .0, c .args .1 .1 .0)) (λ c. bitsIn (c .result)) Map-lacking-wrong
+unfolding valueOf mapOf rotated only lacking
+Map-lacking-rules-out = ruled numbers (λ (i : ℕ × ℕ × ℕ). bitsIn (mapOf (lacking (i .1) (i .2) (i .0)))) (λ c p. ap bitsIn p) _ refl

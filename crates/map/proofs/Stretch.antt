@@ -2,7 +2,7 @@
 use mathlib.Core.Path.{_≡_, refl, sym, ap, ap₂, _∙_}
 use mathlib.Core.List.{List}
 use Prim.Native.Nat.{ℕ, _+_, _-_, _*_, _/_, _%_, _^_, _≤_, _<_, min}
-use native.Mathlib.Nat.{mod-lt, mod-eq-of-lt, lt-of-le-of-lt, lt-of-lt-of-le, add-zero}
+use native.Mathlib.Nat.{mod-le, mod-lt, mod-eq-of-lt, lt-of-le-of-lt, lt-of-lt-of-le, add-zero}
 use native.Mathlib.Decide.{decLt, ℕ-discrete as decEq}
 use native.Mathlib.Omega.{arith}
 use lib.Count.{ones}
@@ -12,7 +12,7 @@ use lib.Seq.{getD-set-same, getD-set-other}
 use mir.Syntax.{w64}
 use mir.Val.{Fits}
 use Rattle.map.specs.Bits.{bit, valueOfList, tally, Words}
-use Rattle.map.specs.Ring.{rotated, laid, without}
+use Rattle.map.specs.Ring.{rotated, laid, without, only}
 use Rattle.map.proofs.Laws.{bit-low, bit-high}
 use Rattle.map.proofs.Digits.{bit-shr, bit-above, tally-ext, tally-split, ones-tally}
 use Rattle.map.proofs.Words.{list-lt, list-bit, words-set}
@@ -237,6 +237,35 @@ module _ (s k m : ℕ) (h : m < 2 ^ 256) (most : k ≤ 256) where
       keep i l b =
           let e : k + (i - k) ≡ i = omega arith in
           down-bit i (i - k) (omega arith) (omega arith) ∙ ap (bit (rotated s m)) e ∙ rotated-bit s m h i l
+
+-- what is left where all but the k places from s is taken out
+module _ (s k n m : ℕ) (h : m < 2 ^ 256) (is : n ≡ min k 256) where
+  pub only-lt : only s k m < 2 ^ 256
+  unfolding only
+  only-lt = rotated-lt (256 - s % 256) _ (lt-of-le-of-lt (mod-le (rotated s m) (2 ^ k)) (rotated-lt s m h))
+
+  pub only-read : rotated s (only s k m) ≡ rotated s m % 2 ^ k
+  unfolding only
+  only-read = rotated-laid s _ (lt-of-le-of-lt (mod-le (rotated s m) (2 ^ k)) (rotated-lt s m h))
+
+  only-at : (i : ℕ) → i < 256 → bit (only s k m) ((s + i) % 256) ≡ bit (rotated s m % 2 ^ k) i
+  only-at i l = sym (rotated-bit s (only s k m) only-lt i l) ∙ ap (λ (x : ℕ). bit x i) only-read
+
+  pub without-rest : without (s % 256 + n) (256 - n) m ≡ only s k m
+  without-rest = sym (without-is (s % 256 + n) (256 - n) m (only s k m) h only-lt clear keep)
+    where
+      clear : (j : ℕ) → j < 256 → j < 256 - n → bit (only s k m) ((s % 256 + n + j) % 256) ≡ 0
+      clear j l b =
+          let e : (s % 256 + n + j) % 256 ≡ (s + (n + j)) % 256 = omega arith in
+          let far : k ≤ n + j = omega arith in
+          ap (bit (only s k m)) e ∙ only-at (n + j) (omega arith) ∙ bit-above k (n + j) (mod-lt _ (pow-pos k)) far
+
+      keep : (j : ℕ) → j < 256 → 256 - n ≤ j → bit (only s k m) ((s % 256 + n + j) % 256) ≡ bit m ((s % 256 + n + j) % 256)
+      keep j l b =
+          let e : (s % 256 + n + j) % 256 ≡ (s + (n + j - 256)) % 256 = omega arith in
+          let i : n + j - 256 < k = omega arith in
+          let u : n + j - 256 < 256 = omega arith in
+          ap (bit (only s k m)) e ∙ only-at (n + j - 256) u ∙ bit-mod (rotated s m) k (n + j - 256) i ∙ rotated-bit s m h (n + j - 256) u ∙ ap (bit m) (sym e)
 
 -- a part of one word taken out
 module _ (w : List ℕ) (h : Words w) (at n x : ℕ) (low : at < 256) (within : at % 64 + n ≤ 64) (fits : Fits w64 x)

@@ -12,3 +12,11 @@ laid s m = rotated (256 - s % 256) m
 -- m without the k places from s round
 unfoldable pub without : ℕ → ℕ → ℕ → ℕ
 without s k m = laid s (rotated s m / 2 ^ k * 2 ^ k)
+
+-- the k places from s round alone: nothing else of m
+unfoldable pub only : ℕ → ℕ → ℕ → ℕ
+only s k m = laid s (rotated s m % 2 ^ k)
+
+-- those of the k places from s round that m does not hold
+unfoldable pub lacking : ℕ → ℕ → ℕ → ℕ
+lacking s k m = only s k ((2 ^ 256 - 1) - m)

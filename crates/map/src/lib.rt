@@ -8,7 +8,7 @@ ghost use lib.Dec.{eqb};
 ghost use lib.ListN.{getD, set};
 ghost use Rattle.terms.specs.Paper.{pick};
 ghost use Rattle.map.specs.Bits.{isSet, run, bitsIn, mapOf};
-ghost use Rattle.map.specs.Ring.{rotated, without};
+ghost use Rattle.map.specs.Ring.{rotated, without, only, lacking};
 
 // How many digits of a word are set.
 fn ones_in(w: u64) -> u64
@@ -222,5 +222,20 @@ impl Map {
             left -= n;
         }
         m
+    }
+
+    // The k places from s on alone, counted round: what lies outside them is cleared.
+    pub fn only(self, s: u64, k: u64) -> Map
+        ensures { λ r. ⌜ r ≡ mapOf (only s k (bitsIn self)) ⌝ }
+    {
+        let n = smaller(k, 256);
+        self.cleared(s % 256 + n, 256 - n)
+    }
+
+    // Those of the k places from s on that are not held, counted round.
+    pub fn lacking(self, s: u64, k: u64) -> Map
+        ensures { λ r. ⌜ r ≡ mapOf (lacking s k (bitsIn self)) ⌝ }
+    {
+        self.flipped().only(s, k)
     }
 }

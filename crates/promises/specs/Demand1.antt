@@ -39,6 +39,8 @@ use Rattle.ledger.specs.declared.TickAnswer.{TickAnswer}
 use Rattle.ledger.specs.declared.TickAnswer.the-variants as tick
 use Rattle.ledger.specs.declared.RequestAnswer.{RequestAnswer}
 use Rattle.ledger.specs.declared.RequestAnswer.the-variants as request
+use Rattle.terms.specs.declared.TickNumber.{TickNumber}
+use Rattle.map.specs.declared.Map.{Map}
 use Rattle.ledger.specs.declared.ReplyAnswer.{ReplyAnswer}
 use Rattle.ledger.specs.declared.ReplyAnswer.the-variants as reply
 use Rattle.book.specs.State.{Book}
@@ -197,6 +199,8 @@ map-answers =
     let Map-run-from-one-answer = map.Map-run-from-one-answer in
     let Map-held-from-one-answer = map.Map-held-from-one-answer in
     let Map-cleared-one-answer = map.Map-cleared-one-answer in
+    let Map-only-one-answer = map.Map-only-one-answer in
+    let Map-lacking-one-answer = map.Map-lacking-one-answer in
     named
 
 -- ledger
@@ -462,9 +466,9 @@ pub request-numbered : (x : RequestAnswer) → Numbered (requestPaper x .number)
 request-numbered (request.Granted first last) = done refl
 request-numbered (request.Refused w) = refused (refusal-in-table w)
 
-pub reply-numbered : (x : ReplyAnswer) → Numbered (replyPaper x .number)
-reply-numbered reply.Cleared = done refl
-reply-numbered (reply.Refused w) = refused (refusal-in-table w)
+pub reply-numbered : (x : ReplyAnswer) (first : TickNumber) (givenUp passed : Map) → Numbered (replyPaper x first givenUp passed .number)
+reply-numbered reply.Cleared first givenUp passed = done refl
+reply-numbered (reply.Refused w) first givenUp passed = refused (refusal-in-table w)
 
 -- opening the entry reader, and the checks of a message
 pub verdict-numbered : (x : Verdict) → Numbered (verdictNumber x)

@@ -1,22 +1,22 @@
 -- Demand 3, of every row of calls of the code on a ledger that it opened. `Ran channel calls l h` says that the ledger l and the history h come of
 -- the calls, each meeting its promise; h has the calls and their answers alone. Words.antt of `book` tells each word from h.
-use Prim.Native.Nat.{ℕ, _+_, _≤_}
-use mathlib.Core.List.{List}
-use mathlib.Core.Path.{_≡_, ap, _∙_}
-use Rattle.book.specs.State.{Book, StateRules}
+use Prim.Native.Nat.{ℕ, _≤_}
+use mathlib.Core.List.{List, [], _∷_}
+use mathlib.Core.Path.{_≡_}
+use Rattle.book.specs.State.{StateRules}
 use Rattle.ledger.specs.State.{bookOf}
-use Rattle.terms.specs.Paper.{Paper}
-use Rattle.book.specs.Calls.{Call, Request, answerTo}
+use Rattle.terms.specs.Paper.{Paper, answer}
+use Rattle.book.specs.Calls.{Call, Tick, Announce, Request, Reply, Missing, Held, answerTo}
+use Rattle.book.specs.Words.{knownTop, held, missing, count}
 use Rattle.book.specs.Trace.{Calls, after, History}
 use Rattle.ledger.specs.Trace.{Promise, Ran}
-use Rattle.book.specs.Answers.{Answers}
+use Rattle.book.specs.Answers.{TickAnswers, AnnounceAnswers, ReplyAnswers, Answers}
 use Rattle.book.specs.Demand3.{Demand3, Deliveries, MissingNumbers, Requests, Counts, Shown}
 use Rattle.ledger.specs.declared.Ledger.{Ledger}
 use Rattle.book.proofs.Answers as Answered
-use Rattle.book.proofs.Agree.{agrees}
-use Rattle.ledger.proofs.Seam.{book-of}
 use Rattle.ledger.proofs.Promised as Promised
-use Rattle.ledger.proofs.Promised.{ran-is-trace, ran-demand-3}
+use Rattle.ledger.proofs.Promised.{ran-demand-3}
+use Rattle.ledger.proofs.RanAnswers as Ran
 use Rattle.words.specs.Words.{bookIn}
 use Rattle.host_ledger.specs.Called.{Called, HostRan}
 use Rattle.host_ledger.proofs.Promised as Hosted
@@ -25,21 +25,21 @@ module _ (channel : ℕ) (opens : channel ≤ 9999) {calls : Calls} {l : Ledger}
   all : Demand3 h channel (bookOf l)
   all = ran-demand-3 channel opens ran
 
-  -- "For every sequence of calls on a fresh ledger, refusals included: the numbers handed out are 1, 2, 3 and so on, each once, up to just
-  -- before the first not received."
-  pub handed-out : Deliveries h
+  -- "For every sequence of calls on a fresh ledger, refusals included: the numbers handed out rise, each once; every number up to the floor was either
+  -- received and delivered, or given up, never both; the floor stands just below the first number neither received nor given up."
+  pub handed-out : Deliveries h (bookOf l)
   handed-out = all .deliveries
 
-  -- "The missing are exactly those up to the known top that were not received."
+  -- "The missing are exactly those up to the known top that are neither."
   pub the-missing : MissingNumbers h (bookOf l)
   the-missing = all .missing-numbers
 
   -- "Asked on its own channel, the ledger gives a resend request exactly when one is missing and none is pending: the lowest unbroken run of
-  -- missing numbers, cut to its first 200."
-  pub resend-request : Requests h (answerTo (bookOf l) (Request channel))
-  resend-request = all .requests
+  -- missing numbers, cut to its first 200." Of whatever the code may answer
+  pub resend-request : (next : Ledger) (paper : Paper) → Promise l (Request channel) next paper → Requests h paper
+  resend-request = Ran.ran-request channel opens ran
 
-  -- "Delivered, held and missing, each counted from the calls, add up to the top."
+  -- "Delivered, held, missing and given up, each counted from the calls, add up to the top."
   pub counted : Counts h (bookOf l)
   counted = all .counts
 
@@ -50,14 +50,28 @@ module _ (channel : ℕ) (opens : channel ≤ 9999) {calls : Calls} {l : Ledger}
   pub state-rules : StateRules (bookOf l)
   state-rules = all .state-rules
 
-  -- whatever a further call of the code is answered is what the calls before it tell
-  pub code-answers : (call : Call) (next : Ledger) (paper : Paper) → Promise l call next paper → paper ≡ answerTo (after channel calls) call
-  code-answers call next paper p =
-      let e : bookOf l ≡ after channel calls = ap bookOf (ran-is-trace channel opens ran .0) ∙ book-of (after channel calls) (agrees channel opens calls .rules .places) in
-      p .paper-is ∙ ap (λ (b : Book). answerTo b call) e
+  -- "A number is received once its tick is answered 0": and what the code answers to a further call is told by the calls and answers before it, so that a
+  -- ledger which answers 12 to every tick, or nods after the first, does not meet it
+  pub tick-answers : (n : ℕ) (next : Ledger) (paper : Paper) → Promise l (Tick channel n) next paper → TickAnswers h n paper
+  tick-answers = Ran.ran-tick channel opens ran
 
--- "A number is received once its tick is answered 0": and what each call is answered (`code-answers` has it of the code) is told by the calls and
--- answers before it, so that a ledger which answers 12 to every tick, or nods after the first, does not meet it
+  pub announce-answers : (n : ℕ) (next : Ledger) (paper : Paper) → Promise l (Announce channel n) next paper → AnnounceAnswers n paper
+  announce-answers = Ran.ran-announce channel opens ran
+
+  pub reply-answers : (first status : ℕ) (next : Ledger) (paper : Paper) → Promise l (Reply channel first status) next paper → ReplyAnswers h first status paper
+  reply-answers = Ran.ran-reply channel opens ran
+
+  pub missing-answer : (next : Ledger) (paper : Paper) → Promise l Missing next paper → paper ≡ answer 0 (count (missing h) (knownTop h) ∷ [])
+  missing-answer = Ran.ran-missing channel opens ran
+
+  pub held-answer : (next : Ledger) (paper : Paper) → Promise l Held next paper → paper ≡ answer 0 (count (held h) (knownTop h) ∷ [])
+  held-answer = Ran.ran-held channel opens ran
+
+  -- whatever a further call of the code is answered is what the ledger after the calls before it answers
+  pub code-answers : (call : Call) (next : Ledger) (paper : Paper) → Promise l call next paper → paper ≡ answerTo (after channel calls) call
+  code-answers = Ran.ran-paper channel opens ran
+
+-- and of the definitions, a call on another channel among them
 pub each-answer : (channel : ℕ) → channel ≤ 9999 → (calls : Calls) → Answers channel calls
 each-answer = Answered.answers
 
@@ -70,6 +84,20 @@ through-the-host = Hosted.host-ran-demand-3
 pub host-answers : (channel : ℕ) → channel ≤ 9999 → {calls : Calls} {w : List ℕ} {h : History} → HostRan channel calls w h
     → (call : Call) (w′ : List ℕ) (a : Paper) → Called w call w′ a → a ≡ answerTo (after channel calls) call
 host-answers = Hosted.host-answers
+
+-- told from the calls and answers before it
+module _ (channel : ℕ) (opens : channel ≤ 9999) {calls : Calls} {w : List ℕ} {h : History} (ran : HostRan channel calls w h) where
+  pub host-tick : (n : ℕ) (w′ : List ℕ) (a : Paper) → Called w (Tick channel n) w′ a → TickAnswers h n a
+  host-tick = Hosted.host-tick channel opens ran
+
+  pub host-announce : (n : ℕ) (w′ : List ℕ) (a : Paper) → Called w (Announce channel n) w′ a → AnnounceAnswers n a
+  host-announce = Hosted.host-announce channel opens ran
+
+  pub host-request : (w′ : List ℕ) (a : Paper) → Called w (Request channel) w′ a → Requests h a
+  host-request = Hosted.host-request channel opens ran
+
+  pub host-reply : (first status : ℕ) (w′ : List ℕ) (a : Paper) → Called w (Reply channel first status) w′ a → ReplyAnswers h first status a
+  host-reply = Hosted.host-reply channel opens ran
 
 -- that opening and each call of the code, by the checker's promise of its `ensures`, are the start and the steps that `Ran` and `HostRan` are made of
 data Named : Type 0 where

@@ -242,7 +242,7 @@ pub rk-ledger-request-numbered : Promises _ rk-ledger-request-kinds.ps rk-ledger
 rk-ledger-request-numbered κs a x s p = tells-numbered (p .0) (host-numbered .calling _ _)
 
 pub rk-ledger-reply-numbered : Promises _ rk-ledger-reply-kinds.ps rk-ledger-reply-kinds.r rk-ledger-reply.Post (λ κs a x s. Numbered x)
-rk-ledger-reply-numbered κs a x s p = rw (p .0) (host-numbered .calling (now (a .0)) (Reply (a .1 .0) (a .1 .1 .0) (a .1 .1 .1 .0)))
+rk-ledger-reply-numbered κs a x s p = rw (p .0 .answered) (host-numbered .calling (now (a .0)) (Reply (a .1 .0) (a .1 .1 .0) (a .1 .1 .1 .0)))
 
 pub rk-ledger-told-numbered : Promises _ rk-ledger-told-kinds.ps rk-ledger-told-kinds.r rk-ledger-told.Post (λ κs a x s. Numbered x)
 rk-ledger-told-numbered κs a x s p = tells-numbered p (host-numbered .telling _)

@@ -10,3 +10,4 @@ pub mod Marked
 pub mod Parts
 pub mod Pieces
 pub mod SameMap
+pub mod GivenUp

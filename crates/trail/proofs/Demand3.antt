@@ -10,14 +10,14 @@ use Rattle.map.proofs.Digits.{tally-ext}
 use Rattle.ledger.specs.State.{bookOf, ledgerOf}
 use Rattle.book.specs.Calls.{Missing, answerTo}
 use Rattle.book.specs.Trace.{after, History, trace}
-use Rattle.book.specs.Words.{knownTop, missing, one, count}
+use Rattle.book.specs.Words.{settled, knownTop, missing, one, count}
 use Rattle.book.specs.Demand3.{Demand3}
 use Rattle.ledger.specs.declared.Ledger.{Ledger}
 use Rattle.book.proofs.Agree.{agrees}
 use Rattle.book.proofs.Demand3.{demand-3}
 use Rattle.ledger.proofs.Seam.{book-of}
 use Rattle.trail.specs.Walk.{walkOf, callsOf}
-use Rattle.trail.specs.CallLaws.{walk-ledger, brought, walk-received}
+use Rattle.trail.specs.CallLaws.{walk-ledger, brought, or-false, walk-received, walk-gives-up-none}
 
 module _ (s : List ℕ) where
   -- the calls that the readings make, with their answers
@@ -35,8 +35,9 @@ module _ (s : List ℕ) where
 
   -- a number from 1 to the top is missing exactly if no record brings it
   missing-is : (n : ℕ) → 1 ≤ n → n ≤ knownTop history → missing history n ≡ not (brought (walkOf s .records) n)
-  unfolding missing
-  missing-is n p q = rw (le-leb 1 n p, le-leb n (knownTop history) q, walk-received s n)
+  unfolding missing settled
+  missing-is n p q =
+      rw (le-leb 1 n p, le-leb n (knownTop history) q, walk-received s n, walk-gives-up-none s n) (ap not (or-false (brought (walkOf s .records) n)))
 
   top-is : walkOf s .ledger .top ≡ knownTop history
   top-is = walk-demand-3 .shown .top-is

@@ -13,7 +13,7 @@ use Rattle.rules.specs.declared.Kind.the-variants.{S001, S002, S003, P001, P002
 use Rattle.book.specs.State.{orElse}
 use Rattle.book.specs.Calls.{Call, numberTo, answerTo, fresh}
 use Rattle.book.specs.Trace.{Calls, none, _▸_, after, trace}
-use Rattle.book.specs.Words.{received}
+use Rattle.book.specs.Words.{received, givenUp}
 use Rattle.record.specs.declared.Record.{Record}
 use Rattle.steps.specs.Walk.{Sight}
 use Rattle.steps.specs.Account as Account
@@ -72,7 +72,7 @@ turned true false c = refl
 turned false true c = refl
 turned false false c = refl
 
-or-false : (a : Bool) → orElse a false ≡ a
+pub or-false : (a : Bool) → orElse a false ≡ a
 or-false true = refl
 or-false false = refl
 
@@ -123,3 +123,33 @@ received-from channel n calls (x ∷ xs) =
 pub walk-received : (s : List ℕ) (n : ℕ) → received (trace 100 (callsOf s)) n ≡ brought (walkOf s .records) n
 unfolding Account.walkOf callsOf received trace
 walk-received s n = received-from 100 n none (sights s) ∙ or-false (brought (accountOf recordBy bookBy (fresh 100) (sights s) .records) n)
+
+-- ======== What was given up: nothing, since the walk offers no reply
+
+module _ (channel n : ℕ) (calls : Calls) where
+  given-by : (k : Kind) (c t : ℕ) → givenUp (trace channel (added calls (callsFor k c t))) n ≡ givenUp (trace channel calls) n
+  unfolding givenUp trace
+  given-by S001 c t = refl
+  given-by S002 c t = refl
+  given-by S003 c t = refl
+  given-by P001 c t = refl
+  given-by P002 c t = refl
+  given-by M101 c t = refl
+  given-by M102 c t = refl
+  given-by M201 c t = refl
+  given-by Unknown c t = refl
+
+  given-one : (x : Sight Seen) → givenUp (trace channel (added calls (callsBy (x .read)))) n ≡ givenUp (trace channel calls) n
+  given-one x =
+      ⊎-elim (λ (z : x .read .answer ≡ 0). rw (calls-of (x .read) (kindOf (x .read .«msg_type»)) z refl) (given-by (kindOf (x .read .«msg_type»)) (x .read .channel .0) (x .read .tick .0)))
+      (λ (ne : x .read .answer ≡ 0 → ⊥). rw (calls-refused (x .read) ne))
+      (same (x .read .answer) 0)
+
+given-from : (channel n : ℕ) (calls : Calls) (xs : List (Sight Seen)) → givenUp (trace channel (callsFrom calls xs)) n ≡ givenUp (trace channel calls) n
+unfolding callsFrom
+given-from channel n calls [] = refl
+given-from channel n calls (x ∷ xs) = given-from channel n (added calls (callsBy (x .read))) xs ∙ given-one channel n calls x
+
+pub walk-gives-up-none : (s : List ℕ) (n : ℕ) → givenUp (trace 100 (callsOf s)) n ≡ false
+unfolding callsOf givenUp trace
+walk-gives-up-none s n = given-from 100 n none (sights s)

@@ -1,13 +1,20 @@
--- The verdict has the call's number; 0 clears what is pending, a refusal gives back the ledger. Assumes nothing.
+-- The verdict has the call's number; 0 does what the definition says, a refusal gives back the ledger. Assumes nothing.
 use mathlib.Core.Path.{_≡_, sym, ap, _∙_}
-use Prim.Native.Nat.{ℕ}
+use mathlib.Core.List.{[], _∷_}
+use Prim.Native.Nat.{ℕ, _+_}
+use native.Mathlib.Omega.{arith}
 use borrow.Author.Needs.{needs}
+use Rattle.terms.specs.Paper.{answer}
 use Rattle.terms.specs.Refusals.{numberOf}
-use Rattle.book.specs.State.{Book}
+use Rattle.map.specs.Bits.{Words}
+use Rattle.book.specs.State.{Book, StateRules}
 use Rattle.ledger.specs.State.{bookOf, ledgerOf}
-use Rattle.book.specs.Calls.{Call, ownNumber, numberTo, valuesOf, done, waiting, Reply}
+use Rattle.book.specs.Calls.{Call, ownNumber, numberTo, reach, gaveUp, handed, replied, valuesOf, done, Reply}
+use Rattle.book.proofs.Numbers.{checked-facts}
+use Rattle.book.proofs.Rules.{rules-test}
+use Rattle.book.proofs.Steps.{reach-near}
 use Rattle.ledger.specs.Papers.{verdictNumber}
-use Rattle.ledger.proofs.Seam.{judged, done-answer, refused-answer, done-in, same-in, reply-not-12}
+use Rattle.ledger.proofs.Seam.{floor-is, ledger-known, judged, done-answer, refused-answer, done-in, same-in, reply-not-12}
 use Rattle.ledger.proofs.Ledger.reply.Statement.{statement}
 use Rattle.ledger.proofs.Ledger.reply.Tie as tie
 
@@ -40,25 +47,56 @@ checked-requires c κs = search needs
 enum-known-verdict : tie.Need-enum-known-verdict
 enum-known-verdict c = search needs
 
+reply-refused-requires : tie.Need-reply-refused-requires
+reply-refused-requires c κs = search needs
+
 enum-told : tie.Need-enum-told
 enum-told c = search needs
 
-waiting-requires : tie.Need-waiting-requires
-waiting-requires c κs = search needs
+reach-requires : tie.Need-reach-requires
+reach-requires c κs = search needs
+
+-- no number: the call is done, on a sound state
+done-0 : (c : tie.After-reach) → 0 ≡ numberTo (book (c .before .before .before)) (call (c .before .before .before))
+done-0 c = sym (ap verdictNumber (c .before .enum-told .given .1)) ∙ number (c .before .before .before)
+
+rules : (c : tie.After-reach) → StateRules (book (c .before .before .before))
+rules c = checked-facts (book (c .before .before .before)) (call (c .before .before .before)) (sym (done-0 c)) (λ q. omega arith) (λ q. omega arith) .rules
+
+replied-requires : tie.Need-replied-requires
+replied-requires c κs =
+    let k = c .before .before .before in
+    let near = reach-near (book k) (start k .args .status) (rules c) in (
+      rules-test (book k) (rules c),
+      omega (arith, near .1, c .reach .ensures),
+      ledger-known (start k .args .self) (c .reach .result) (omega (arith, near .0, c .reach .ensures)),
+    )
 
 returns : tie.Need-returns
 returns c =
-    let k = c .before .before .before in
-    let why = c .before .verdict .given .0 .0 in
-    let e : numberOf why ≡ numberTo (book k) (call k) = sym (ap verdictNumber (c .before .verdict .given .1)) ∙ number k in
-    (refused-answer (book k) (call k) why e, same-in (start k .args .self) (call k) why e (reply-not-12 (book k) _ _ _))
+    let k = c .before .before .before .before in
+    let why = c .before .before .verdict .given .0 .0 in
+    let e : numberOf why ≡ numberTo (book k) (call k) = sym (ap verdictNumber (c .before .before .verdict .given .1)) ∙ number k in
+    let p = c .«reply-refused» .ensures in (
+      p .0 ∙ refused-answer (book k) (call k) why e,
+      p .1 ∙ same-in (start k .args .self) (call k) why e (reply-not-12 (book k) _ _ _),
+      p .2,
+      p .3,
+    )
 
 returns-2 : tie.Need-returns-2
 unfolding valuesOf done
 returns-2 c =
-    let k = c .before .before .before in
-    let e : 0 ≡ numberTo (book k) (call k) = sym (ap verdictNumber (c .before .enum-told .given .1)) ∙ number k in
-    (done-answer (book k) (call k) e, c .waiting .ensures ∙ done-in (start k .args .self) (call k) e)
+    let r = c .before in
+    let k = r .before .before .before in
+    let b = book k in
+    let p = c .replied .ensures in (
+      p .0 ∙ ap (λ (x : ℕ). answer 0 ((x + 1) ∷ gaveUp b (r .reach .result) ∷ handed b (r .reach .result) ∷ [])) (sym (floor-is (start k .args .self)))
+          ∙ ap (λ (w : ℕ). answer 0 ((b .floor + 1) ∷ gaveUp b w ∷ handed b w ∷ [])) (r .reach .ensures) ∙ done-answer b (call k) (done-0 r),
+      p .1 ∙ ap (λ (w : ℕ). ledgerOf (replied b w)) (r .reach .ensures) ∙ done-in (start k .args .self) (call k) (done-0 r),
+      p .2,
+      p .3,
+    )
 
 pub reply-spec : {M : Type 1} → statement M
 reply-spec =
@@ -68,7 +106,9 @@ reply-spec =
     reply-verdict-requires
     checked-requires
     enum-known-verdict
+    reply-refused-requires
     enum-told
-    waiting-requires
+    reach-requires
+    replied-requires
     returns
     returns-2)

@@ -1,0 +1,68 @@
+-- Request 7, sentence by sentence: when the exchange has no data. Of every row of calls of the code on a ledger that it opened, and of whatever the promise of a
+-- further call allows; then of the calls through the host. The words are those of GivenUp.antt and Words.antt of `book`, told from the calls and answers alone.
+use Prim.Native.Nat.{ℕ, _≤_}
+use mathlib.Core.Path.{_≡_}
+use mathlib.Core.Logic.{_↔_}
+use mathlib.Core.Bool.{true, false}
+use mathlib.Core.List.{List}
+use Rattle.terms.specs.Paper.{Paper, refusal}
+use Rattle.book.specs.State.{Book, StateRules}
+use Rattle.book.specs.Calls.{Tick, Request, Reply, answerTo, nextOf}
+use Rattle.book.specs.Trace.{Calls, _▸_, after, History, _▸_⇒_, trace}
+use Rattle.book.specs.Words.{answered, received, givesUp, givenUp}
+use Rattle.book.specs.GivenUp.{reply, InRange, NamesApart, FloorStands, OnlyClears, then, AsksNoMore}
+use Rattle.book.proofs.GivenUp as Book
+use Rattle.ledger.specs.State.{bookOf}
+use Rattle.ledger.specs.Trace.{Promise, Ran}
+use Rattle.ledger.specs.declared.Ledger.{Ledger}
+use Rattle.ledger.proofs.Promised.{ran-demand-3}
+use Rattle.ledger.proofs.RanAnswers as Ran
+use Rattle.host_ledger.specs.Called.{Called, HostRan}
+use Rattle.host_ledger.proofs.Promised as Hosted
+
+module _ (channel : ℕ) (opens : channel ≤ 9999) {calls : Calls} {l : Ledger} {h : History} (ran : Ran channel calls l h) where
+  -- "On status 4, each number of the pending range not received so far is given up and named in the answer"
+  pub gives-up-exactly : (first : ℕ) (next : Ledger) (paper : Paper) → Promise l (Reply channel first 4) next paper → answered paper 0 ≡ true
+      → (n : ℕ) → (givesUp (Reply channel first 4) paper n ≡ true) ↔ InRange h n
+  gives-up-exactly = Ran.ran-gives-up channel opens ran
+
+  -- "the floor then passes over them and over all that follows and was received, and the same answer names apart the received numbers newly passed, for
+  -- delivery"
+  pub names-apart : (first status : ℕ) (next : Ledger) (paper : Paper) → Promise l (Reply channel first status) next paper → answered paper 0 ≡ true
+      → NamesApart h (h ▸ Reply channel first status ⇒ paper) (Reply channel first status) paper
+  names-apart = Ran.ran-names-apart channel opens ran
+
+  -- "After every call, ticks included, the floor stands just below the first number neither received nor given up."
+  pub floor-stands : FloorStands h (bookOf l)
+  floor-stands = Ran.ran-floor-stands channel opens ran
+
+  -- "A given-up number that arrives late answers 11", and the ledger is the very one
+  pub late-is-11 : (n : ℕ) (next : Ledger) (paper : Paper) → Promise l (Tick channel n) next paper → givenUp h n ≡ true → (paper ≡ refusal 11) × (next ≡ l)
+  late-is-11 = Ran.ran-late channel opens ran
+
+  -- "either received and delivered, or given up, never both"
+  pub never-both : (n : ℕ) → received h n ≡ true → givenUp h n ≡ false
+  never-both = ran-demand-3 channel opens ran .deliveries .never-both
+
+-- "Status 3 still only clears", and so do 1, 2, 5 and 99: on every sound state
+pub only-4-gives-up : (b : Book) (channel first status : ℕ) → StateRules b → answered (answerTo b (Reply channel first status)) 0 ≡ true → (status ≡ 4 → ⊥)
+    → OnlyClears b (answerTo b (Reply channel first status)) (nextOf b (Reply channel first status))
+only-4-gives-up = Book.only-4-gives-up
+
+-- "Today the ledger asks for ever": behind a reply of status 4 no later request names a number of its range (`code-answers` of Demand3.antt has it of the code)
+pub asks-no-more : (channel : ℕ) → channel ≤ 9999 → (calls : Calls) (first : ℕ) → answered (reply channel calls first 4) 0 ≡ true → (more : Calls)
+    → AsksNoMore (trace channel calls) (answerTo (after channel (then (calls ▸ Reply channel first 4) more)) (Request channel))
+asks-no-more = Book.asks-no-more
+
+-- THROUGH THE HOST: of what the caller sees of rk_ledger_reply and rk_ledger_tick
+module _ (channel : ℕ) (opens : channel ≤ 9999) {calls : Calls} {w : List ℕ} {h : History} (ran : HostRan channel calls w h) where
+  pub host-gives-up : (first : ℕ) (w′ : List ℕ) (a : Paper) → Called w (Reply channel first 4) w′ a → answered a 0 ≡ true
+      → (n : ℕ) → (givesUp (Reply channel first 4) a n ≡ true) ↔ InRange h n
+  host-gives-up = Hosted.host-gives-up channel opens ran
+
+  pub host-names-apart : (first status : ℕ) (w′ : List ℕ) (a : Paper) → Called w (Reply channel first status) w′ a → answered a 0 ≡ true
+      → NamesApart h (h ▸ Reply channel first status ⇒ a) (Reply channel first status) a
+  host-names-apart = Hosted.host-names-apart channel opens ran
+
+  pub host-late : (n : ℕ) (w′ : List ℕ) (a : Paper) → Called w (Tick channel n) w′ a → givenUp h n ≡ true → (a ≡ refusal 11) × (w′ ≡ w)
+  host-late = Hosted.host-late channel opens ran
