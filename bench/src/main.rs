@@ -311,6 +311,65 @@ fn ledgers() {
     ledger("255 held, each tick far or repeated", &held, &refused, None);
 }
 
+/// Replies of status 4 on one ledger, again and again.
+fn reply(input: &str, state: plain::Ledger) {
+    let channel = host::ChannelNumber::new(100);
+    let first = host::TickNumber::new(1);
+    let ours = host::Ledger::from_words(state.words());
+    let (mut a, mut b) = (ours, state);
+    let settled = a.reply(channel, first, 4).expect("a pending request");
+    let theirs = b.reply(100, 1, 4).expect("a pending request");
+    let numbers = |set: [u64; 4]| {
+        let held = move |n: &u64| set[(n / 64 % 4) as usize] >> (n % 64) & 1 == 1;
+        (theirs.0..theirs.0 + 256).filter(held).map(host::TickNumber::new)
+    };
+    assert!(settled.given_up().eq(numbers(theirs.1)));
+    assert!(settled.passed().eq(numbers(theirs.2)));
+    assert_eq!(a.to_words(), b.words());
+    // as if a reply had 50 bytes, for the turns
+    let job = Job {
+        name: "ledger reply of status 4",
+        input,
+        bytes: 50 * 1_000,
+        goal: Some(1.5),
+    };
+    job.race(
+        "reply",
+        50,
+        || {
+            for _ in 0..1_000 {
+                let mut ledger = black_box(ours);
+                done(ledger.reply(channel, first, 4));
+                done(ledger);
+            }
+        },
+        || {
+            for _ in 0..1_000 {
+                let mut ledger = black_box(state);
+                done(ledger.reply(100, 1, 4));
+                done(ledger);
+            }
+        },
+    );
+}
+
+fn replies() {
+    // 1 to 200 was asked for and all but 200 came, 201 to 455 are held
+    let mut all = plain::Ledger::open(100);
+    for n in (1..=199).chain(201..=455) {
+        done(all.tick(100, n));
+    }
+    all.pending = Some((1, 200));
+    reply("passes 256 numbers", all);
+    // 1 to 6 was asked for and came, 8 is held
+    let mut none = plain::Ledger::open(100);
+    for n in (1..=6).chain([8]) {
+        done(none.tick(100, n));
+    }
+    none.pending = Some((1, 6));
+    reply("passes none", none);
+}
+
 // CAPTURES
 
 fn walk(input: &str, capture: &[u8]) {
@@ -513,6 +572,7 @@ fn main() {
     println!("| Job | Input | ours | plain Rust | ratio | goal |");
     println!("|---|---|---|---|---|---|");
     sum_and_fill();
+    replies();
     captures("64 KiB", KIB_64);
     if !small {
         captures("100 MB", 100 * MB);

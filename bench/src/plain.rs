@@ -246,6 +246,19 @@ pub struct Ledger {
     pub pending: Option<(u64, u64)>,
 }
 
+/// What a reply settles: the first number, and the numbers given up and passed, each as a map.
+pub type Settled = (u64, [u64; 4], [u64; 4]);
+
+/// Clears so many places from that of `at` on.
+fn clear(map: &mut [u64; 4], mut at: u64, mut left: u64) {
+    while left > 0 {
+        let n = left.min(64 - at % 64);
+        map[(at / 64 % 4) as usize] &= !(u64::MAX >> (64 - n) << (at % 64));
+        at += n;
+        left -= n;
+    }
+}
+
 /// Whether a pending request keeps the state rules.
 pub fn pending_right(pending: Option<(u64, u64)>, floor: u64, top: u64) -> bool {
     pending.is_none_or(|(first, last)| {
@@ -293,15 +306,6 @@ impl Ledger {
         256
     }
 
-    fn clear(&mut self, mut at: u64, mut left: u64) {
-        while left > 0 {
-            let n = left.min(64 - at % 64);
-            self.map[(at / 64 % 4) as usize] &= !(u64::MAX >> (64 - n) << (at % 64));
-            at += n;
-            left -= n;
-        }
-    }
-
     fn sound(&self) -> bool {
         if self.channel > 9_999 || self.floor > self.top || self.top > LARGEST {
             return false;
@@ -343,10 +347,39 @@ impl Ledger {
         self.top = self.top.max(n);
         let first = self.floor + 1;
         let count = self.stretch(first, u64::MAX);
-        self.clear(first, count);
+        clear(&mut self.map, first, count);
         self.floor += count;
         let first = TickNumber::new(first);
         Ok(Passed { first, count })
+    }
+
+    /// Of the map's places, those of the numbers from `first` on, so many.
+    fn only(map: [u64; 4], first: u64, count: u64) -> [u64; 4] {
+        let mut without = map;
+        clear(&mut without, first, count);
+        std::array::from_fn(|i| map[i] & !without[i])
+    }
+
+    pub fn reply(&mut self, channel: u16, first: u64, status: u8) -> Result<Settled, u32> {
+        self.checked(channel)?;
+        if !matches!(status, 1..=5 | 99) {
+            return Err(17);
+        }
+        let Some((asked, last)) = self.pending else {
+            return Err(16);
+        };
+        if asked != first {
+            return Err(16);
+        }
+        let first = self.floor + 1;
+        let wide = if status == 4 { last.saturating_sub(self.floor) } else { 0 };
+        let count = wide + self.stretch(first + wide, u64::MAX);
+        let given_up = Ledger::only(self.map.map(|w| !w), first, wide);
+        let passed = Ledger::only(self.map, first, count);
+        clear(&mut self.map, first, count);
+        self.floor += count;
+        self.pending = None;
+        Ok((first, given_up, passed))
     }
 
     pub fn announce(&mut self, channel: u16, last: u64) -> Result<(), u32> {

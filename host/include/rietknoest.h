@@ -158,6 +158,22 @@ typedef struct {
 } rk_request;
 RK_SIZE(rk_request, 2);
 
+/* What a reply settles: two sets of numbers, both empty unless its status is 4. Given up are the
+ * numbers of the pending range that were not received: they will not come. Passed are the received
+ * numbers that the floor has just passed, for delivery. All of them are first to first + 255, where
+ * first is the floor + 1 before the call:
+ *     for (uint64_t n = s.first; n < s.first + 256; n++)
+ *         if (RK_IN(s.passed, n)) deliver(n); */
+typedef struct {
+    uint64_t first;
+    uint64_t given_up[4];
+    uint64_t passed[4];
+} rk_settled;
+RK_SIZE(rk_settled, 9);
+
+/* Whether a set has the number n, which is first to first + 255. Evaluates n twice. */
+#define RK_IN(set, n) ((int)((set)[(n) / 64 % 4] >> ((n) % 64) & 1))
+
 typedef struct {
     uint64_t channel;
     uint64_t floor;
@@ -188,9 +204,12 @@ uint32_t rk_ledger_announce(rk_ledger *state, uint16_t channel, uint64_t last);
  * Returns 0, 13, 14, 15, 18. 0 writes *state and *told. */
 uint32_t rk_ledger_request(rk_ledger *state, uint16_t channel, rk_request *told);
 
-/* The exchange's reply to the pending request, which is then no longer pending.
- * Returns 0, 13, 16, 17, 18. 0 writes *state. */
-uint32_t rk_ledger_reply(rk_ledger *state, uint16_t channel, uint64_t first, uint8_t status);
+/* The exchange's reply to the pending request, which is then no longer pending. On status 4 the
+ * numbers of the request that were not received are given up, and the floor passes them and the
+ * received ones that follow; a given-up number that arrives later is a repeat (11).
+ * Returns 0, 13, 16, 17, 18. 0 writes *state and *told. */
+uint32_t rk_ledger_reply(rk_ledger *state, uint16_t channel, uint64_t first, uint8_t status,
+                         rk_settled *told);
 
 /* What a ledger holds.
  * Returns 0, 13. 0 writes *told. */
@@ -246,9 +265,9 @@ uint32_t rk_is_clean(const uint8_t *capture, size_t len, rk_found *told);
  * become a frame. Each call takes some microseconds, so collect single bytes first.
  *
  * Keep and copy the struct as you like, but do not read or make its words and bytes. The ledger may
- * be passed to rk_listing, rk_ledger_told, rk_ledger_request and rk_ledger_reply; the last two
- * change only its pending request, in which it then differs from rk_walk's. A call on a stream that
- * breaks the state rules returns 13. */
+ * be passed to rk_listing, rk_ledger_told, rk_ledger_request and rk_ledger_reply. The last two
+ * change its pending request, and a reply of status 4 its floor and map too: in these it then differs
+ * from rk_walk's. A call on a stream that breaks the state rules returns 13. */
 typedef struct {
     uint64_t words[6];
     rk_ledger ledger;

@@ -32,6 +32,40 @@ pub struct Request {
     pub last: TickNumber,
 }
 
+/// What a reply settles: two sets of numbers, both empty unless its status is 4.
+#[derive(Clone, Copy, Debug, Default, PartialEq, Eq)]
+#[must_use = "no later call returns the numbers passed again"]
+#[repr(C)]
+pub struct Settled {
+    first: TickNumber,
+    given_up: [u64; 4],
+    passed: [u64; 4],
+}
+
+impl Settled {
+    /// The floor + 1 before the call: both sets have numbers from it to 255 above it.
+    #[must_use]
+    pub const fn first(&self) -> TickNumber {
+        self.first
+    }
+
+    /// The numbers of the request that were not received, rising: they will not come.
+    pub fn given_up(&self) -> impl Iterator<Item = TickNumber> {
+        self.those_in(self.given_up)
+    }
+
+    /// The received numbers that the floor has just passed, rising: to be delivered.
+    pub fn passed(&self) -> impl Iterator<Item = TickNumber> {
+        self.those_in(self.passed)
+    }
+
+    fn those_in(&self, set: [u64; 4]) -> impl Iterator<Item = TickNumber> {
+        let first = self.first.value();
+        let is_in = move |n: &u64| set[(n / 64 % 4) as usize] >> (n % 64) & 1 == 1;
+        (first..first + 256).filter(is_in).map(TickNumber::new)
+    }
+}
+
 /// What a ledger holds.
 #[derive(Clone, Copy, Debug, Default, PartialEq, Eq)]
 pub struct LedgerStatus {
@@ -92,14 +126,18 @@ impl Ledger {
         result(answer, request)
     }
 
-    /// The exchange's reply to the pending request, which is then no longer pending.
+    /// The exchange's reply to the pending request, which is then no longer pending. On status 4 the
+    /// numbers of the request that were not received are given up, and the floor passes them and the
+    /// received ones that follow. A given-up number that arrives later is a repeat, 11.
     pub fn reply(
         &mut self,
         channel: ChannelNumber,
         first: TickNumber,
         status: u8,
-    ) -> Result<(), Refusal> {
-        result(raw::ledger_reply(self, channel, first, status), ())
+    ) -> Result<Settled, Refusal> {
+        let mut settled = Settled::default();
+        let answer = raw::ledger_reply(self, channel, first, status, &mut settled);
+        result(answer, settled)
     }
 
     /// What the ledger holds, or 13.

@@ -22,7 +22,7 @@ pub use frames::{
     entries, entry, private_spans, read, scrub, search, write, Entries, Entry, Frame, Span,
     CHECK_SUM, HEADER,
 };
-pub use ledger::{Ledger, LedgerStatus, Passed, Request, STATE_FORM};
+pub use ledger::{Ledger, LedgerStatus, Passed, Request, Settled, STATE_FORM};
 pub use numbers::{ChannelNumber, Refusal, SessionNumber, TickNumber};
 pub use stream::{Fed, Stream, KEPT};
 

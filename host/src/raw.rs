@@ -18,7 +18,7 @@
 
 use crate::captures::Cleaned;
 use crate::frames::{Frame, Span};
-use crate::ledger::{Ledger, Passed, Request};
+use crate::ledger::{Ledger, Passed, Request, Settled};
 use crate::numbers::{ChannelNumber, SessionNumber, TickNumber};
 use crate::stream::{Fed, KEPT};
 
@@ -83,7 +83,7 @@ extern "C" {
     fn rk_ledger_tick(state: *mut Ledger, channel: u16, number: u64, told: *mut Passed) -> u32;
     fn rk_ledger_announce(state: *mut Ledger, channel: u16, last: u64) -> u32;
     fn rk_ledger_request(state: *mut Ledger, channel: u16, told: *mut Request) -> u32;
-    fn rk_ledger_reply(state: *mut Ledger, channel: u16, first: u64, status: u8) -> u32;
+    fn rk_ledger_reply(state: *mut Ledger, channel: u16, first: u64, status: u8, told: *mut Settled) -> u32;
     fn rk_ledger_told(state: *const Ledger, told: *mut StatusRow) -> u32;
     fn rk_walk(capture: *const u8, len: usize, records: *mut u8, records_len: usize, state: *mut Ledger, told: *mut Counts) -> u32;
     fn rk_listing(records: *const u8, records_len: usize, frames: u64, refused: u64, state: *const Ledger, text: *mut u8, text_len: usize, told: *mut u64) -> u32;
@@ -180,9 +180,11 @@ pub fn ledger_reply(
     channel: ChannelNumber,
     first: TickNumber,
     status: u8,
+    told: &mut Settled,
 ) -> u32 {
-    // SAFETY: `state` is a row of nine, and any words in it are allowed.
-    unsafe { rk_ledger_reply(state, channel.value(), first.value(), status) }
+    // SAFETY: `state` and `told` are rows of nine, and any words in them are allowed; they can't
+    // overlap: both are `&mut`.
+    unsafe { rk_ledger_reply(state, channel.value(), first.value(), status, told) }
 }
 
 pub fn ledger_told(state: &Ledger, told: &mut StatusRow) -> u32 {

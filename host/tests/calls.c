@@ -231,8 +231,16 @@ int main(void) {
         } else if (strcmp(name, "reply") == 0) {
             uint16_t channel = (uint16_t)number();
             uint64_t first = number();
-            answer = rk_ledger_reply(&ledger, channel, first, (uint8_t)number());
-            printf("%" PRIu32, answer);
+            ROW(rk_settled, t);
+            answer = rk_ledger_reply(&ledger, channel, first, (uint8_t)number(), &t.row);
+            if (ANSWERED(answer, t)) {
+                /* the numbers given up, a 0, and the numbers to be delivered */
+                uint64_t n, end = t.row.first + 256;
+                TELL(t.row.first);
+                for (n = t.row.first; n < end; n++) if (RK_IN(t.row.given_up, n)) TELL(n);
+                TELL(0);
+                for (n = t.row.first; n < end; n++) if (RK_IN(t.row.passed, n)) TELL(n);
+            }
             ledger_kept(&was, answer);
         } else if (strcmp(name, "told") == 0) {
             ROW(rk_told, t);

@@ -190,6 +190,7 @@ fn of_wrapper() -> Functions {
         "Ledger" => size_of::<Ledger>() / 8,
         "Passed" => size_of::<host::Passed>() / 8,
         "Request" => size_of::<host::Request>() / 8,
+        "Settled" => size_of::<host::Settled>() / 8,
         "Cleaned" => size_of::<host::Cleaned>() / 8,
         "Fed" => size_of::<Fed>() / 8,
         "u64" => 1,
@@ -498,9 +499,14 @@ fn ledgers(s: &mut Script, d: &mut Dice) {
             }
             2 => {
                 let first = d.of(&[words[7], words[7], n]);
-                let status = d.of(&[1, 5, 99, 0]);
+                let status = d.of(&[4, 4, 1, 5, 99, 0]);
                 let answer = ledger.reply(its, TickNumber::new(first), status);
-                let answer = answer.map(|()| (vec![], None));
+                // the first number, those given up, a 0, and those passed
+                let answer = answer.map(|s| {
+                    let sets = s.given_up().chain([TickNumber::new(0)]).chain(s.passed());
+                    let row = [s.first()].into_iter().chain(sets).map(TickNumber::value);
+                    (row.collect(), None)
+                });
                 let asked = format!("{channel} {first} {status}");
                 s.ask("reply", &asked, answer, Some(&ledger));
             }
