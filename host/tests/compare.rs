@@ -8,7 +8,7 @@ use oracle::cases;
 use oracle::clean::Cleaned;
 use oracle::entries::Entry;
 use oracle::frame::Message;
-use oracle::ledger::{Range, Words};
+use oracle::ledger::{Range, Settled, Words};
 use oracle::numbers::{Channel, Tick};
 use oracle::scrub::Span;
 use rietknoest_host as host;
@@ -165,9 +165,23 @@ impl Answers for Library {
         Ok(range(asked.first, asked.last.value()))
     }
 
-    fn reply(&self, words: &mut Words, channel: Channel, first: Tick, status: u8) -> Answer<()> {
+    fn reply(
+        &self,
+        words: &mut Words,
+        channel: Channel,
+        first: Tick,
+        status: u8,
+    ) -> Answer<Settled> {
         let (channel, first) = (channel_of(channel), tick_of(first));
-        on(words, |l| l.reply(channel, first, status))
+        let told = on(words, |l| l.reply(channel, first, status))?;
+        let mut settled = Settled::default();
+        for n in told.given_up() {
+            settled.given_up.push(Tick(n.value()));
+        }
+        for n in told.passed() {
+            settled.passed.push(Tick(n.value()));
+        }
+        Ok(settled)
     }
 
     fn told(&self, words: &Words) -> Answer<Told> {
@@ -260,7 +274,7 @@ fn difference(ours: &str, theirs: &str) -> Option<String> {
     if ours == theirs {
         return None;
     }
-    let mut case = "the first one";
+    let mut case = "generated, or the first one";
     let mut rest = theirs.lines();
     for line in ours.lines() {
         case = line.strip_prefix("# ").unwrap_or(case);

@@ -8,7 +8,7 @@ use crate::bytes::number;
 use crate::clean::{clean, first_unclean, Cleaned};
 use crate::entries::{Entry, Reader};
 use crate::frame::{read, search, write, Message};
-use crate::ledger::{Ledger, Range, Words};
+use crate::ledger::{Ledger, Range, Settled, Words};
 use crate::listing::listed;
 use crate::numbers::{Channel, Tick};
 use crate::rules::Kind;
@@ -116,7 +116,13 @@ pub trait Answers {
     fn tick(&self, ledger: &mut Words, channel: Channel, tick: Tick) -> Answer<Option<Range>>;
     fn announce(&self, ledger: &mut Words, channel: Channel, last: Tick) -> Answer<()>;
     fn request(&self, ledger: &mut Words, channel: Channel) -> Answer<Range>;
-    fn reply(&self, ledger: &mut Words, channel: Channel, first: Tick, status: u8) -> Answer<()>;
+    fn reply(
+        &self,
+        ledger: &mut Words,
+        channel: Channel,
+        first: Tick,
+        status: u8,
+    ) -> Answer<Settled>;
     fn told(&self, ledger: &Words) -> Answer<Told>;
 
     fn walk(&self, capture: &[u8], records: &mut [u8]) -> Answer<Walked>;
@@ -264,7 +270,13 @@ impl Answers for Oracle {
         kept(ledger, Ledger::of_words(*ledger).request(channel))
     }
 
-    fn reply(&self, ledger: &mut Words, channel: Channel, first: Tick, status: u8) -> Answer<()> {
+    fn reply(
+        &self,
+        ledger: &mut Words,
+        channel: Channel,
+        first: Tick,
+        status: u8,
+    ) -> Answer<Settled> {
         let now = Ledger::of_words(*ledger);
         kept(ledger, now.reply(channel, first, status))
     }

@@ -19,7 +19,8 @@ pub enum Pending {
     Asked { first: Tick, last: Tick },
 }
 
-/// "State: channel, floor (all numbers up to it received), top (largest number
+/// "State: channel, floor (all numbers up to it received" or given up, by CR 7),
+/// "top (largest number
 /// offered and not refused by 18 or 10, or announced), a map of 256 bits in
 /// four words for the numbers floor + 1 to floor + 256, and the pending
 /// request."
@@ -39,6 +40,14 @@ pub type Places = [bool; PLACES as usize];
 /// A ledger as nine numbers (docs/STATES.md): channel, floor, top, the four
 /// words of the map, first and last number of the pending request.
 pub type Words = [u64; 9];
+
+/// What a reply answered 0 names, both rising: the numbers given up, and apart
+/// from them "the received numbers newly passed, for delivery" (CR 7).
+#[derive(Clone, Debug, Default, PartialEq, Eq)]
+pub struct Settled {
+    pub given_up: Vec<Tick>,
+    pub passed: Vec<Tick>,
+}
 
 /// A run of numbers from the first to the last.
 #[derive(Clone, Copy, Debug, PartialEq, Eq)]
@@ -168,9 +177,9 @@ impl Ledger {
         Ok(())
     }
 
-    /// Whether a number of a sound state was received: it is up to the floor,
-    /// or held.
-    fn received(self, n: u64) -> bool {
+    /// Whether a number of a sound state was received or given up: it is up to
+    /// the floor, or held.
+    fn settled(self, n: u64) -> bool {
         n <= self.floor.0
             || (n - self.floor.0 <= PLACES && self.held[(n - self.floor.0 - 1) as usize])
     }
@@ -187,8 +196,9 @@ impl Ledger {
         if n == 0 || n > MOST {
             return (self, Err(No::Number));
         }
-        // 11: "tick already received"
-        if self.received(n) {
+        // 11: "tick already received"; "a given-up number that arrives late
+        // answers 11"
+        if self.settled(n) {
             return (self, Err(No::Repeat));
         }
         let top = Tick(self.top.0.max(n));
@@ -199,29 +209,27 @@ impl Ledger {
         }
         let mut held = self.held;
         held[(n - self.floor.0 - 1) as usize] = true;
-        // The floor passes the leading run of received numbers; the places
-        // behind it move down and become free again.
+        let next = Ledger { top, ..self }.risen(held);
+        let passed = Range {
+            first: Tick(self.floor.0 + 1),
+            last: next.floor,
+        };
+        let any = next.floor != self.floor;
+        (next, Ok(any.then_some(passed)))
+    }
+
+    /// The floor passes the leading run of the places; those behind it move down
+    /// and become free again.
+    fn risen(self, mut held: Places) -> Ledger {
         let run = held.iter().take_while(|h| **h).count();
         held[..run].fill(false);
         held.rotate_left(run);
         let floor = Tick(self.floor.0 + run as u64);
-        let passed = if run == 0 {
-            None
-        } else {
-            Some(Range {
-                first: Tick(self.floor.0 + 1),
-                last: floor,
-            })
-        };
-        (
-            Ledger {
-                floor,
-                top,
-                held,
-                ..self
-            },
-            Ok(passed),
-        )
+        Ledger {
+            floor,
+            held,
+            ..self
+        }
     }
 
     /// "Announcement (P001): top becomes the larger of the two; a lower one
@@ -260,7 +268,7 @@ impl Ledger {
             return (self, Err(No::Whole));
         }
         let mut last = first;
-        while last < self.top.0 && !self.received(last + 1) && last - first + 1 < MOST_ASKED {
+        while last < self.top.0 && !self.settled(last + 1) && last - first + 1 < MOST_ASKED {
             last += 1;
         }
         let range = Range {
@@ -278,7 +286,7 @@ impl Ledger {
     /// answered 0; then pending is cleared. A status of "all done" marks
     /// nothing as received; only ticks do." Checks 13, 18, 17, 16. The reply's
     /// last number is compared with nothing (0.12) and is not asked for here.
-    pub fn reply(self, channel: Channel, first: Tick, status: u8) -> (Ledger, Result<(), No>) {
+    pub fn reply(self, channel: Channel, first: Tick, status: u8) -> (Ledger, Result<Settled, No>) {
         if let Err(no) = self.check(channel) {
             return (self, Err(no));
         }
@@ -287,19 +295,41 @@ impl Ledger {
             return (self, Err(No::Status));
         }
         // 16: "reply with no request pending, or with another first number"
-        match self.pending {
-            Pending::Asked { first: asked, .. } if asked == first => (
-                Ledger {
-                    pending: Pending::Nothing,
-                    ..self
-                },
-                Ok(()),
-            ),
-            _ => (self, Err(No::Unasked)),
+        let last = match self.pending {
+            Pending::Asked { first: asked, last } if asked == first => last,
+            _ => return (self, Err(No::Unasked)),
+        };
+        let clear = Ledger {
+            pending: Pending::Nothing,
+            ..self
+        };
+        match status {
+            4 => {
+                let (next, settled) = clear.given_up(first, last);
+                (next, Ok(settled))
+            }
+            _ => (clear, Ok(Settled::default())),
         }
     }
 
-    /// How many numbers up to the top were not received. A call too: it checks
+    /// CR 7: "each number of the pending range not received so far is given up
+    /// and named in the answer; the floor then passes over them and over all
+    /// that follows and was received, and the same answer names apart the
+    /// received numbers newly passed".
+    fn given_up(self, first: Tick, last: Tick) -> (Ledger, Settled) {
+        let range = first.0..=last.0;
+        let given_up: Vec<Tick> = range.filter(|n| !self.settled(*n)).map(Tick).collect();
+        let mut held = self.held;
+        for n in &given_up {
+            held[(n.0 - self.floor.0 - 1) as usize] = true;
+        }
+        let next = self.risen(held);
+        let passed = (self.floor.0 + 1..=next.floor.0).map(Tick);
+        let passed = passed.filter(|n| !given_up.contains(n)).collect();
+        (next, Settled { given_up, passed })
+    }
+
+    /// How many numbers up to the top were neither received nor given up. A call too: it checks
     /// 13, with a count of 0 then (0.10).
     pub fn missing(self) -> (Ledger, Result<u64, No>) {
         if !self.sound() {

@@ -575,7 +575,8 @@ pub fn any_words(d: &mut Dice) -> Words {
     w[2] = floor.wrapping_add(ahead);
     w[3..7].copy_from_slice(&map_of(floor, &held));
     if d.once_in(2) {
-        w[7] = floor.wrapping_add(1).wrapping_sub(d.below(3));
+        let back = d.of(&[0, 0, 1, 2, 100, 198, 199, 200]);
+        w[7] = floor.wrapping_add(1).wrapping_sub(back);
         w[8] = w[7].wrapping_add(d.of(&[0, 1, 198, 199, 200]));
         if d.once_in(8) {
             w[d.of(&[7, 8])] = d.edge();

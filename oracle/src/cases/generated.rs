@@ -109,7 +109,8 @@ fn ledger<A: Answers>(run: &mut Run<A>, d: &mut Dice) {
             1 => run.request(&mut words, channel),
             2 => {
                 let first = d.of(&[words[7], words[7], n]);
-                let status = d.of(&[1, 2, 3, 4, 5, 99, 0, 6, 98, 100, 255]);
+                let other = d.of(&[1, 2, 3, 5, 99, 0, 6, 98, 100, 255]);
+                let status = d.of(&[4, other]);
                 run.reply(&mut words, channel, first, status)
             }
             _ => {

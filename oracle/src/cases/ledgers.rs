@@ -199,6 +199,7 @@ pub fn ledgers<A: Answers>(run: &mut Run<A>) {
     requests(run);
     passing(run);
     turning(run);
+    giving_up(run);
     runs(run);
 }
 
@@ -341,6 +342,115 @@ fn passing<A: Answers>(run: &mut Run<A>) {
         named("the last number pending"),
         &[tick(MOST), reply(MOST, 1), REQUEST, Told],
     );
+}
+
+/// Status 4: the exchange has no data (CR 7).
+fn giving_up<A: Answers>(run: &mut Run<A>) {
+    run.fresh(
+        "a range given up, some of it received",
+        &[
+            announce(10),
+            REQUEST,
+            tick(3),
+            tick(5),
+            reply(1, 4),
+            Told,
+            REQUEST,
+        ],
+    );
+    run.fresh(
+        "the floor passes what follows, up to the next gap",
+        &[
+            tick(12),
+            tick(13),
+            tick(15),
+            REQUEST,
+            reply(1, 4),
+            Told,
+            REQUEST,
+            tick(14),
+        ],
+    );
+    run.fresh(
+        "late ticks",
+        &[
+            announce(3),
+            REQUEST,
+            reply(1, 4),
+            tick(1),
+            tick(2),
+            tick(3),
+            tick(4),
+            Told,
+        ],
+    );
+    run.fresh(
+        "200 given up, and the next request behind them",
+        &[
+            announce(1_000),
+            REQUEST,
+            reply(1, 4),
+            REQUEST,
+            reply(201, 4),
+            Told,
+        ],
+    );
+    run.fresh(
+        "a range wholly passed",
+        &[
+            announce(3),
+            REQUEST,
+            tick(1),
+            tick(2),
+            tick(3),
+            reply(1, 4),
+            Told,
+        ],
+    );
+    run.fresh(
+        "only its end is left",
+        &[
+            announce(3),
+            REQUEST,
+            tick(1),
+            tick(2),
+            reply(1, 4),
+            tick(3),
+            Told,
+        ],
+    );
+    // Decision 7.1: with 1 to 200 granted, 1 to 199 received since and 201 to
+    // 455 held, 455 is passed, 454 behind the range's first number.
+    let ticks = (1..=199).chain(201..=455).map(tick);
+    let mut calls = vec![announce(500), REQUEST];
+    calls.extend(ticks);
+    calls.extend([reply(1, 4), Told, tick(200), tick(455), tick(456), REQUEST]);
+    run.fresh("200 given up, 201 to 455 passed", &calls);
+
+    for (name, state) in sound() {
+        let first = state[7];
+        let calls = [reply(first, 4), Told, tick(first), REQUEST];
+        run.on(&format!("status 4 where: {name}"), state, &calls);
+    }
+    for (floor, mut state) in turned() {
+        (state[7], state[8]) = (floor + 1, (floor + 199).min(state[2]));
+        let calls = [
+            reply(floor + 2, 4),
+            reply(floor + 1, 4),
+            tick(floor + 1),
+            Told,
+        ];
+        run.on(
+            &format!("status 4, a map from {} on", floor + 1),
+            state,
+            &calls,
+        );
+    }
+    for status in [1, 2, 3, 5, 99] {
+        let state = state(10, 20, &[12, 15], (11, 14));
+        let calls = [reply(11, status), Told, REQUEST];
+        run.on(&format!("status {status} gives up nothing"), state, &calls);
+    }
 }
 
 /// Calls on the states whose map goes round: each held number again, the last

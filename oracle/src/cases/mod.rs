@@ -286,7 +286,11 @@ impl<'a, A: Answers> Run<'a, A> {
     fn reply(&mut self, ledger: &mut Words, channel: u16, first: u64, status: u8) -> u32 {
         let (on, asked) = (Channel(channel), Tick(first));
         let answer = self.answers.reply(ledger, on, asked, status);
-        self.line("reply", &answer, |()| String::new());
+        self.line("reply", &answer, |settled| {
+            let numbers = |of: &[Tick]| joined(&of.iter().map(|t| t.0).collect::<Vec<_>>());
+            let (up, passed) = (&settled.given_up, &settled.passed);
+            format!("given up {}; passed {}", numbers(up), numbers(passed))
+        });
         self.more(&format!("{channel} {first} {status}: {}", joined(ledger)));
         answer.err().unwrap_or(0)
     }

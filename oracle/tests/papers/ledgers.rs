@@ -2,7 +2,7 @@
 
 use crate::samples::*;
 use oracle::answer::No;
-use oracle::ledger::{Ledger, Pending, Range};
+use oracle::ledger::{Ledger, Pending, Range, Settled};
 use oracle::numbers::{Channel, Tick, MOST};
 
 const OTHER: Channel = Channel(101);
@@ -242,8 +242,12 @@ fn replies() {
     for status in 0..=255u8 {
         let known = (1..=5).contains(&status) || status == 99;
         if known {
-            // Every status clears, and marks nothing as received.
-            assert_eq!(l.reply(C, Tick(8), status), (clear, Ok(())));
+            // Every status clears, and but for 4 changes nothing else.
+            let (next, answer) = l.reply(C, Tick(8), status);
+            assert_eq!(next.pending, Pending::Nothing);
+            if status != 4 {
+                assert_eq!((next, answer), (clear, Ok(Settled::default())));
+            }
             assert_eq!(l.reply(C, Tick(11), status), (l, Err(No::Unasked)));
             assert_eq!(clear.reply(C, Tick(8), status), (clear, Err(No::Unasked)));
         } else {
@@ -260,7 +264,7 @@ fn all_done_marks_nothing_as_received() {
     let (l, _) = fresh().announce(C, Tick(3));
     let (l, _) = l.request(C);
     let (l, answer) = l.reply(C, Tick(1), 1);
-    assert_eq!(answer, Ok(()));
+    assert_eq!(answer, Ok(Settled::default()));
     assert_eq!(l.missing().1, Ok(3));
     assert_eq!(l.tick(C, Tick(1)).1, Ok(Some(range(1, 1))));
 }
@@ -330,4 +334,36 @@ fn passed_places_are_cleared() {
         l = l.tick(C, Tick(n)).0;
         assert_eq!(l.words(), [100, n, n, 0, 0, 0, 0, 0, 0]);
     }
+}
+
+/// CR 7, and decision 7.1's case.
+#[test]
+fn status_4_gives_up() {
+    let ticks = |numbers: std::ops::RangeInclusive<u64>| numbers.map(Tick).collect::<Vec<_>>();
+    let held: Vec<u64> = (201..=455).collect();
+    let l = state(199, 500, &held, Some((1, 200)));
+    let (next, answer) = l.reply(C, Tick(1), 4);
+    let settled = Settled {
+        given_up: vec![Tick(200)],
+        passed: ticks(201..=455),
+    };
+    assert_eq!((next, answer), (state(455, 500, &[], None), Ok(settled)));
+    assert_eq!(next.tick(C, Tick(200)), (next, Err(No::Repeat)));
+
+    // Received numbers of the range are named apart; the floor stops before the
+    // next gap.
+    let l = state(10, 20, &[12, 15, 17], Some((9, 14)));
+    let (next, answer) = l.reply(C, Tick(9), 4);
+    let settled = Settled {
+        given_up: vec![Tick(11), Tick(13), Tick(14)],
+        passed: vec![Tick(12), Tick(15)],
+    };
+    assert_eq!((next, answer), (state(15, 20, &[17], None), Ok(settled)));
+    assert_eq!(next.request(C).1, Ok(range(16, 16)));
+
+    // A range wholly passed gives up nothing.
+    let l = state(10, 20, &[], Some((5, 10)));
+    let (next, answer) = l.reply(C, Tick(5), 4);
+    let nothing = Ok(Settled::default());
+    assert_eq!((next, answer), (state(10, 20, &[], None), nothing));
 }

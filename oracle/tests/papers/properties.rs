@@ -170,16 +170,24 @@ fn the_search_finds_the_lowest_place() {
     }
 }
 
-/// A ledger told in sets: what was received, the largest offered or announced.
+/// A ledger told in sets: what was received, what was given up, the largest
+/// offered or announced, and what was delivered so far.
+#[derive(Default)]
 struct Sets {
     received: BTreeSet<u64>,
+    given_up: BTreeSet<u64>,
+    delivered: Vec<u64>,
     top: u64,
     asked: Option<(u64, u64)>,
 }
 
 impl Sets {
+    fn settled(&self, n: u64) -> bool {
+        self.received.contains(&n) || self.given_up.contains(&n)
+    }
+
     fn floor(&self) -> u64 {
-        (1..).find(|n| !self.received.contains(n)).unwrap() - 1
+        (1..).find(|n| !self.settled(*n)).unwrap() - 1
     }
 
     fn held(&self) -> u64 {
@@ -188,9 +196,7 @@ impl Sets {
     }
 
     fn missing(&self) -> u64 {
-        (1..=self.top)
-            .filter(|n| !self.received.contains(n))
-            .count() as u64
+        (1..=self.top).filter(|n| !self.settled(*n)).count() as u64
     }
 }
 
@@ -199,11 +205,7 @@ fn the_ledger_agrees_with_plain_sets() {
     let mut dice = Dice(5);
     for _ in 0..60 {
         let mut l = fresh();
-        let mut sets = Sets {
-            received: BTreeSet::new(),
-            top: 0,
-            asked: None,
-        };
+        let mut sets = Sets::default();
         let spread = [1, 3, 40, 300][dice.roll(4) as usize];
         for _ in 0..200 {
             let floor = sets.floor();
@@ -226,7 +228,7 @@ fn the_ledger_agrees_with_plain_sets() {
                         let r = answer.unwrap();
                         assert_eq!(r.first.0, floor + 1);
                         let asked = r.first.0..=r.last.0;
-                        assert!(asked.clone().all(|n| !sets.received.contains(&n)));
+                        assert!(asked.clone().all(|n| !sets.settled(n)));
                         assert!(asked.clone().count() <= 200);
                         let next = r.last.0 + 1;
                         assert!(
@@ -239,13 +241,23 @@ fn the_ledger_agrees_with_plain_sets() {
                 }
                 2 => {
                     let first = sets.asked.map_or(1, |a| a.0) + dice.roll(2);
-                    let (next, answer) = l.reply(C, Tick(first), 1);
+                    let status = [1, 4][dice.roll(2) as usize];
+                    let (next, answer) = l.reply(C, Tick(first), status);
                     l = next;
-                    if sets.asked.map(|a| a.0) == Some(first) {
-                        assert_eq!(answer, Ok(()));
-                        sets.asked = None;
-                    } else {
-                        assert_eq!(answer, Err(No::Unasked));
+                    match sets.asked {
+                        Some((asked, last)) if asked == first => {
+                            let lost = (first..=last).filter(|n| !sets.settled(*n));
+                            let lost: Vec<u64> = lost.filter(|_| status == 4).collect();
+                            sets.given_up.extend(&lost);
+                            sets.asked = None;
+                            let numbers = |of: Vec<Tick>| of.iter().map(|t| t.0).collect();
+                            let answer = answer.unwrap();
+                            let (named, passed): (Vec<u64>, Vec<u64>) =
+                                (numbers(answer.given_up), numbers(answer.passed));
+                            assert_eq!(named, lost);
+                            sets.delivered.extend(passed);
+                        }
+                        _ => assert_eq!(answer, Err(No::Unasked)),
                     }
                 }
                 _ => {
@@ -255,7 +267,7 @@ fn the_ledger_agrees_with_plain_sets() {
                     let (next, answer) = l.tick(C, Tick(n));
                     l = next;
                     sets.top = sets.top.max(n);
-                    if sets.received.contains(&n) {
+                    if sets.settled(n) {
                         assert_eq!(answer, Err(No::Repeat));
                     } else if n > floor + 256 {
                         assert_eq!(answer, Err(No::Far));
@@ -264,6 +276,7 @@ fn the_ledger_agrees_with_plain_sets() {
                         let now = sets.floor();
                         let passed = answer.unwrap().map(|r| (r.first.0, r.last.0));
                         assert_eq!(passed, (now > floor).then_some((floor + 1, now)));
+                        sets.delivered.extend(floor + 1..=now);
                     }
                 }
             }
@@ -271,7 +284,16 @@ fn the_ledger_agrees_with_plain_sets() {
             assert_eq!((l.floor.0, l.top.0), (sets.floor(), sets.top));
             assert_eq!(l.held(), (l, Ok(sets.held())));
             assert_eq!(l.missing(), (l, Ok(sets.missing())));
-            assert_eq!(sets.missing() + sets.held() + sets.floor(), sets.top);
+            // Deliveries rise, each once, and every number up to the floor was
+            // either received and delivered, or given up, never both; the four
+            // terms add up to the top.
+            let floor = sets.floor();
+            let up: Vec<u64> = sets.received.range(..=floor).copied().collect();
+            assert_eq!(sets.delivered, up);
+            assert!(sets.received.is_disjoint(&sets.given_up));
+            let (delivered, lost) = (sets.delivered.len(), sets.given_up.len());
+            assert_eq!((delivered + lost) as u64, floor);
+            assert_eq!(sets.missing() + sets.held() + floor, sets.top);
             let pending = match l.pending {
                 Pending::Nothing => None,
                 Pending::Asked { first, last } => Some((first.0, last.0)),
@@ -325,6 +347,7 @@ fn no_call_breaks_a_sound_state_or_mends_a_broken_one() {
             l.announce(channel, n).0,
             l.request(channel).0,
             l.reply(channel, first, 2).0,
+            l.reply(channel, first, 4).0,
             l.missing().0,
             l.held().0,
         ] {
