@@ -4,7 +4,8 @@
 //!     RK_INPUTS=1000000 RK_SEED=1 cargo test --release -p rietknoest-host --test compare -- --nocapture
 
 use oracle::answers::{Answer, Answers, Fed, Oracle, Parts, Shown, Told, Walked};
-use oracle::cases;
+use oracle::cases::text::{count, difference, untried, Given};
+use oracle::cases::{self, NUMBERS};
 use oracle::clean::Cleaned;
 use oracle::entries::Entry;
 use oracle::frame::Message;
@@ -269,44 +270,12 @@ impl Answers for Library {
 
 // THE TWO TEXTS
 
-/// The first lines of two texts that differ, each cut short, and the case that they belong to.
-fn difference(ours: &str, theirs: &str) -> Option<String> {
-    if ours == theirs {
-        return None;
-    }
-    let mut case = "generated, or the first one";
-    let mut rest = theirs.lines();
-    for line in ours.lines() {
-        case = line.strip_prefix("# ").unwrap_or(case);
-        let other = rest.next().unwrap_or("");
-        if line != other {
-            let from = line.bytes().zip(other.bytes()).take_while(|(a, b)| a == b);
-            let from = from.count().saturating_sub(40);
-            let cut = |l: &str| l.chars().skip(from).take(160).collect::<String>();
-            let (line, other) = (cut(line), cut(other));
-            return Some(format!(
-                "case: {case}\nfrom column {from} on\nthe library: {line}\nthe oracle:  {other}"
-            ));
-        }
-    }
-    Some(format!("case: {case}\nthe library's text ends there"))
-}
-
 #[test]
 fn cases_made_by_hand() {
     let (ours, theirs) = (cases::by_hand(&Library), cases::by_hand(&Oracle));
     if let Some(difference) = difference(&ours, &theirs) {
         panic!("the programs differ\n{difference}");
     }
-}
-
-#[test]
-fn a_difference_is_told_with_its_case() {
-    let ours = "# one\nread 0 a\n# two\nread 0 b\n";
-    let told = difference(ours, "# one\nread 0 a\n# two\nread 6\n").expect("they differ");
-    assert!(told.starts_with("case: two\n"), "{told}");
-    assert!(difference(ours, "# one\n").is_some() && difference("# one\n", ours).is_some());
-    assert_eq!(difference(ours, ours), None);
 }
 
 fn setting(name: &str, default: u64) -> u64 {
@@ -318,7 +287,7 @@ fn generated_cases() {
     let inputs = setting("RK_INPUTS", INPUTS);
     let seed = setting("RK_SEED", 1);
     let first = setting("RK_FIRST", 0);
-    let mut given = cases::Given::new();
+    let mut given = Given::new();
     for n in first..first + inputs {
         let both = std::panic::catch_unwind(|| {
             let ours = cases::generated(&Library, seed, n);
@@ -332,12 +301,12 @@ fn generated_cases() {
         if let Some(difference) = difference {
             panic!("the programs differ: {again}\n{difference}");
         }
-        cases::count(&text, &mut given);
+        count(&text, &mut given);
     }
     println!("{inputs} cases of seed {seed} from {first} on: no difference");
     for (call, numbers) in &given {
         println!("{call} gave {numbers:?}");
     }
-    let untried = cases::untried(&given);
+    let untried = untried(&given, &NUMBERS);
     assert!(untried.is_empty() || inputs < INPUTS, "{untried:?}");
 }

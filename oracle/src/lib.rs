@@ -17,6 +17,7 @@ pub mod frame;
 pub mod ledger;
 pub mod listing;
 pub mod made;
+pub mod market;
 pub mod numbers;
 pub mod record;
 pub mod rules;

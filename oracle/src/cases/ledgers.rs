@@ -1,7 +1,8 @@
 //! Ledgers, by hand: rows of calls on a fresh ledger or on a state, and long
 //! runs of ticks.
 
-use super::{joined, Run};
+use super::text::joined;
+use super::Run;
 use crate::answers::Answers;
 use crate::ledger::{Ledger, Pending, Words, PLACES};
 use crate::made::Dice;

@@ -13,18 +13,18 @@ mod generated;
 mod ledgers;
 mod readers;
 mod streams;
+pub mod text;
 
-use crate::answers::{Answer, Answers, Parts, Walked};
+use crate::answers::{Answers, Parts, Walked};
 use crate::entries::Entry;
 use crate::frame::Message;
 use crate::ledger::{Range, Words};
 use crate::numbers::{Channel, Tick};
 use crate::record::SIZE;
-use std::collections::{BTreeMap, BTreeSet};
-use std::fmt::Write;
+use text::{hex, joined, lent, Text};
 
 /// Every number that each call can give: cases that give fewer try too little.
-pub const NUMBERS: [(&str, &[u32]); 19] = [
+pub const NUMBERS: [text::Numbers; 19] = [
     ("read", &[0, 1, 2, 3, 4, 5, 6, 7]),
     ("write", &[0, 2, 3, 4, 6, 7, 8]),
     ("search", &[0, 9]),
@@ -54,67 +54,14 @@ pub fn by_hand(answers: &impl Answers) -> String {
     ledgers::ledgers(&mut run);
     captures::captures(&mut run);
     streams::streams(&mut run);
-    run.text
+    run.text.out
 }
 
 /// The text of generated case n of a seed.
 pub fn generated(answers: &impl Answers, seed: u64, n: u64) -> String {
     let mut run = Run::new(answers);
     generated::case(&mut run, seed, n);
-    run.text
-}
-
-/// How often each call of a text gave each number.
-pub type Given = BTreeMap<String, BTreeMap<u32, u64>>;
-
-/// Counts the calls of a text.
-pub fn count(text: &str, given: &mut Given) {
-    for line in text.lines().filter(|l| !l.starts_with(['#', ' '])) {
-        let mut words = line.split(' ');
-        let call = words.next().unwrap_or("");
-        let number = words.next().and_then(|w| w.parse().ok());
-        let number = number.expect("a call's line has its number");
-        // The key is made once for each call.
-        if !given.contains_key(call) {
-            given.insert(call.to_string(), BTreeMap::new());
-        }
-        let counts = given.get_mut(call).expect("it stands there");
-        *counts.entry(number).or_default() += 1;
-    }
-}
-
-/// The calls whose numbers are not those of the table.
-pub fn untried(given: &Given) -> Vec<String> {
-    let seen = |call: &str| -> BTreeSet<u32> {
-        let counts = given.get(call);
-        counts.map_or(BTreeSet::new(), |c| c.keys().copied().collect())
-    };
-    let wrong = NUMBERS.iter().filter(|(call, numbers)| {
-        let all: BTreeSet<u32> = numbers.iter().copied().collect();
-        seen(call) != all
-    });
-    wrong
-        .map(|(call, _)| format!("{call} gave {:?}", seen(call)))
-        .collect()
-}
-
-/// Bytes in hex; `-` for none.
-fn hex(bytes: &[u8]) -> String {
-    const DIGITS: &[u8; 16] = b"0123456789abcdef";
-    if bytes.is_empty() {
-        return "-".to_string();
-    }
-    let mut text = String::with_capacity(2 * bytes.len());
-    for b in bytes {
-        text.push(char::from(DIGITS[usize::from(b / 16)]));
-        text.push(char::from(DIGITS[usize::from(b % 16)]));
-    }
-    text
-}
-
-fn joined(words: &[u64]) -> String {
-    let words: Vec<String> = words.iter().map(u64::to_string).collect();
-    words.join(" ")
+    run.text.out
 }
 
 fn range(range: Option<Range>) -> String {
@@ -135,53 +82,31 @@ fn entry((entry, behind): &(Entry, u64)) -> String {
     }
 }
 
-/// A buffer to be lent, full of bytes that nobody writes on purpose.
-fn lent(n: usize) -> Vec<u8> {
-    (0..n).map(|i| 0xA5 ^ ((i as u8) << 1)).collect()
-}
-
 /// The cases so far: each method makes a call and writes down its answer.
 struct Run<'a, A: Answers> {
     answers: &'a A,
-    text: String,
+    text: Text,
 }
 
 impl<'a, A: Answers> Run<'a, A> {
     fn new(answers: &'a A) -> Self {
-        let text = String::new();
+        let text = Text::default();
         Run { answers, text }
     }
 
     fn case(&mut self, name: &str) {
-        let _ = writeln!(self.text, "# {name}");
-    }
-
-    fn line<T>(&mut self, call: &str, answer: &Answer<T>, told: impl FnOnce(&T) -> String) {
-        let number = answer.as_ref().err().copied().unwrap_or(0);
-        let _ = write!(self.text, "{call} {number}");
-        if let Ok(value) = answer {
-            let _ = write!(self.text, " {}", told(value));
-        }
-        self.text.push('\n');
+        self.text.case(name);
     }
 
     fn more(&mut self, words: &str) {
-        let _ = writeln!(self.text, "  {words}");
-    }
-
-    /// The first n bytes of a buffer that was lent, and how many of the others
-    /// changed.
-    fn buffer(&mut self, before: &[u8], now: &[u8], n: usize) {
-        let rest = before[n..].iter().zip(&now[n..]);
-        let changed = rest.filter(|(a, b)| a != b).count();
-        let _ = writeln!(self.text, "  {} {changed}", hex(&now[..n]));
+        self.text.more(words);
     }
 
     // FRAMES
 
     fn read(&mut self, bytes: &[u8], place: usize) {
         let answer = self.answers.read(bytes, place);
-        self.line("read", &answer, |m| {
+        self.text.line("read", &answer, |m| {
             let name = String::from_utf8_lossy(&m.msg_type);
             let header = [m.sending_time, m.seq, m.body_length];
             let numbers = [m.channel, m.tick, m.first, m.last, m.status];
@@ -193,13 +118,13 @@ impl<'a, A: Answers> Run<'a, A> {
         let before = lent(room);
         let mut out = before.clone();
         let answer = self.answers.write(message, &mut out);
-        self.line("write", &answer, usize::to_string);
-        self.buffer(&before, &out, answer.unwrap_or(0));
+        self.text.line("write", &answer, usize::to_string);
+        self.text.buffer(&before, &out, answer.unwrap_or(0));
     }
 
     fn search(&mut self, bytes: &[u8], from: usize) -> Option<usize> {
         let answer = self.answers.search(bytes, from);
-        self.line("search", &answer, |found| {
+        self.text.line("search", &answer, |found| {
             found.map_or("none".to_string(), |place| place.to_string())
         });
         answer.ok().flatten()
@@ -210,9 +135,9 @@ impl<'a, A: Answers> Run<'a, A> {
     fn scrub(&mut self, bytes: &[u8]) {
         let mut buffer = bytes.to_vec();
         let answer = self.answers.scrub(&mut buffer);
-        self.line("scrub", &answer, usize::to_string);
+        self.text.line("scrub", &answer, usize::to_string);
         let n = *answer.as_ref().unwrap_or(&0);
-        self.buffer(bytes, &buffer, n);
+        self.text.buffer(bytes, &buffer, n);
         if answer.is_err() {
             return;
         }
@@ -227,13 +152,13 @@ impl<'a, A: Answers> Run<'a, A> {
         assert!(painted == buffer, "the painted spans differ");
         let once = buffer.clone();
         let again = self.answers.scrub(&mut buffer);
-        self.line("scrub", &again, usize::to_string);
-        self.buffer(&once, &buffer, 0);
+        self.text.line("scrub", &again, usize::to_string);
+        self.text.buffer(&once, &buffer, 0);
     }
 
     fn private(&mut self, name: [u8; 4], body: &[u8]) {
         let answer = self.answers.private(name, body);
-        self.line("private", &answer, |spans| {
+        self.text.line("private", &answer, |spans| {
             let shown = spans
                 .iter()
                 .map(|s| format!("{} {} {:02x}", s.place, s.len, s.fill));
@@ -243,7 +168,8 @@ impl<'a, A: Answers> Run<'a, A> {
 
     fn entries(&mut self, body: &[u8]) {
         let answer = self.answers.entries(body);
-        self.line("entries", &answer, |steps| steps.len().to_string());
+        self.text
+            .line("entries", &answer, |steps| steps.len().to_string());
         for step in answer.unwrap_or_default() {
             self.more(&entry(&step));
         }
@@ -251,34 +177,35 @@ impl<'a, A: Answers> Run<'a, A> {
 
     fn entry(&mut self, body: &[u8], place: u64) {
         let answer = self.answers.entry(body, place);
-        self.line("entry", &answer, entry);
+        self.text.line("entry", &answer, entry);
     }
 
     // LEDGERS
 
     fn open(&mut self, channel: u16) -> Option<Words> {
         let answer = self.answers.open(Channel(channel));
-        self.line("open", &answer, |words| joined(words));
+        self.text.line("open", &answer, |words| joined(words));
         answer.ok()
     }
 
     fn tick(&mut self, ledger: &mut Words, channel: u16, n: u64) -> u32 {
         let answer = self.answers.tick(ledger, Channel(channel), Tick(n));
-        self.line("tick", &answer, |passed| range(*passed));
+        self.text.line("tick", &answer, |passed| range(*passed));
         self.more(&format!("{channel} {n}: {}", joined(ledger)));
         answer.err().unwrap_or(0)
     }
 
     fn announce(&mut self, ledger: &mut Words, channel: u16, n: u64) -> u32 {
         let answer = self.answers.announce(ledger, Channel(channel), Tick(n));
-        self.line("announce", &answer, |()| String::new());
+        self.text.line("announce", &answer, |()| String::new());
         self.more(&format!("{channel} {n}: {}", joined(ledger)));
         answer.err().unwrap_or(0)
     }
 
     fn request(&mut self, ledger: &mut Words, channel: u16) -> u32 {
         let answer = self.answers.request(ledger, Channel(channel));
-        self.line("request", &answer, |asked| range(Some(*asked)));
+        self.text
+            .line("request", &answer, |asked| range(Some(*asked)));
         self.more(&format!("{channel}: {}", joined(ledger)));
         answer.err().unwrap_or(0)
     }
@@ -286,7 +213,7 @@ impl<'a, A: Answers> Run<'a, A> {
     fn reply(&mut self, ledger: &mut Words, channel: u16, first: u64, status: u8) -> u32 {
         let (on, asked) = (Channel(channel), Tick(first));
         let answer = self.answers.reply(ledger, on, asked, status);
-        self.line("reply", &answer, |settled| {
+        self.text.line("reply", &answer, |settled| {
             let numbers = |of: &[Tick]| joined(&of.iter().map(|t| t.0).collect::<Vec<_>>());
             let (up, passed) = (&settled.given_up, &settled.passed);
             format!("given up {}; passed {}", numbers(up), numbers(passed))
@@ -297,7 +224,7 @@ impl<'a, A: Answers> Run<'a, A> {
 
     fn told(&mut self, ledger: &Words) {
         let answer = self.answers.told(ledger);
-        self.line("told", &answer, |t| {
+        self.text.line("told", &answer, |t| {
             let counts = [t.missing, t.held, t.first, t.last];
             joined(&[&[t.channel, t.floor, t.top][..], &counts].concat())
         });
@@ -309,12 +236,12 @@ impl<'a, A: Answers> Run<'a, A> {
         let before = lent(room);
         let mut records = before.clone();
         let answer = self.answers.walk(capture, &mut records);
-        self.line("walk", &answer, |w| {
+        self.text.line("walk", &answer, |w| {
             let counts = [w.records as u64, w.frames, w.refused];
             format!("{}: {}", joined(&counts), joined(&w.ledger))
         });
         let n = answer.map_or(0, |w| w.records * SIZE);
-        self.buffer(&before, &records, n);
+        self.text.buffer(&before, &records, n);
     }
 
     /// The listing of records, into a buffer that lacks so many bytes or has so
@@ -327,9 +254,9 @@ impl<'a, A: Answers> Run<'a, A> {
         let before = lent(room);
         let mut text = before.clone();
         let answer = self.answers.listing(records, walked, &mut text);
-        self.line("listing", &answer, usize::to_string);
+        self.text.line("listing", &answer, usize::to_string);
         let n = answer.unwrap_or(0);
-        self.buffer(&before[n..], &text[n..], 0);
+        self.text.buffer(&before[n..], &text[n..], 0);
         for line in String::from_utf8_lossy(&text[..n]).lines() {
             self.more(line);
         }
@@ -340,14 +267,14 @@ impl<'a, A: Answers> Run<'a, A> {
         let before = lent(room);
         let mut out = before.clone();
         let answer = self.answers.clean(capture, &mut out);
-        self.line("clean", &answer, |c| {
+        self.text.line("clean", &answer, |c| {
             joined(&[c.bytes as u64, c.frames, c.after_damage])
         });
         if answer.is_ok_and(|c| c.after_damage > 0) {
-            self.line("damaged", &Ok(()), |()| String::new());
+            self.text.line("damaged", &Ok(()), |()| String::new());
         }
         let n = answer.map_or(0, |c| c.bytes);
-        self.buffer(&before, &out, n);
+        self.text.buffer(&before, &out, n);
         let unclean = self.answers.first_unclean(capture);
         self.more(&unclean.map_or("clean".to_string(), |place| place.to_string()));
         out[..n].to_vec()
@@ -364,7 +291,7 @@ impl<'a, A: Answers> Run<'a, A> {
             Some(cut) => ("feed", self.answers.feed(stream, cut, &mut records)),
             None => ("close", self.answers.close(stream, &mut records)),
         };
-        self.line(call, &answer, |fed| {
+        self.text.line(call, &answer, |fed| {
             joined(&[
                 fed.records as u64,
                 fed.frames,
@@ -374,7 +301,7 @@ impl<'a, A: Answers> Run<'a, A> {
             ])
         });
         let n = answer.map_or(0, |fed| fed.records * SIZE);
-        self.buffer(&before, &records, n);
+        self.text.buffer(&before, &records, n);
         let Parts {
             words,
             ledger,
@@ -392,6 +319,7 @@ impl<'a, A: Answers> Run<'a, A> {
 
 #[cfg(test)]
 mod tests {
+    use super::text::{count, untried, Given};
     use super::*;
     use crate::answers::Oracle;
 
@@ -402,7 +330,7 @@ mod tests {
         for n in 0..3_000 {
             count(&generated(&Oracle, 2, n), &mut given);
         }
-        assert_eq!(untried(&given), [""; 0]);
+        assert_eq!(untried(&given, &NUMBERS), [""; 0]);
     }
 
     #[test]

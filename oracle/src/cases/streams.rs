@@ -36,9 +36,9 @@ pub fn streams<A: Answers>(run: &mut Run<A>) {
 fn byte_by_byte<A: Answers>(run: &mut Run<A>, capture: &[u8]) {
     let mut stream = run.answers.stream_open();
     for byte in capture {
-        let quiet = run.text.len();
+        let quiet = run.text.out.len();
         if run.call(&mut stream, Some(&[*byte]), ROOM) == Some(0) {
-            run.text.truncate(quiet);
+            run.text.out.truncate(quiet);
         }
     }
     run.call(&mut stream, None, ROOM);
