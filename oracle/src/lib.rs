@@ -22,5 +22,6 @@ pub mod numbers;
 pub mod record;
 pub mod rules;
 pub mod scrub;
+pub mod step;
 pub mod stream;
 pub mod walk;
