@@ -100,11 +100,13 @@ pub extern "C" fn rk_listing(
     if answer != 0 {
         return answer;
     }
+    let floor = ledger.floor;
+    let top = ledger.top;
     let s = Summary {
         frames,
         refused,
-        floor: ledger.floor(),
-        top: ledger.top(),
+        floor,
+        top,
         missing: counted.count,
     };
     let laid = lines::put_listing(text, records, s);

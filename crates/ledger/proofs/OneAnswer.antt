@@ -27,14 +27,6 @@ use Rattle.ledger.proofs.Ledger.missing.Reads as missing
 use Rattle.ledger.proofs.Ledger.missing.Kinds as missing-kinds
 use Rattle.ledger.proofs.Ledger.held.Reads as held
 use Rattle.ledger.proofs.Ledger.held.Kinds as held-kinds
-use Rattle.ledger.proofs.Ledger.channel.Reads as channel
-use Rattle.ledger.proofs.Ledger.channel.Kinds as channel-kinds
-use Rattle.ledger.proofs.Ledger.floor.Reads as floor
-use Rattle.ledger.proofs.Ledger.floor.Kinds as floor-kinds
-use Rattle.ledger.proofs.Ledger.top.Reads as top
-use Rattle.ledger.proofs.Ledger.top.Kinds as top-kinds
-use Rattle.ledger.proofs.Ledger.pending.Reads as pending
-use Rattle.ledger.proofs.Ledger.pending.Kinds as pending-kinds
 
 noted-one : (x y : Noted) {p : Paper} {n : Ledger} → (paperOf (x .answer) ≡ p) × (x .next ≡ n) → (paperOf (y .answer) ≡ p) × (y .next ≡ n) → x ≡ y
 noted-one x y p q =
@@ -72,15 +64,3 @@ Ledger-missing-one-answer κs a x y s t p q = counted-one x y p q
 
 pub Ledger-held-one-answer : OneAnswer _ held-kinds.ps held-kinds.r held.Post
 Ledger-held-one-answer κs a x y s t p q = counted-one x y p q
-
-pub Ledger-channel-one-answer : OneAnswer _ channel-kinds.ps channel-kinds.r channel.Post
-Ledger-channel-one-answer κs a x y s t p q = p ∙ sym q
-
-pub Ledger-floor-one-answer : OneAnswer _ floor-kinds.ps floor-kinds.r floor.Post
-Ledger-floor-one-answer κs a x y s t p q = p ∙ sym q
-
-pub Ledger-top-one-answer : OneAnswer _ top-kinds.ps top-kinds.r top.Post
-Ledger-top-one-answer κs a x y s t p q = p ∙ sym q
-
-pub Ledger-pending-one-answer : OneAnswer _ pending-kinds.ps pending-kinds.r pending.Post
-Ledger-pending-one-answer κs a x y s t p q = pending-paper-one x y (p ∙ sym q)

@@ -31,14 +31,6 @@ use Rattle.ledger.proofs.Ledger.held.Reads as held
 use Rattle.ledger.proofs.Ledger.held.Kinds as held-kinds
 use Rattle.ledger.proofs.Ledger.opened.Reads as opened-reads
 use Rattle.ledger.proofs.Ledger.opened.Kinds as opened-kinds
-use Rattle.ledger.proofs.Ledger.channel.Reads as channel-reads
-use Rattle.ledger.proofs.Ledger.channel.Kinds as channel-kinds
-use Rattle.ledger.proofs.Ledger.floor.Reads as floor-reads
-use Rattle.ledger.proofs.Ledger.floor.Kinds as floor-kinds
-use Rattle.ledger.proofs.Ledger.top.Reads as top-reads
-use Rattle.ledger.proofs.Ledger.top.Kinds as top-kinds
-use Rattle.ledger.proofs.Ledger.pending.Reads as pending-reads
-use Rattle.ledger.proofs.Ledger.pending.Kinds as pending-kinds
 
 -- a ledger of channel 100: floor, top, the places held as one number (number n has place n % 256, so that 2 ^ 7 is number 7), and the pending range
 abbrev ledger : ℕ → ℕ → ℕ → Asked → Ledger
@@ -184,42 +176,3 @@ Ledger-opened-wrong =
 pub Ledger-opened-rules-out : RulesOut (Kept _ opened-kinds.ps opened-kinds.r opened-reads.Post) (λ c. c .args .0 .0) (λ c. shown (paperOf (c .result .answer)) (c .result .next)) Ledger-opened-wrong
 unfolding ledgerOf rotated mapOf valueOf fresh openOf
 Ledger-opened-rules-out = ruled (beside papers lists) (λ (n : ℕ). shown (answer (openNumber n) []) (ledgerOf (openOf n))) (λ c p. both p) _ refl
-
--- WHAT A LEDGER TELLS: one of its parts
-abbrev pub Ledger-channel-wrong : List (Row Ledger ℕ)
-Ledger-channel-wrong =
-    ledger 0 0 0 nothing only 100
-    ∷ record { channel = channelOf 7; floor = tickOf 0; top = tickOf 0; map = mapOf 0; pending = Nothing } never 100  -- one channel for all
-    ∷ []
-
-pub Ledger-channel-rules-out : RulesOut (Kept _ channel-kinds.ps channel-kinds.r channel-reads.Post) (λ c. c .args .0) (λ c. c .result .0) Ledger-channel-wrong
-Ledger-channel-rules-out = ruled numbers (λ (l : Ledger). l .channel .0) (λ c p. ap (λ (n : ChannelNumber). n .0) p) _ refl
-
-abbrev pub Ledger-floor-wrong : List (Row Ledger ℕ)
-Ledger-floor-wrong =
-    ledger 5 9 0 nothing never 9  -- the top for the floor
-    ∷ ledger 5 9 0 nothing only 5
-    ∷ []
-
-pub Ledger-floor-rules-out : RulesOut (Kept _ floor-kinds.ps floor-kinds.r floor-reads.Post) (λ c. c .args .0) (λ c. c .result .0) Ledger-floor-wrong
-Ledger-floor-rules-out = ruled numbers (λ (l : Ledger). l .floor .0) (λ c p. ap (λ (n : TickNumber). n .0) p) _ refl
-
-abbrev pub Ledger-top-wrong : List (Row Ledger ℕ)
-Ledger-top-wrong =
-    ledger 5 9 0 nothing never 5  -- the floor for the top
-    ∷ ledger 5 9 0 nothing only 9
-    ∷ []
-
-pub Ledger-top-rules-out : RulesOut (Kept _ top-kinds.ps top-kinds.r top-reads.Post) (λ c. c .args .0) (λ c. c .result .0) Ledger-top-wrong
-Ledger-top-rules-out = ruled numbers (λ (l : Ledger). l .top .0) (λ c p. ap (λ (n : TickNumber). n .0) p) _ refl
-
-abbrev pub Ledger-pending-wrong : List (Row Ledger Paper)
-Ledger-pending-wrong =
-    ledger 5 9 0 (range 6 9) never answer 0 []  -- nothing is ever pending
-    ∷ ledger 5 9 0 (range 6 9) never answer 0 (5 ∷ 9 ∷ [])  -- a range from the floor on
-    ∷ ledger 5 9 0 nothing only answer 0 []
-    ∷ []
-
-pub Ledger-pending-rules-out : RulesOut (Kept _ pending-kinds.ps pending-kinds.r pending-reads.Post) (λ c. c .args .0) (λ c. pendingPaper (c .result)) Ledger-pending-wrong
-unfolding bookOf
-Ledger-pending-rules-out = ruled papers (λ (l : Ledger). askedPaper (bookOf l .pending)) (λ c p. p) _ refl

@@ -12,7 +12,7 @@ ghost use Rattle.map.specs.Ring.{rotated};
 ghost use Rattle.book.specs.State.{range, largest, rangeRules, mapRules, soundOf};
 ghost use Rattle.ledger.specs.State.{askedOf, bookOf, ledgerOf, topped, nextIn, laidFrom};
 ghost use Rattle.book.specs.Calls.{Tick, Announce, Request, Reply, Missing, Held, replyStatus, startsAt, ownNumber, checkedOf, passes, taken, lastOf, reach, gaveUp, handed, replied, waiting, asked, answerTo, openNumber, openOf, fresh};
-ghost use Rattle.ledger.specs.Papers.{tickPaper, requestPaper, replyPaper, paperOf, countPaper, verdictNumber, pendingPaper, askedPaper};
+ghost use Rattle.ledger.specs.Papers.{tickPaper, requestPaper, replyPaper, paperOf, countPaper, verdictNumber};
 use map::Map;
 use terms::ChannelNumber;
 use terms::Refusal;
@@ -589,29 +589,5 @@ impl Ledger {
             count: held,
             answer: Answer::Done,
         }
-    }
-
-    pub fn channel(self) -> ChannelNumber
-        ensures { λ r. ⌜ r ≡ self .channel ⌝ }
-    {
-        self.channel // of the ledger
-    }
-
-    pub fn floor(self) -> TickNumber
-        ensures { λ r. ⌜ r ≡ self .floor ⌝ }
-    {
-        self.floor // all up to it received
-    }
-
-    pub fn top(self) -> TickNumber
-        ensures { λ r. ⌜ r ≡ self .top ⌝ }
-    {
-        self.top // the largest known
-    }
-
-    pub fn pending(self) -> Pending
-        ensures { λ r. ⌜ pendingPaper r ≡ askedPaper (bookOf self .pending) ⌝ }
-    {
-        self.pending // the range granted and not answered
     }
 }

@@ -27,11 +27,13 @@ fn last_of(walked: Walked) -> Summary
 {
     let ledger = walked.ledger;
     let counted = ledger.missing();
+    let floor = ledger.floor;
+    let top = ledger.top;
     Summary {
         frames: walked.frames as u64,
         refused: walked.refused as u64,
-        floor: ledger.floor(),
-        top: ledger.top(),
+        floor,
+        top,
         missing: counted.count,
     }
 }

@@ -213,10 +213,6 @@ ledger-answers =
     let Ledger-reply-one-answer = ledger.Ledger-reply-one-answer in
     let Ledger-missing-one-answer = ledger.Ledger-missing-one-answer in
     let Ledger-held-one-answer = ledger.Ledger-held-one-answer in
-    let Ledger-channel-one-answer = ledger.Ledger-channel-one-answer in
-    let Ledger-floor-one-answer = ledger.Ledger-floor-one-answer in
-    let Ledger-top-one-answer = ledger.Ledger-top-one-answer in
-    let Ledger-pending-one-answer = ledger.Ledger-pending-one-answer in
     named
 
 -- record

@@ -25,12 +25,6 @@ returns c =
     let p = c .before .before .missing .ensures .0 ∙ ap (λ (x : Ledger). answerTo (bookOf x) Missing) (c .before .before .before .ledger-in .ensures) in
     listing-refused _ _ _ _ _ _ (c .before .number-of .ensures ∙ one-number p) _ (c .if1 .taken)
 
-floor-requires : tie.Need-floor-requires
-floor-requires c κs = search needs
-
-top-requires : tie.Need-top-requires
-top-requires c κs = search needs
-
 put-listing-requires : tie.Need-put-listing-requires
 put-listing-requires c κs = search needs
 
@@ -42,11 +36,11 @@ same-length c = search needs
 
 returns-2 : tie.Need-returns-2
 returns-2 c =
-    let l = c .before .before .before .before .before .before .before .before .before .before .before .ledger-in .ensures in
-    let p = c .before .before .before .before .before .before .before .before .before .before .missing .ensures .0 ∙ ap (λ (x : Ledger). answerTo (bookOf x) Missing) l in
-    let s = last-line _ _ _ _ _ _ (c .before .before .before .before .before .before .before .floor .ensures ∙ ap (λ (x : Ledger). x .floor) l) (c .before .before .before .before .before .before .top .ensures ∙ ap (λ (x : Ledger). x .top) l) (ap (λ (x : Paper). valueAt x 0) p) in
+    let l = c .before .before .before .before .before .before .before .before .before .ledger-in .ensures in
+    let p = c .before .before .before .before .before .before .before .before .missing .ensures .0 ∙ ap (λ (x : Ledger). answerTo (bookOf x) Missing) l in
+    let s = last-line _ _ _ _ _ _ (ap (λ (x : Ledger). x .floor) l) (ap (λ (x : Ledger). x .top) l) (ap (λ (x : Paper). valueAt x 0) p) in
     let q = c .before .before .before .before .put-listing .ensures in
-    let laid = listing-laid _ _ _ _ _ _ (c .before .before .before .before .before .before .before .before .before .number-of .ensures ∙ one-number p) _ _ _ (c .before .before .before .before .before .before .before .before .if1 .left) s (q .0) (q .1) in
+    let laid = listing-laid _ _ _ _ _ _ (c .before .before .before .before .before .before .before .number-of .ensures ∙ one-number p) _ _ _ (c .before .before .before .before .before .before .if1 .left) s (q .0) (q .1) in
     (tells-as (laid .0) (c .told-bytes .ensures), laid .1)
 
 pub rk-listing-spec : {M : Type 1} → statement M
@@ -57,8 +51,6 @@ rk-listing-spec =
     missing-requires
     number-of-requires
     returns
-    floor-requires
-    top-requires
     put-listing-requires
     told-bytes-requires
     same-length

@@ -11,15 +11,9 @@ use Rattle.listing.proofs.last_of.Tie as tie
 missing-requires : tie.Need-missing-requires
 missing-requires c κs = search needs
 
-floor-requires : tie.Need-floor-requires
-floor-requires c κs = search needs
-
-top-requires : tie.Need-top-requires
-top-requires c κs = search needs
-
 returns : tie.Need-returns
 unfolding lastBy bookOf
-returns c = cc (ap (λ (p : Paper). valueAt p 0) (c .before .before .missing .ensures .0))
+returns c = cc (ap (λ (p : Paper). valueAt p 0) (c .missing .ensures .0))
 
 pub last-of-spec : {M : Type 1} → statement M
-last-of-spec = tie.close (tie.spec missing-requires floor-requires top-requires returns)
+last-of-spec = tie.close (tie.spec missing-requires returns)
