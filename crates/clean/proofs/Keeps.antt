@@ -11,15 +11,15 @@ use Rattle.terms.specs.Paper.{Paper, answer, one-number}
 use Rattle.terms.specs.Cases.{two, same}
 use Rattle.octets.specs.Papers.{laidIfRoom, room-there, room-lacks, laid-there, laid-kept}
 use Rattle.octets.specs.Overlays.{laid-nil}
-use Rattle.wire.specs.Frame.{bodyLength, readOf}
-use Rattle.wire.specs.GivenRead.{read-given}
+use Rattle.frame_spec.specs.Frame.{bodyLength, readOf}
+use Rattle.frame_spec.specs.GivenRead.{read-given}
 use Rattle.private.specs.Scrub.{scrubbed}
 use Rattle.private.specs.Into.{intoAnswer, intoLeaves}
 use Rattle.private.specs.IntoLaws.{into-room, into-laid, into-kept, into-given-0}
-use Rattle.seen.specs.declared.Seen.{Seen}
-use Rattle.seen.specs.Seen.{seenOf}
-use Rattle.seen.specs.SeenLaws.{seen-answer, seen-size, seen-blank}
-use Rattle.wash.specs.Turns.{scrubbed-none}
+use Rattle.reading.specs.declared.Seen.{Seen}
+use Rattle.reading.specs.Seen.{seenOf}
+use Rattle.reading.specs.SeenLaws.{seen-answer, seen-size, seen-blank}
+use Rattle.clean_spec.specs.Turns.{scrubbed-none}
 use Rattle.clean.specs.declared.Kept.{Kept}
 use Rattle.clean.specs.Passes.{keptOf}
 

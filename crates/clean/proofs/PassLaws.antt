@@ -14,21 +14,21 @@ use Rattle.octets.specs.Octets.{laid}
 use Rattle.octets.specs.Papers.{laidIfRoom, laid-there, laid-kept}
 use Rattle.octets.specs.Overlays.{laid-nil, laid-append, length-laid, take-front}
 use Rattle.private.specs.Scrub.{scrubbed}
-use Rattle.steps.specs.Literal.{fromOf, from-end}
-use Rattle.steps.specs.Frames.{joined, eachOf}
-use Rattle.seen.specs.declared.Seen.{Seen}
-use Rattle.seen.specs.Seen.{seenOf, saysOf}
-use Rattle.trail.specs.Walk.{sights, accepts, framesOf}
-use Rattle.trail.specs.Counts.{accepts-one}
+use Rattle.walk_laws.specs.Literal.{fromOf, from-end}
+use Rattle.walk_laws.specs.Frames.{joined, eachOf}
+use Rattle.reading.specs.declared.Seen.{Seen}
+use Rattle.reading.specs.Seen.{seenOf, saysOf}
+use Rattle.walk_spec.specs.Walk.{sights, accepts, framesOf}
+use Rattle.walk_spec.specs.Counts.{accepts-one}
 use Rattle.clean.specs.declared.Kept.{Kept}
 use Rattle.clean.specs.declared.Passed.{Passed}
-use Rattle.wash.specs.Clean.{framesIn, cleanIn, cleanOf, foundBy, foundIn, foundOf, differOf, checkOf}
+use Rattle.clean_spec.specs.Clean.{framesIn, cleanIn, cleanOf, foundBy, foundIn, foundOf, differOf, checkOf}
 use Rattle.clean.specs.Passes.{passedOf, keptOf}
-use Rattle.wash.specs.Steps.{Steps}
-use Rattle.wash.specs.Differ.{differ-end, differ-more}
-use Rattle.wire.specs.Search.{searchOf}
-use Rattle.trail.specs.Onward.{goes-inside}
-use Rattle.wash.specs.Turns.{refused-size, size-inside, size-small, steps-frame, steps-found, steps-none, frame-length, adds}
+use Rattle.clean_spec.specs.Steps.{Steps}
+use Rattle.clean_spec.specs.Differ.{differ-end, differ-more}
+use Rattle.frame_spec.specs.Search.{searchOf}
+use Rattle.walk_spec.specs.Onward.{goes-inside}
+use Rattle.clean_spec.specs.Turns.{refused-size, size-inside, size-small, steps-frame, steps-found, steps-none, frame-length, adds}
 
 -- whatever has room, the buffer keeps its length
 laid-length : (at : ℕ) (bs d : List ℕ) → length (laidIfRoom at bs d) ≡ length d

@@ -10,15 +10,15 @@ use Rattle.octets.specs.Octets.{numeral, digitsOf, laid, sum8, sumOf}
 use Rattle.calendar.specs.Calendar.{leap, daysIn, realParts, realTime}
 use Rattle.rules.specs.Table.{kindOf, suits, measureOf}
 use Rattle.rules.specs.Fields.{p002Ok, fieldsOk, judgeOf}
-use Rattle.wire.specs.Frame.{checked, readOf}
-use Rattle.wire.specs.Write.{plainOf, frameOf}
-use Rattle.wire.specs.Examples.{heartbeat, resend}
+use Rattle.frame_spec.specs.Frame.{checked, readOf}
+use Rattle.frame_spec.specs.Write.{plainOf, frameOf}
+use Rattle.frame_spec.specs.Examples.{heartbeat, resend}
 use Rattle.private.specs.Scrub.{painted, summed, scrubbed}
-use Rattle.steps.specs.Walk.{after, next, found, noted, sightsOf}
-use Rattle.steps.specs.Frames.{joined, eachOf}
-use Rattle.seen.specs.Seen.{seenOf, saysOf}
-use Rattle.trail.specs.Walk.{accepts, framesOf}
-use Rattle.wash.specs.Clean.{framesIn, cleanOf, foundBy, foundIn, fitsIn, cleanAnswer, cleanLeaves, differOf, checkOf}
+use Rattle.walk_laws.specs.Walk.{after, next, found, noted, sightsOf}
+use Rattle.walk_laws.specs.Frames.{joined, eachOf}
+use Rattle.reading.specs.Seen.{seenOf, saysOf}
+use Rattle.walk_spec.specs.Walk.{accepts, framesOf}
+use Rattle.clean_spec.specs.Clean.{framesIn, cleanOf, foundBy, foundIn, fitsIn, cleanAnswer, cleanLeaves, differOf, checkOf}
 use Rattle.clean.specs.Papers.{cleanPaper, checkPaper}
 use Rattle.clean.proofs.clean.Reads as clean
 use Rattle.clean.proofs.clean.Kinds as clean-kinds

@@ -11,19 +11,19 @@ use Rattle.terms.specs.Cases.{two}
 use Rattle.terms.specs.Refusals.{refusal-pos}
 use Rattle.terms.specs.declared.Refusal.{Refusal}
 use Rattle.octets.specs.Octets.{laid}
-use Rattle.book.specs.Words.{valueAt}
+use Rattle.ledger_spec.specs.Words.{valueAt}
 use Rattle.ledger.specs.declared.Answer.{Answer}
 use Rattle.ledger.specs.declared.Answer.the-variants.{Refused}
 use Rattle.ledger.specs.Papers.{paperOf, count-paper-one}
-use Rattle.trail.specs.Walk.{sights, framesOf}
+use Rattle.walk_spec.specs.Walk.{sights, framesOf}
 use Rattle.clean.specs.declared.Cleaned.{Cleaned}
 use Rattle.clean.specs.declared.Check.{Check}
 use Rattle.clean.specs.declared.Check.the-variants.{Clean, Changed}
 use Rattle.clean.specs.declared.Passed.{Passed}
-use Rattle.wash.specs.Clean.{cleanOf, foundOf, fitsIn, cleanAnswer, cleanLeaves}
+use Rattle.clean_spec.specs.Clean.{cleanOf, foundOf, fitsIn, cleanAnswer, cleanLeaves}
 use Rattle.clean.specs.Papers.{cleanPaper, checkPaper}
 use Rattle.clean.specs.Passes.{passedOf}
-use Rattle.wash.specs.Answers.{fits-room, left-kept, answer-done}
+use Rattle.clean_spec.specs.Answers.{fits-room, left-kept, answer-done}
 
 module _ (s : List ℕ) (x : Passed) (e : x ≡ passedOf s) where
   bytes-is : x .bytes ≡ length (cleanOf s)

@@ -2,11 +2,11 @@
 use Prim.Native.Nat.{ℕ}
 use mathlib.Core.List.{List}
 use lib.ListN.{length}
-use Rattle.trail.specs.Walk.{sights, framesOf}
-use Rattle.seen.specs.declared.Seen.{Seen}
+use Rattle.walk_spec.specs.Walk.{sights, framesOf}
+use Rattle.reading.specs.declared.Seen.{Seen}
 use Rattle.clean.specs.declared.Kept.{Kept}
 use Rattle.clean.specs.declared.Passed.{Passed}
-use Rattle.wash.specs.Clean.{cleanOf, foundOf}
+use Rattle.clean_spec.specs.Clean.{cleanOf, foundOf}
 
 abbrev pub keptOf : Seen → Kept
 keptOf x = record { answer = x .answer; size = x .size }

@@ -8,10 +8,10 @@ ghost use Rattle.terms.specs.Paper.{pick};
 ghost use Rattle.octets.specs.Octets.{laid};
 ghost use Rattle.octets.specs.Papers.{laidIfRoom};
 ghost use Rattle.private.specs.Scrub.{scrubbed};
-ghost use Rattle.seen.specs.Seen.{seenOf};
-ghost use Rattle.trail.specs.Walk.{accepts};
-ghost use Rattle.wash.specs.Clean.{cleanOf, differOf, foundBy, fitsIn, cleanAnswer, cleanLeaves, checkOf};
-ghost use Rattle.wash.specs.Steps.{Steps};
+ghost use Rattle.reading.specs.Seen.{seenOf};
+ghost use Rattle.walk_spec.specs.Walk.{accepts};
+ghost use Rattle.clean_spec.specs.Clean.{cleanOf, differOf, foundBy, fitsIn, cleanAnswer, cleanLeaves, checkOf};
+ghost use Rattle.clean_spec.specs.Steps.{Steps};
 ghost use Rattle.clean.specs.Papers.{cleanPaper, checkPaper};
 ghost use Rattle.clean.specs.Passes.{passedOf, keptOf};
 use frame::Found;
@@ -73,7 +73,7 @@ fn keep(capture: &[u8], p: usize, out: &mut [u8], n: usize) -> Kept
     match scrub::scrub_into(capture, p, out, n) {
         Written::Bytes(size) => Kept { answer: 0, size },
         Written::Refused(_) => {
-            let seen = seen::see(capture, p);
+            let seen = reading::see(capture, p);
             Kept {
                 answer: seen.answer,
                 size: seen.size,

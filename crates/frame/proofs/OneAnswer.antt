@@ -6,7 +6,7 @@ use Rattle.terms.specs.OneAnswer.{OneAnswer, OneContent}
 use Rattle.terms.specs.OneBuffer.{OneBuffer, RefusedKeeps}
 use Rattle.octets.specs.Papers.{Refuses, written-one}
 use Rattle.frame.specs.Papers.{read-one, found-one}
-use Rattle.wire.specs.WriteLaws.{refused-left}
+use Rattle.frame_spec.specs.WriteLaws.{refused-left}
 use Rattle.frame.proofs.read_at.Reads as read-at
 use Rattle.frame.proofs.read_at.Kinds as read-at-kinds
 use Rattle.frame.proofs.body_at.Reads as body-at

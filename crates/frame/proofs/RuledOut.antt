@@ -14,10 +14,10 @@ use Rattle.calendar.specs.Calendar.{leap, daysIn, realParts, realTime}
 use Rattle.rules.specs.Table.{kindOf, suits, measureOf}
 use Rattle.rules.specs.Bodies.{channelBody}
 use Rattle.rules.specs.Fields.{p001Ok, fieldsOk, judgeOf}
-use Rattle.wire.specs.Frame.{checked, readOf, bodyRead}
-use Rattle.wire.specs.Write.{Message, message, plainOf, frameOf, writeOf, leftOf}
-use Rattle.wire.specs.Search.{firstOf, searchOf}
-use Rattle.wire.specs.Examples.{startOfA, frameA, frameB, ending, A, timed, framed}
+use Rattle.frame_spec.specs.Frame.{checked, readOf, bodyRead}
+use Rattle.frame_spec.specs.Write.{Message, message, plainOf, frameOf, writeOf, leftOf}
+use Rattle.frame_spec.specs.Search.{firstOf, searchOf}
+use Rattle.frame_spec.specs.Examples.{startOfA, frameA, frameB, ending, A, timed, framed}
 use Rattle.terms.specs.Counters.{sessionOf}
 use Rattle.frame.specs.declared.Read.the-variants.{Frame}
 use Rattle.frame.specs.Papers.{readPaper, foundPaper}

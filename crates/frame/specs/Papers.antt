@@ -14,7 +14,7 @@ use Rattle.frame.specs.declared.Found.{Found}
 use Rattle.frame.specs.declared.Found.the-variants.{At, Nothing, Beyond}
 use Rattle.frame.specs.declared.Head.{Head}
 use Rattle.frame.specs.declared.Head.the-variants as Head
-use Rattle.wire.specs.Frame.{msgType, bodyLength, readOf, Whole}
+use Rattle.frame_spec.specs.Frame.{msgType, bodyLength, readOf, Whole}
 
 -- a frame's paper has MsgType, SendingTime, MsgSeqNum and BodyLength
 abbrev pub readPaper : Read → Paper

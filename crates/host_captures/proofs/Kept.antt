@@ -10,12 +10,12 @@ use lib.ListN.{length}
 use Rattle.terms.specs.Paper.{one-number}
 use Rattle.terms.specs.Cases.{two}
 use Rattle.octets.specs.Papers.{room-there, laid-kept}
-use Rattle.wire.specs.Frame.{checked}
-use Rattle.book.specs.Calls.{Missing}
-use Rattle.trail.specs.Walk.{fitsIn, walkAnswer, walkLeaves}
-use Rattle.trail.specs.Answers.{left-kept, answer-done}
-use Rattle.wash.specs.Clean as clean
-use Rattle.words.specs.Calls.{callTold, kept-by}
+use Rattle.frame_spec.specs.Frame.{checked}
+use Rattle.ledger_spec.specs.Calls.{Missing}
+use Rattle.walk_spec.specs.Walk.{fitsIn, walkAnswer, walkLeaves}
+use Rattle.walk_spec.specs.Answers.{left-kept, answer-done}
+use Rattle.clean_spec.specs.Clean as clean
+use Rattle.host_words.specs.Calls.{callTold, kept-by}
 use Rattle.host_captures.specs.Captures.{walkWords, listed, listingTold, listingLeaves}
 
 -- A WALK

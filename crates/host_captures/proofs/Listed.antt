@@ -16,25 +16,25 @@ use Rattle.terms.specs.Paper.{one-number}
 use Rattle.octets.specs.Octets.{Bytes}
 use Rattle.octets.specs.Overlays.{take-front}
 use Rattle.octets.specs.Papers.{roomFor, laidIfRoom, room-there, room-lacks, laid-there, laid-kept}
-use Rattle.wire.specs.Frame.{checked}
-use Rattle.book.specs.State.{Book, StateRules}
-use Rattle.book.specs.Calls.{Missing, ownNumber, numberTo, answerTo}
-use Rattle.book.proofs.Numbers.{checked-test}
-use Rattle.book.specs.Words.{valueAt}
+use Rattle.frame_spec.specs.Frame.{checked}
+use Rattle.ledger_spec.specs.State.{Book, StateRules}
+use Rattle.ledger_spec.specs.Calls.{Missing, ownNumber, numberTo, answerTo}
+use Rattle.ledger_spec.proofs.Numbers.{checked-test}
+use Rattle.ledger_spec.specs.Words.{valueAt}
 use Rattle.ledger.specs.declared.Ledger.{Ledger}
 use Rattle.ledger.specs.State.{ledgerOf}
-use Rattle.trail.specs.Walk.{walkOf, fitsIn, walkAnswer, walkBook, walkLeaves}
-use Rattle.trail.specs.Literal.{Walk, literalWalk}
-use Rattle.trail.specs.LiteralLaws.{literal-walk}
-use Rattle.trail.proofs.Demand3.{walk-demand-3}
+use Rattle.walk_spec.specs.Walk.{walkOf, fitsIn, walkAnswer, walkBook, walkLeaves}
+use Rattle.walk_spec.specs.Literal.{Walk, literalWalk}
+use Rattle.walk_spec.specs.LiteralLaws.{literal-walk}
+use Rattle.walk_spec.proofs.Demand3.{walk-demand-3}
 use Rattle.lines.specs.Laws.{tableOf, length-table, listing-table}
 use Rattle.lines.specs.Listing.{listingOf}
 use Rattle.lines.specs.Fit.{walk-fits}
 use Rattle.lines.specs.Listed.{listedOf}
-use Rattle.words.specs.Told.{toldBy}
-use Rattle.words.specs.Words.{wordsOf}
-use Rattle.words.proofs.Back.{book-words, book-back}
-use Rattle.words.specs.Calls.{keptBy, callTold}
+use Rattle.host_words.specs.Told.{toldBy}
+use Rattle.host_words.specs.Words.{wordsOf}
+use Rattle.host_words.proofs.Back.{book-words, book-back}
+use Rattle.host_words.specs.Calls.{keptBy, callTold}
 use Rattle.host_captures.specs.Captures.{walkWords, lastLine, listed, listingTold, listingLeaves, last-line}
 use Rattle.host_captures.specs.Listed.{lastOf, textOf, HostWalked, Lends, HostListed}
 use Rattle.host_captures.proofs.rk_walk.Reads as walk

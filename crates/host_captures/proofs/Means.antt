@@ -16,23 +16,23 @@ use lib.ListN.{length, getD}
 use Rattle.terms.specs.Paper.{Paper, one-number}
 use Rattle.terms.specs.Cases.{two}
 use Rattle.octets.specs.Papers.{roomFor, laidIfRoom, room-there, room-lacks, laid-there, laid-kept}
-use Rattle.wire.specs.Frame.{checked}
-use Rattle.book.specs.Calls.{Missing, ownNumber, numberTo, answerTo}
-use Rattle.book.specs.State.{Book, StateRules}
-use Rattle.book.proofs.Given.{given-13}
-use Rattle.book.proofs.Numbers.{checked-test}
+use Rattle.frame_spec.specs.Frame.{checked}
+use Rattle.ledger_spec.specs.Calls.{Missing, ownNumber, numberTo, answerTo}
+use Rattle.ledger_spec.specs.State.{Book, StateRules}
+use Rattle.ledger_spec.proofs.Given.{given-13}
+use Rattle.ledger_spec.proofs.Numbers.{checked-test}
 use Rattle.ledger.specs.State.{bookOf}
-use Rattle.trail.specs.Literal.{Walk, literalWalk}
-use Rattle.trail.specs.LiteralLaws.{literal-walk}
-use Rattle.trail.specs.Walk as walks
-use Rattle.wash.specs.Checks.{First, Differs, d-none, d-first, differs, check-clean}
-use Rattle.wash.specs.Clean as cleans
-use Rattle.wash.specs.Clean.{cleanOf, differOf, checkOf}
+use Rattle.walk_spec.specs.Literal.{Walk, literalWalk}
+use Rattle.walk_spec.specs.LiteralLaws.{literal-walk}
+use Rattle.walk_spec.specs.Walk as walks
+use Rattle.clean_spec.specs.Checks.{First, Differs, d-none, d-first, differs, check-clean}
+use Rattle.clean_spec.specs.Clean as cleans
+use Rattle.clean_spec.specs.Clean.{cleanOf, differOf, checkOf}
 use Rattle.lines.specs.Listed.{lastAt}
 use Rattle.lines.specs.Listing.{listingOf}
-use Rattle.words.specs.Told.{perhaps, toldBy, Tells}
-use Rattle.words.specs.Words.{bookIn}
-use Rattle.words.specs.Calls.{keptBy, callTold}
+use Rattle.host_words.specs.Told.{perhaps, toldBy, Tells}
+use Rattle.host_words.specs.Words.{bookIn}
+use Rattle.host_words.specs.Calls.{keptBy, callTold}
 use Rattle.host_captures.specs.Captures.{walkWords, listed, listingTold, listingLeaves, cleanTold}
 use Rattle.host_captures.specs.Listed.{HostListed}
 use Rattle.host_captures.specs.Means.{HostCleaned, HostChecked}

@@ -5,7 +5,7 @@ use mathlib.Core.List.{[], _∷_}
 use denote.Ref.{now}
 use Rattle.terms.specs.OneAnswer.{OneAnswer}
 use Rattle.terms.specs.OneBuffer.{OneBuffer, RefusedKeeps}
-use Rattle.words.specs.Told.{both, Refuses, tells-kept}
+use Rattle.host_words.specs.Told.{both, Refuses, tells-kept}
 use Rattle.host_captures.proofs.Kept.{walk-kept, walk-left, clean-kept, listing-kept}
 use Rattle.host_captures.proofs.rk_walk.Reads as rk-walk
 use Rattle.host_captures.proofs.rk_walk.Kinds as rk-walk-kinds

@@ -15,33 +15,33 @@ use Rattle.digits.specs.Digits.{decimalOf, widthIn}
 use Rattle.calendar.specs.Calendar.{leap, daysIn, realParts, realTime}
 use Rattle.rules.specs.Table.{kindOf, suits, measureOf}
 use Rattle.rules.specs.Fields.{p001Ok, p002Ok, fieldsOk, judgeOf}
-use Rattle.wire.specs.Frame.{checked, readOf, bodyRead}
-use Rattle.wire.specs.Write.{plainOf, frameOf}
-use Rattle.wire.specs.Examples.{startOfA, frameA, frameB, capture, heartbeat, resend}
-use Rattle.view.specs.View.{viewOf}
+use Rattle.frame_spec.specs.Frame.{checked, readOf, bodyRead}
+use Rattle.frame_spec.specs.Write.{plainOf, frameOf}
+use Rattle.frame_spec.specs.Examples.{startOfA, frameA, frameB, capture, heartbeat, resend}
+use Rattle.frame_view.specs.View.{viewOf}
 use Rattle.private.specs.Scrub.{painted, summed, scrubbed}
-use Rattle.map.specs.Bits.{valueOf, mapOf}
-use Rattle.map.specs.Ring.{rotated}
-use Rattle.book.specs.State.{rangeRules, mapRules, soundOf}
-use Rattle.book.specs.Calls.{ownNumber, checkedOf, numberTo, raised, done, missingCount, valuesOf, answerTo, nextOf, fresh}
+use Rattle.tick_map.specs.Bits.{valueOf, mapOf}
+use Rattle.tick_map.specs.Ring.{rotated}
+use Rattle.ledger_spec.specs.State.{rangeRules, mapRules, soundOf}
+use Rattle.ledger_spec.specs.Calls.{ownNumber, checkedOf, numberTo, raised, done, missingCount, valuesOf, answerTo, nextOf, fresh}
 use Rattle.ledger.specs.State.{bookOf, ledgerOf}
-use Rattle.steps.specs.Walk.{after, next, found, noted, sightsOf}
-use Rattle.steps.specs.Account as Account
-use Rattle.steps.specs.Frames.{joined, eachOf}
+use Rattle.walk_laws.specs.Walk.{after, next, found, noted, sightsOf}
+use Rattle.walk_laws.specs.Account as Account
+use Rattle.walk_laws.specs.Frames.{joined, eachOf}
 use Rattle.record.specs.Record.{firstHalf, secondHalf, recordOf, recordAt, blankOf}
 use Rattle.record.specs.Examples.{recordA, recordFF, recordB}
 use Rattle.report.specs.declared.Summary.{Summary}
 use Rattle.report.specs.Text.{column, typeColumn, firstColumns, lastColumns, lineOf, named, summaryOf}
-use Rattle.seen.specs.Seen.{seenOf, saysOf}
-use Rattle.trail.specs.Offers.{callsBy, answered, offerOf}
-use Rattle.trail.specs.Walk as Walk
-use Rattle.trail.specs.Walk.{madeOf, recordBy, bookBy, accepts, refuses, framesOf, refusedOf, walkAnswer, walkBook, walkLeaves}
-use Rattle.wash.specs.Clean as Clean
-use Rattle.wash.specs.Clean.{framesIn, cleanOf, foundBy, foundIn, cleanAnswer, cleanLeaves, differOf, checkOf}
+use Rattle.reading.specs.Seen.{seenOf, saysOf}
+use Rattle.walk_spec.specs.Offers.{callsBy, answered, offerOf}
+use Rattle.walk_spec.specs.Walk as Walk
+use Rattle.walk_spec.specs.Walk.{madeOf, recordBy, bookBy, accepts, refuses, framesOf, refusedOf, walkAnswer, walkBook, walkLeaves}
+use Rattle.clean_spec.specs.Clean as Clean
+use Rattle.clean_spec.specs.Clean.{framesIn, cleanOf, foundBy, foundIn, cleanAnswer, cleanLeaves, differOf, checkOf}
 use Rattle.lines.specs.Listing.{recordsFrom, recordsIn, linesOf, listingOf}
-use Rattle.words.specs.Words.{wordsOf, pendingIn, ledgerIn}
-use Rattle.words.specs.Calls.{keptBy}
-use Rattle.words.specs.Told.{toldBy, Tells}
+use Rattle.host_words.specs.Words.{wordsOf, pendingIn, ledgerIn}
+use Rattle.host_words.specs.Calls.{keptBy}
+use Rattle.host_words.specs.Told.{toldBy, Tells}
 use Rattle.host_captures.specs.Captures.{walkWords, listingTold, listingLeaves, cleanTold}
 use Rattle.host_captures.proofs.rk_walk.Reads as rk-walk
 use Rattle.host_captures.proofs.rk_walk.Kinds as rk-walk-kinds

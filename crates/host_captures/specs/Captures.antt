@@ -8,18 +8,18 @@ use borrow.Author.Tests.{ne-eqb}
 use Rattle.terms.specs.Paper.{Paper, pick}
 use Rattle.terms.specs.declared.TickNumber.{TickNumber}
 use Rattle.octets.specs.Papers.{roomFor, laidIfRoom}
-use Rattle.wire.specs.Frame.{checked}
-use Rattle.book.specs.Words.{valueAt}
-use Rattle.book.specs.Calls.{Missing}
+use Rattle.frame_spec.specs.Frame.{checked}
+use Rattle.ledger_spec.specs.Words.{valueAt}
+use Rattle.ledger_spec.specs.Calls.{Missing}
 use Rattle.ledger.specs.State.{ledgerOf}
 use Rattle.ledger.specs.declared.Ledger.{Ledger}
 use Rattle.report.specs.declared.Summary.{Summary}
-use Rattle.trail.specs.Walk.{walkAnswer, walkBook}
+use Rattle.walk_spec.specs.Walk.{walkAnswer, walkBook}
 use Rattle.lines.specs.Listing.{listingOf}
-use Rattle.wash.specs.Clean.{checkOf}
-use Rattle.words.specs.Told.{perhaps, retold, Tells, tells-refused}
-use Rattle.words.specs.Words.{ledgerIn}
-use Rattle.words.specs.Calls.{keptBy, callTold}
+use Rattle.clean_spec.specs.Clean.{checkOf}
+use Rattle.host_words.specs.Told.{perhaps, retold, Tells, tells-refused}
+use Rattle.host_words.specs.Words.{ledgerIn}
+use Rattle.host_words.specs.Calls.{keptBy, callTold}
 
 -- the words after a walk: those of channel 100's ledger; beside 8 as they were
 unfoldable pub walkWords : List ℕ → ℕ → List ℕ → List ℕ

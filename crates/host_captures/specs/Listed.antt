@@ -6,11 +6,11 @@ use lib.ListN.{length, getD, take}
 use Rattle.octets.specs.Octets.{laid}
 use Rattle.ledger.specs.State.{ledgerOf}
 use Rattle.report.specs.declared.Summary.{Summary}
-use Rattle.trail.specs.Literal.{Walk}
+use Rattle.walk_spec.specs.Literal.{Walk}
 use Rattle.lines.specs.Laws.{tableOf}
 use Rattle.lines.specs.Listing.{listingOf}
 use Rattle.lines.specs.Listed.{lastAt}
-use Rattle.words.specs.Words.{wordsOf}
+use Rattle.host_words.specs.Words.{wordsOf}
 
 -- the numbers of the last line: the walk's counts, and its ledger's floor, top and missing count
 abbrev pub lastOf : Walk → Summary

@@ -7,9 +7,9 @@ use mathlib.Core.Logic.{_↔_}
 use mathlib.Core.List.{List, [], _∷_}
 use lib.ListN.{length}
 use Rattle.octets.specs.Octets.{laid}
-use Rattle.trail.specs.Walk.{sights, framesOf}
-use Rattle.wash.specs.Clean.{cleanOf, foundOf}
-use Rattle.wash.specs.Checks.{First}
+use Rattle.walk_spec.specs.Walk.{sights, framesOf}
+use Rattle.clean_spec.specs.Clean.{cleanOf, foundOf}
+use Rattle.clean_spec.specs.Checks.{First}
 
 -- rk_clean of the capture c into d, with room for all of it: how many bytes and frames, and how many of these the search found behind damage
 pub record HostCleaned (c d : List ℕ) (x : ℕ) (row d′ : List ℕ) : Type 0 where

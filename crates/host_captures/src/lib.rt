@@ -1,14 +1,14 @@
-// What C and Rust may call on whole captures, answered and told as in `host`. A refusal writes nothing: neither what is told, nor into a buffer,
-// nor into the nine words of a ledger (crate `words`).
+// What C and Rust may call on whole captures, answered and told as in `host_frames`. A refusal writes nothing: neither what is told, nor into a buffer,
+// nor into the nine words of a ledger (crate `host_words`).
 ghost use mathlib.Core.Path.{_≡_};
 ghost use mathlib.Core.List.{[], _∷_};
 ghost use lib.ListN.{length};
 ghost use Rattle.octets.specs.Papers.{writtenPaper};
 ghost use Rattle.ledger.specs.Papers.{paperOf};
-ghost use Rattle.trail.specs.Walk.{walkAnswer, walkLeaves};
-ghost use Rattle.wash.specs.Clean.{cleanAnswer, cleanLeaves};
-ghost use Rattle.words.specs.Told.{Tells};
-ghost use Rattle.words.specs.Calls.{keptBy};
+ghost use Rattle.walk_spec.specs.Walk.{walkAnswer, walkLeaves};
+ghost use Rattle.clean_spec.specs.Clean.{cleanAnswer, cleanLeaves};
+ghost use Rattle.host_words.specs.Told.{Tells};
+ghost use Rattle.host_words.specs.Calls.{keptBy};
 ghost use Rattle.host_captures.specs.Captures.{walkWords, listingTold, listingLeaves, cleanTold};
 use clean::Check;
 use ledger::Answer;
@@ -16,7 +16,7 @@ use ledger::Ledger;
 use octets::Written;
 use report::Summary;
 
-// WHAT AN ANSWER COMES TO: three small functions as `host_ledger` and `host` have them for themselves
+// WHAT AN ANSWER COMES TO: three small functions as `host_ledger` and `host_frames` have them for themselves
 
 fn number_of(a: Answer) -> u32
     ensures { λ r. ⌜ r ≡ paperOf a .number ⌝ }
@@ -32,9 +32,9 @@ fn keep(state: &mut [u64; 9], answer: u32, next: Ledger)
     ensures { λ _. ⌜ now (state .exit) ≡ keptBy answer next (now (state .entry)) ⌝ }
 {
     if answer == 0 {
-        *state = words::state_of(next);
+        *state = host_words::state_of(next);
     } else if answer == 12 {
-        *state = words::state_of(next);
+        *state = host_words::state_of(next);
     }
 }
 
@@ -93,7 +93,7 @@ pub extern "C" fn rk_listing(
     ensures { λ r. ⌜ Tells (listingTold (now (records .entry)) frames refused (now (state .entry)) (length (now (text .entry)))) (now (told .entry) ∷ []) r (now (told .exit) ∷ [])
         × (now (text .exit) ≡ listingLeaves (now (records .entry)) frames refused (now (state .entry)) (now (text .entry))) ⌝ }
 {
-    let ledger = words::ledger_in(state);
+    let ledger = host_words::ledger_in(state);
     let counted = ledger.missing();
     let given = counted.answer;
     let answer = number_of(given);

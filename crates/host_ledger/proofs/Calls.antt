@@ -9,15 +9,15 @@ use Rattle.terms.specs.declared.Refusal.{Refusal}
 use Rattle.terms.specs.Paper.{Paper, answer, refusal, one-number}
 use Rattle.terms.specs.Refusals.{numberOf}
 use Rattle.terms.specs.Counters.{channelOf}
-use Rattle.book.specs.Calls.{Call, answerTo, openNumber, openOf}
+use Rattle.ledger_spec.specs.Calls.{Call, answerTo, openNumber, openOf}
 use Rattle.ledger.specs.declared.Ledger.{Ledger}
 use Rattle.ledger.specs.State.{bookOf, ledgerOf, nextIn, laidFrom}
 use Rattle.ledger.specs.Papers.{replyPaper}
 use Rattle.ledger.specs.declared.ReplyAnswer.the-variants.{Cleared}
-use Rattle.map.specs.declared.Map.{Map}
-use Rattle.words.specs.Told.{Tells, retold, tells-done, tells-why}
-use Rattle.words.specs.Words.{ledgerIn}
-use Rattle.words.specs.Calls.{keptBy, callTold, wordsAfter}
+use Rattle.tick_map.specs.declared.Map.{Map}
+use Rattle.host_words.specs.Told.{Tells, retold, tells-done, tells-why}
+use Rattle.host_words.specs.Words.{ledgerIn}
+use Rattle.host_words.specs.Calls.{keptBy, callTold, wordsAfter}
 use Rattle.host_ledger.specs.Words.{openWords, rowOf, settledRow, replyTold, settled-row}
 
 -- the call as it is given, on the ledger l, and the ledger next that it gives

@@ -8,10 +8,10 @@ use native.Mathlib.Omega.{arith}
 use lib.Dec.{ltb}
 use borrow.Author.Tests.{eqb-false}
 use Rattle.terms.specs.Cases.{two}
-use Rattle.book.specs.Calls.{Call, Announce, Request, Reply, answerTo, openNumber}
+use Rattle.ledger_spec.specs.Calls.{Call, Announce, Request, Reply, answerTo, openNumber}
 use Rattle.ledger.proofs.Seam.{announce-not-12, request-not-12, reply-not-12}
-use Rattle.words.specs.Words.{bookIn}
-use Rattle.words.specs.Calls.{callTold, wordsAfter, kept-by}
+use Rattle.host_words.specs.Words.{bookIn}
+use Rattle.host_words.specs.Calls.{callTold, wordsAfter, kept-by}
 use Rattle.host_ledger.specs.Words.{openWords}
 
 pub call-kept : (w : List ℕ) (call : Call) → (callTold w call .number ≡ 0 → ⊥) → (callTold w call .number ≡ 12 → ⊥) → wordsAfter w call ≡ w

@@ -4,7 +4,7 @@ use mathlib.Core.Path.{_≡_, sym, ap₂, _∙_}
 use denote.Ref.{now}
 use Rattle.terms.specs.OneAnswer.{OneAnswer}
 use Rattle.terms.specs.OneBuffer.{OneBuffer, RefusedKeeps}
-use Rattle.words.specs.Told.{both, Refuses, tells-kept}
+use Rattle.host_words.specs.Told.{both, Refuses, tells-kept}
 use Rattle.host_ledger.proofs.Kept.{call-kept, announce-kept, request-kept, reply-kept, open-kept}
 use Rattle.host_ledger.proofs.rk_ledger_open.Reads as rk-ledger-open
 use Rattle.host_ledger.proofs.rk_ledger_open.Kinds as rk-ledger-open-kinds

@@ -17,33 +17,33 @@ use lib.Dec.{eqb}
 use lib.ListN.{length, getD}
 use Rattle.terms.specs.Paper.{Paper, answer, refusal, one-number}
 use Rattle.terms.specs.Cases.{two, same, clash}
-use Rattle.map.specs.Bits.{bitsIn, mapOf}
-use Rattle.map.specs.Ring.{rotated, laid}
-use Rattle.map.proofs.Ring.{rotated-laid}
-use Rattle.book.specs.State.{Book, soundOf, StateRules}
-use Rattle.book.specs.Calls.{Call, Tick, Announce, Request, Reply, Missing, Held, offered, elsewhere, ownNumber, checkedOf, reach, leaps, gaveUp, handed, raised, done, valuesOf, beside, numberTo, answerTo, nextOf, openOf, missingCount, heldCount}
-use Rattle.book.specs.Trace.{Calls, none, _▸_, after, History, start, _▸_⇒_, trace}
-use Rattle.book.specs.Words.{valueAt, answered, givesUp, givenUp}
-use Rattle.book.specs.Answers.{TickAnswers, AnnounceAnswers, ReplyAnswers}
-use Rattle.book.specs.GivenUp.{InRange, NamesApart}
-use Rattle.book.specs.Demand3.{Demand3, Requests}
-use Rattle.book.proofs.Answers.{keeps}
-use Rattle.book.proofs.Demand3.{demand-3}
-use Rattle.book.proofs.Told.{told-tick, told-announce, told-request, told-reply, told-late, told-gives-up, told-names-apart}
-use Rattle.book.proofs.Given.{given-13}
-use Rattle.book.proofs.Numbers.{checked-facts, checked-test}
-use Rattle.book.proofs.Rules.{rules-facts, rules-test}
-use Rattle.book.proofs.Steps.{reach-near, rules-kept}
+use Rattle.tick_map.specs.Bits.{bitsIn, mapOf}
+use Rattle.tick_map.specs.Ring.{rotated, laid}
+use Rattle.tick_map.proofs.Ring.{rotated-laid}
+use Rattle.ledger_spec.specs.State.{Book, soundOf, StateRules}
+use Rattle.ledger_spec.specs.Calls.{Call, Tick, Announce, Request, Reply, Missing, Held, offered, elsewhere, ownNumber, checkedOf, reach, leaps, gaveUp, handed, raised, done, valuesOf, beside, numberTo, answerTo, nextOf, openOf, missingCount, heldCount}
+use Rattle.ledger_spec.specs.Trace.{Calls, none, _▸_, after, History, start, _▸_⇒_, trace}
+use Rattle.ledger_spec.specs.Words.{valueAt, answered, givesUp, givenUp}
+use Rattle.ledger_spec.specs.Answers.{TickAnswers, AnnounceAnswers, ReplyAnswers}
+use Rattle.ledger_spec.specs.GivenUp.{InRange, NamesApart}
+use Rattle.ledger_spec.specs.Demand3.{Demand3, Requests}
+use Rattle.ledger_spec.proofs.Answers.{keeps}
+use Rattle.ledger_spec.proofs.Demand3.{demand-3}
+use Rattle.ledger_spec.proofs.Told.{told-tick, told-announce, told-request, told-reply, told-late, told-gives-up, told-names-apart}
+use Rattle.ledger_spec.proofs.Given.{given-13}
+use Rattle.ledger_spec.proofs.Numbers.{checked-facts, checked-test}
+use Rattle.ledger_spec.proofs.Rules.{rules-facts, rules-test}
+use Rattle.ledger_spec.proofs.Steps.{reach-near, rules-kept}
 use Rattle.ledger.specs.declared.Ledger.{Ledger}
 use Rattle.ledger.specs.declared.Pending.{Pending}
 use Rattle.ledger.specs.declared.Pending.the-variants.{Nothing, Range}
 use Rattle.ledger.specs.State.{askedOf, bookOf, ledgerOf, topped}
 use Rattle.ledger.proofs.Seam.{laid-of, done-by, far-by}
-use Rattle.words.specs.Told.{Tells, toldBy, seen}
-use Rattle.words.specs.Words.{firstAsked, lastAsked, wordsOf, ledgerIn, withTop, bookIn}
-use Rattle.words.specs.Calls.{keptBy, callTold, wordsAfter}
-use Rattle.words.proofs.Back.{words-back, book-back}
-use Rattle.words.proofs.Rows.{call-words, far-words}
+use Rattle.host_words.specs.Told.{Tells, toldBy, seen}
+use Rattle.host_words.specs.Words.{firstAsked, lastAsked, wordsOf, ledgerIn, withTop, bookIn}
+use Rattle.host_words.specs.Calls.{keptBy, callTold, wordsAfter}
+use Rattle.host_words.proofs.Back.{words-back, book-back}
+use Rattle.host_words.proofs.Rows.{call-words, far-words}
 use Rattle.host_ledger.specs.Words.{openWords, ledgerTold, settledRow, replyTold}
 use Rattle.host_ledger.specs.Called.{counted, setsIn, settledBy, Called, HostRan, opening, one-more, askedNumbers, bookNumbers, historyNumbers}
 use Rattle.host_ledger.proofs.Kept.{call-kept}

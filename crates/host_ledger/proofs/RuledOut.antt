@@ -7,14 +7,14 @@ use denote.Ref.{now}
 use lib.Count.{ones, trailingZeros}
 use Rattle.terms.specs.Paper.{Paper}
 use Rattle.terms.specs.RuledOut.{Row, _never_, _only_, Kept, RulesOut, ruled, numbers, lists, beside}
-use Rattle.map.specs.Bits.{valueOf, mapOf, run}
-use Rattle.map.specs.Ring.{rotated}
-use Rattle.book.specs.State.{has, rangeRules, mapRules, soundOf}
-use Rattle.book.specs.Calls.{Call, Tick, Announce, Request, Reply, openNumber, ownNumber, checkedOf, numberTo, passes, taken, reach, leaps, gaveUp, handed, replied, raised, waiting, asked, done, missingCount, heldCount, valuesOf, answerTo, fresh, openOf}
+use Rattle.tick_map.specs.Bits.{valueOf, mapOf, run}
+use Rattle.tick_map.specs.Ring.{rotated}
+use Rattle.ledger_spec.specs.State.{has, rangeRules, mapRules, soundOf}
+use Rattle.ledger_spec.specs.Calls.{Call, Tick, Announce, Request, Reply, openNumber, ownNumber, checkedOf, numberTo, passes, taken, reach, leaps, gaveUp, handed, replied, raised, waiting, asked, done, missingCount, heldCount, valuesOf, answerTo, fresh, openOf}
 use Rattle.ledger.specs.State.{bookOf, ledgerOf, nextBy}
-use Rattle.words.specs.Words.{wordsOf, pendingIn, ledgerIn}
-use Rattle.words.specs.Calls.{keptBy, callTold, wordsAfter}
-use Rattle.words.specs.Told.{toldBy, Tells}
+use Rattle.host_words.specs.Words.{wordsOf, pendingIn, ledgerIn}
+use Rattle.host_words.specs.Calls.{keptBy, callTold, wordsAfter}
+use Rattle.host_words.specs.Told.{toldBy, Tells}
 use Rattle.host_ledger.specs.Words.{openWords, ledgerTold, settledRow, replyTold}
 use Rattle.host_ledger.proofs.rk_ledger_open.Reads as rk-open
 use Rattle.host_ledger.proofs.rk_ledger_open.Kinds as rk-open-kinds

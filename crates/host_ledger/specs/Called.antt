@@ -6,14 +6,14 @@ use mathlib.Core.List.{List, [], _∷_}
 use lib.Dec.{eqb}
 use lib.ListN.{getD}
 use Rattle.terms.specs.Paper.{Paper, answer, pick}
-use Rattle.map.specs.Bits.{valueOf}
-use Rattle.map.specs.Ring.{rotated}
-use Rattle.book.specs.State.{Asked, nothing, range, Book, StateRules}
-use Rattle.book.specs.Calls.{Call, numberTo, answerTo, nextOf, fresh, missingCount, heldCount}
-use Rattle.book.specs.Trace.{Calls, none, _▸_, History, start, _▸_⇒_}
-use Rattle.book.specs.Words.{knownTop, pending, held, missing, count, floorOf}
+use Rattle.tick_map.specs.Bits.{valueOf}
+use Rattle.tick_map.specs.Ring.{rotated}
+use Rattle.ledger_spec.specs.State.{Asked, nothing, range, Book, StateRules}
+use Rattle.ledger_spec.specs.Calls.{Call, numberTo, answerTo, nextOf, fresh, missingCount, heldCount}
+use Rattle.ledger_spec.specs.Trace.{Calls, none, _▸_, History, start, _▸_⇒_}
+use Rattle.ledger_spec.specs.Words.{knownTop, pending, held, missing, count, floorOf}
 use Rattle.ledger.specs.State.{ledgerOf}
-use Rattle.words.specs.Words.{wordsOf, bookIn}
+use Rattle.host_words.specs.Words.{wordsOf, bookIn}
 
 -- WHAT THE CALLER SEES of a count, which is one number of a told row: 0 beside a refusal
 abbrev pub counted : ℕ → ℕ → Paper

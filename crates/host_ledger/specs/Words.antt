@@ -5,15 +5,15 @@ use mathlib.Core.List.{List, [], _∷_, _++_}
 use lib.ListN.{getD}
 use Rattle.terms.specs.Paper.{Paper, answer}
 use Rattle.terms.specs.declared.TickNumber.{TickNumber}
-use Rattle.map.specs.Bits.{bitsIn, mapOf}
-use Rattle.map.specs.Ring.{rotated, laid}
-use Rattle.map.specs.declared.Map.{Map}
-use Rattle.book.specs.Calls.{Call, Missing, Held, answerTo, openNumber, openOf}
+use Rattle.tick_map.specs.Bits.{bitsIn, mapOf}
+use Rattle.tick_map.specs.Ring.{rotated, laid}
+use Rattle.tick_map.specs.declared.Map.{Map}
+use Rattle.ledger_spec.specs.Calls.{Call, Missing, Held, answerTo, openNumber, openOf}
 use Rattle.ledger.specs.declared.Ledger.{Ledger}
 use Rattle.ledger.specs.State.{bookOf, ledgerOf, laidFrom}
-use Rattle.words.specs.Words.{firstAsked, lastAsked, ledgerIn}
-use Rattle.words.specs.Told.{retold}
-use Rattle.words.specs.Calls.{keptBy, callTold}
+use Rattle.host_words.specs.Words.{firstAsked, lastAsked, ledgerIn}
+use Rattle.host_words.specs.Told.{retold}
+use Rattle.host_words.specs.Calls.{keptBy, callTold}
 
 -- the words after opening: 10 leaves them as they were
 unfoldable pub openWords : ℕ → List ℕ → List ℕ

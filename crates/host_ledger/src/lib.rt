@@ -1,17 +1,17 @@
-// What C and Rust may call on a ledger, answered and told as in `host`. A ledger is nine numbers, those of the crate `words`. A refusal writes
+// What C and Rust may call on a ledger, answered and told as in `host_frames`. A ledger is nine numbers, those of the crate `host_words`. A refusal writes
 // nothing; only 12 changes a ledger, and only its top.
 ghost use mathlib.Core.Path.{_≡_};
-ghost use Rattle.book.specs.Calls.{Tick, Announce, Request, Reply, openNumber};
+ghost use Rattle.ledger_spec.specs.Calls.{Tick, Announce, Request, Reply, openNumber};
 ghost use Rattle.ledger.specs.Papers.{paperOf};
-ghost use Rattle.words.specs.Told.{Tells};
-ghost use Rattle.words.specs.Calls.{keptBy, callTold, wordsAfter};
+ghost use Rattle.host_words.specs.Told.{Tells};
+ghost use Rattle.host_words.specs.Calls.{keptBy, callTold, wordsAfter};
 ghost use Rattle.host_ledger.specs.Words.{openWords, ledgerTold, rowOf, replyTold};
 use ledger::Answer;
 use ledger::Ledger;
 use ledger::ReplyAnswer;
 use ledger::RequestAnswer;
 use ledger::TickAnswer;
-use map::Map;
+use tick_map::Map;
 use terms::ChannelNumber;
 use terms::TickNumber;
 
@@ -29,9 +29,9 @@ fn keep(state: &mut [u64; 9], answer: u32, next: Ledger)
     ensures { λ _. ⌜ now (state .exit) ≡ keptBy answer next (now (state .entry)) ⌝ }
 {
     if answer == 0 {
-        *state = words::state_of(next);
+        *state = host_words::state_of(next);
     } else if answer == 12 {
-        *state = words::state_of(next);
+        *state = host_words::state_of(next);
     }
 }
 
@@ -59,7 +59,7 @@ pub extern "C" fn rk_ledger_tick(
     ensures { λ r. ⌜ Tells (callTold (now (state .entry)) (Tick channel number)) (now (told .entry)) r (now (told .exit))
         × (now (state .exit) ≡ wordsAfter (now (state .entry)) (Tick channel number)) ⌝ }
 {
-    let ticked = words::ledger_in(state).tick(ChannelNumber::new(channel), TickNumber::new(number));
+    let ticked = host_words::ledger_in(state).tick(ChannelNumber::new(channel), TickNumber::new(number));
     let next = ticked.next;
     let answer = ticked.answer;
     match answer {
@@ -82,7 +82,7 @@ pub extern "C" fn rk_ledger_announce(state: &mut [u64; 9], channel: u16, last: u
     ensures { λ r. ⌜ (r ≡ callTold (now (state .entry)) (Announce channel last) .number)
         × (now (state .exit) ≡ wordsAfter (now (state .entry)) (Announce channel last)) ⌝ }
 {
-    let noted = words::ledger_in(state).announce(
+    let noted = host_words::ledger_in(state).announce(
         ChannelNumber::new(channel),
         TickNumber::new(last),
     );
@@ -99,7 +99,7 @@ pub extern "C" fn rk_ledger_request(state: &mut [u64; 9], channel: u16, told: &m
     ensures { λ r. ⌜ Tells (callTold (now (state .entry)) (Request channel)) (now (told .entry)) r (now (told .exit))
         × (now (state .exit) ≡ wordsAfter (now (state .entry)) (Request channel)) ⌝ }
 {
-    let asked = words::ledger_in(state).request(ChannelNumber::new(channel));
+    let asked = host_words::ledger_in(state).request(ChannelNumber::new(channel));
     let asking = asked.next;
     let answer = asked.answer;
     match answer {
@@ -148,7 +148,7 @@ pub extern "C" fn rk_ledger_reply(
     ensures { λ r. ⌜ Tells (replyTold (now (state .entry)) (Reply channel first status)) (now (told .entry)) r (now (told .exit))
         × (now (state .exit) ≡ wordsAfter (now (state .entry)) (Reply channel first status)) ⌝ }
 {
-    let replied = words::ledger_in(state).reply(
+    let replied = host_words::ledger_in(state).reply(
         ChannelNumber::new(channel),
         TickNumber::new(first),
         status,
@@ -178,7 +178,7 @@ pub extern "C" fn rk_ledger_reply(
 pub extern "C" fn rk_ledger_told(state: &[u64; 9], told: &mut [u64; 7]) -> u32
     ensures { λ r. ⌜ Tells (ledgerTold (now (state .entry))) (now (told .entry)) r (now (told .exit)) ⌝ }
 {
-    let ledger = words::ledger_in(state);
+    let ledger = host_words::ledger_in(state);
     let missing = ledger.missing();
     let held = ledger.held();
     let given = missing.answer;
@@ -194,8 +194,8 @@ pub extern "C" fn rk_ledger_told(state: &[u64; 9], told: &mut [u64; 7]) -> u32
             top.value(),
             missing.count,
             held.count,
-            words::first_asked(pending),
-            words::last_asked(pending),
+            host_words::first_asked(pending),
+            host_words::last_asked(pending),
         ];
     }
     answer

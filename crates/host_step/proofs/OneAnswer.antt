@@ -7,7 +7,7 @@ use Rattle.terms.specs.OneAnswer.{OneAnswer}
 use Rattle.terms.specs.OneBuffer.{OneBuffer, RefusedKeeps}
 use Rattle.step_spec.specs.WriteLaws.{left-unless}
 use Rattle.step_scrub.specs.ScrubLaws.{scrub-unless}
-use Rattle.words.specs.Told.{both, Refuses, tells-kept}
+use Rattle.host_words.specs.Told.{both, Refuses, tells-kept}
 use Rattle.host_step.proofs.rk_step_read.Reads as read
 use Rattle.host_step.proofs.rk_step_read.Kinds as read-kinds
 use Rattle.host_step.proofs.rk_step_field.Reads as field

@@ -18,7 +18,7 @@ use Rattle.step_spec.specs.Frame.{trailerOf, front, digitRun, lengthCheck, body
 use Rattle.step_spec.specs.Written.{plainOf, frameOf, messageOf, stepWriteOf, stepLeftOf}
 use Rattle.step_spec.specs.Examples.{beat, wrongSum, wrongFront, logon, scrubbedLogon, logon554, logonOldSum, heartbeatFields, sortedBeat}
 use Rattle.step_scrub.specs.Scrubbed.{paintPiece, paintAll, joined, painted, scrubbedOf, stepScrubOf, stepScrubLeft}
-use Rattle.words.specs.Told.{Tells, toldBy}
+use Rattle.host_words.specs.Told.{Tells, toldBy}
 use Rattle.host_step.proofs.rk_step_read.Reads as read
 use Rattle.host_step.proofs.rk_step_read.Kinds as read-kinds
 use Rattle.host_step.proofs.rk_step_field.Reads as field

@@ -3,7 +3,7 @@
 ghost use mathlib.Core.Path.{_≡_};
 ghost use mathlib.Core.List.{[], _∷_};
 ghost use lib.ListN.{length, drop};
-ghost use Rattle.words.specs.Told.{Tells};
+ghost use Rattle.host_words.specs.Told.{Tells};
 ghost use Rattle.step_spec.specs.Fields.{fieldAt};
 ghost use Rattle.step_spec.specs.Frame.{stepReadOf};
 ghost use Rattle.step_spec.specs.Written.{stepWriteOf, stepLeftOf};

@@ -5,7 +5,7 @@ use Rattle.terms.specs.OneAnswer.{OneAnswer}
 use Rattle.terms.specs.Paper.{Paper}
 use Rattle.ledger.specs.Papers.{paperOf, countPaper, tick-paper-one, request-paper-one, reply-paper-one, paper-one, count-paper-one, pending-paper-one}
 use Rattle.terms.specs.declared.TickNumber.{TickNumber}
-use Rattle.map.specs.declared.Map.{Map}
+use Rattle.tick_map.specs.declared.Map.{Map}
 use Rattle.ledger.specs.declared.Ledger.{Ledger}
 use Rattle.ledger.specs.declared.Noted.{Noted}
 use Rattle.ledger.specs.declared.Counted.{Counted}

@@ -9,18 +9,18 @@ use borrow.Author.Tests.{eqb-true, le-ltb, lt-ltb}
 use contract.Lifetimes.{Lfts}
 use denote.Triple.Clauses.{AtExit}
 use Rattle.terms.specs.Paper.{Paper, answer}
-use Rattle.book.specs.State.{Book}
+use Rattle.ledger_spec.specs.State.{Book}
 use Rattle.ledger.specs.State.{bookOf, ledgerOf, topped, nextBy}
-use Rattle.book.specs.Calls.{Call, Tick, Announce, Request, Reply, Missing, Held, raised, answerTo, nextOf, fresh, openOf}
+use Rattle.ledger_spec.specs.Calls.{Call, Tick, Announce, Request, Reply, Missing, Held, raised, answerTo, nextOf, fresh, openOf}
 use Rattle.ledger.specs.Papers.{tickPaper, requestPaper, replyPaper, paperOf, countPaper}
-use Rattle.book.specs.Trace.{Calls, _▸_, after, History, _▸_⇒_, trace}
+use Rattle.ledger_spec.specs.Trace.{Calls, _▸_, after, History, _▸_⇒_, trace}
 use Rattle.ledger.specs.Trace.{Promise, RanBy, Ran, opening, one-more}
-use Rattle.book.specs.Words.{answered}
-use Rattle.book.specs.Demand3.{Demand3}
+use Rattle.ledger_spec.specs.Words.{answered}
+use Rattle.ledger_spec.specs.Demand3.{Demand3}
 use Rattle.ledger.specs.declared.Ledger.{Ledger}
 use Rattle.ledger.proofs.Seam.{book-of, topped-of, far-by, same-by, next-keeps}
-use Rattle.book.proofs.Agree.{agrees}
-use Rattle.book.proofs.Demand3.{demand-3}
+use Rattle.ledger_spec.proofs.Agree.{agrees}
+use Rattle.ledger_spec.proofs.Demand3.{demand-3}
 use Rattle.ledger.proofs.Ledger.opened.Reads as opened
 use Rattle.ledger.proofs.Ledger.opened.Kinds as opened-kinds
 use Rattle.ledger.proofs.Ledger.tick.Reads as tick

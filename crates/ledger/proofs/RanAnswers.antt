@@ -6,16 +6,16 @@ use mathlib.Core.Bool.{true, false}
 use mathlib.Core.List.{[], _∷_}
 use Prim.Native.Nat.{ℕ, _≤_}
 use Rattle.terms.specs.Paper.{Paper, answer, refusal}
-use Rattle.book.specs.State.{Book}
-use Rattle.book.specs.Calls.{Call, Tick, Announce, Request, Reply, Missing, Held, answerTo}
-use Rattle.book.specs.Trace.{Calls, after, History, _▸_⇒_, trace}
-use Rattle.book.specs.Words.{answered, givesUp, givenUp, knownTop, held, missing, count}
-use Rattle.book.specs.Answers.{TickAnswers, AnnounceAnswers, ReplyAnswers}
-use Rattle.book.specs.Demand3.{Requests}
-use Rattle.book.specs.GivenUp.{InRange, NamesApart, FloorStands}
-use Rattle.book.proofs.Agree.{agrees}
-use Rattle.book.proofs.GivenUp.{floor-stands}
-use Rattle.book.proofs.Told.{told-tick, told-announce, told-request, told-reply, told-missing, told-held, told-late, told-gives-up, told-names-apart}
+use Rattle.ledger_spec.specs.State.{Book}
+use Rattle.ledger_spec.specs.Calls.{Call, Tick, Announce, Request, Reply, Missing, Held, answerTo}
+use Rattle.ledger_spec.specs.Trace.{Calls, after, History, _▸_⇒_, trace}
+use Rattle.ledger_spec.specs.Words.{answered, givesUp, givenUp, knownTop, held, missing, count}
+use Rattle.ledger_spec.specs.Answers.{TickAnswers, AnnounceAnswers, ReplyAnswers}
+use Rattle.ledger_spec.specs.Demand3.{Requests}
+use Rattle.ledger_spec.specs.GivenUp.{InRange, NamesApart, FloorStands}
+use Rattle.ledger_spec.proofs.Agree.{agrees}
+use Rattle.ledger_spec.proofs.GivenUp.{floor-stands}
+use Rattle.ledger_spec.proofs.Told.{told-tick, told-announce, told-request, told-reply, told-missing, told-held, told-late, told-gives-up, told-names-apart}
 use Rattle.ledger.specs.State.{bookOf}
 use Rattle.ledger.specs.Trace.{Promise, Ran}
 use Rattle.ledger.specs.declared.Ledger.{Ledger}

@@ -6,10 +6,10 @@ use lib.Count.{ones, trailingZeros}
 use Rattle.terms.specs.Paper.{Paper, answer, refusal}
 use Rattle.terms.specs.RuledOut.{Row, _never_, _only_, Kept, RulesOut, ruled, numbers, lists, papers, beside}
 use Rattle.terms.specs.Counters.{tickOf, channelOf}
-use Rattle.map.specs.Bits.{valueOf, bitsIn, mapOf, run}
-use Rattle.map.specs.Ring.{rotated}
-use Rattle.book.specs.State.{Asked, nothing, range, has, rangeRules, mapRules, soundOf}
-use Rattle.book.specs.Calls.{Call, Tick, Announce, Request, Reply, Missing, Held, ownNumber, checkedOf, numberTo, passes, taken, reach, leaps, gaveUp, handed, replied, raised, waiting, asked, done, missingCount, heldCount, valuesOf, answerTo, fresh, openNumber, openOf}
+use Rattle.tick_map.specs.Bits.{valueOf, bitsIn, mapOf, run}
+use Rattle.tick_map.specs.Ring.{rotated}
+use Rattle.ledger_spec.specs.State.{Asked, nothing, range, has, rangeRules, mapRules, soundOf}
+use Rattle.ledger_spec.specs.Calls.{Call, Tick, Announce, Request, Reply, Missing, Held, ownNumber, checkedOf, numberTo, passes, taken, reach, leaps, gaveUp, handed, replied, raised, waiting, asked, done, missingCount, heldCount, valuesOf, answerTo, fresh, openNumber, openOf}
 use Rattle.ledger.specs.State.{bookOf, pendingOf, ledgerOf, nextBy, nextIn}
 use Rattle.ledger.specs.Papers.{tickPaper, requestPaper, replyPaper, paperOf, countPaper, pendingPaper, askedPaper}
 use Rattle.ledger.specs.declared.Ledger.{Ledger}

@@ -13,22 +13,22 @@ use lib.ListN.{getD}
 use lib.Pow.{pow-lt, shr-le}
 use Rattle.terms.specs.Paper.{Paper, pick}
 use Rattle.terms.specs.Counters.{tickOf, channelOf}
-use Rattle.map.specs.Bits.{Words, bit, isSet, bitsIn}
-use Rattle.map.specs.declared.Map.{Map}
+use Rattle.tick_map.specs.Bits.{Words, bit, isSet, bitsIn}
+use Rattle.tick_map.specs.declared.Map.{Map}
 use Rattle.terms.specs.declared.ChannelNumber.{ChannelNumber}
 use Rattle.terms.specs.declared.TickNumber.{TickNumber}
-use Rattle.map.proofs.Laws.{run-le}
-use Rattle.map.proofs.Digits.{bit-lt, bit-shr, bit-above, bit-ext}
-use Rattle.map.proofs.Words.{list-lt, list-bit, value-of, map-of, map-words}
-use Rattle.map.proofs.Ring.{rotated-lt}
-use Rattle.book.specs.State.{Asked, Book, has}
-use Rattle.book.specs.Calls.{Call, Tick, Announce, Request, Reply, Missing, Held, offered, marked, passes, taken, reach, covered, leaps, replied, raised, waiting, done, numberTo, answerTo, nextOf, fresh}
-use Rattle.book.specs.Trace.{Calls, none, _▸_, after, History, start, _▸_⇒_}
-use Rattle.book.specs.Words.{one, answered}
-use Rattle.book.proofs.Tests.{pick-cases, one-of}
-use Rattle.book.proofs.Numbers.{tick-done, checked-facts}
-use Rattle.book.proofs.Steps.{reach-near, covered-lt, leaps-short}
-use Rattle.book.proofs.Agree.{agrees}
+use Rattle.tick_map.proofs.Laws.{run-le}
+use Rattle.tick_map.proofs.Digits.{bit-lt, bit-shr, bit-above, bit-ext}
+use Rattle.tick_map.proofs.Words.{list-lt, list-bit, value-of, map-of, map-words}
+use Rattle.tick_map.proofs.Ring.{rotated-lt}
+use Rattle.ledger_spec.specs.State.{Asked, Book, has}
+use Rattle.ledger_spec.specs.Calls.{Call, Tick, Announce, Request, Reply, Missing, Held, offered, marked, passes, taken, reach, covered, leaps, replied, raised, waiting, done, numberTo, answerTo, nextOf, fresh}
+use Rattle.ledger_spec.specs.Trace.{Calls, none, _▸_, after, History, start, _▸_⇒_}
+use Rattle.ledger_spec.specs.Words.{one, answered}
+use Rattle.ledger_spec.proofs.Tests.{pick-cases, one-of}
+use Rattle.ledger_spec.proofs.Numbers.{tick-done, checked-facts}
+use Rattle.ledger_spec.proofs.Steps.{reach-near, covered-lt, leaps-short}
+use Rattle.ledger_spec.proofs.Agree.{agrees}
 use Rattle.ledger.specs.State.{askedOf, pendingOf, bookOf, ledgerOf, topped, nextBy}
 use Rattle.ledger.specs.Old.{oldBookOf, oldLedgerOf}
 use Rattle.ledger.specs.Trace.{PromiseBy, Promise, Ran, OldRan, opening, one-more}

@@ -18,26 +18,26 @@ use Rattle.terms.specs.Refusals.{numberOf, refusal-not-0}
 use Rattle.terms.specs.declared.TickNumber.{TickNumber}
 use Rattle.terms.specs.declared.ChannelNumber.{ChannelNumber}
 use Rattle.terms.specs.declared.Refusal.{Refusal}
-use Rattle.map.specs.Bits.{Words, bit, isSet, bitsIn, mapOf, run}
-use Rattle.map.specs.Ring.{rotated, laid, without, only, lacking}
-use Rattle.map.specs.declared.Map.{Map}
-use Rattle.map.proofs.Laws.{run-le}
-use Rattle.map.proofs.Digits.{bit-above, bit-ext, bit-shr, run-passed, run-stopped}
-use Rattle.map.proofs.Words.{map-of, value-of, list-lt}
-use Rattle.map.proofs.Ring.{bit-mod, rotated-round, rotated-none, none-outside, rotated-lt, rotated-bit, rotated-ones, rotated-zero, rotated-set, rotated-laid, laid-rotated}
-use Rattle.map.proofs.Stretch.{without-down, only-lt, only-read}
-use Rattle.book.specs.State.{Asked, nothing, range, Book, largest, mapRules, soundOf, StateRules}
+use Rattle.tick_map.specs.Bits.{Words, bit, isSet, bitsIn, mapOf, run}
+use Rattle.tick_map.specs.Ring.{rotated, laid, without, only, lacking}
+use Rattle.tick_map.specs.declared.Map.{Map}
+use Rattle.tick_map.proofs.Laws.{run-le}
+use Rattle.tick_map.proofs.Digits.{bit-above, bit-ext, bit-shr, run-passed, run-stopped}
+use Rattle.tick_map.proofs.Words.{map-of, value-of, list-lt}
+use Rattle.tick_map.proofs.Ring.{bit-mod, rotated-round, rotated-none, none-outside, rotated-lt, rotated-bit, rotated-ones, rotated-zero, rotated-set, rotated-laid, laid-rotated}
+use Rattle.tick_map.proofs.Stretch.{without-down, only-lt, only-read}
+use Rattle.ledger_spec.specs.State.{Asked, nothing, range, Book, largest, mapRules, soundOf, StateRules}
 use Rattle.ledger.specs.State.{askedOf, pendingOf, bookOf, ledgerOf, topped, nextBy, nextIn, laidFrom}
-use Rattle.book.specs.Calls.{Call, Announce, Request, Reply, replyStatus, isPending, startsAt, elsewhere, ownNumber, checkedOf, marked, passes, taken, covered, leaps, gaveUp, handed, replied, waiting, fresh, done, raised, offered, valuesOf, beside, numberTo, answerTo, nextOf}
+use Rattle.ledger_spec.specs.Calls.{Call, Announce, Request, Reply, replyStatus, isPending, startsAt, elsewhere, ownNumber, checkedOf, marked, passes, taken, covered, leaps, gaveUp, handed, replied, waiting, fresh, done, raised, offered, valuesOf, beside, numberTo, answerTo, nextOf}
 use Rattle.ledger.specs.Papers.{verdictNumber}
 use Rattle.ledger.specs.declared.Ledger.{Ledger}
 use Rattle.ledger.specs.declared.Verdict.{Verdict}
 use Rattle.ledger.specs.declared.Pending.{Pending}
 use Rattle.ledger.specs.declared.Pending.the-variants.{Nothing, Range}
-use Rattle.book.proofs.Masks.{bit-not}
-use Rattle.book.proofs.Steps.{covered-lt, covered-in, covered-out, leaps-cover, leaps-short}
-use Rattle.book.proofs.Rules.{rules-facts}
-use Rattle.book.proofs.Tests.{and-false, and-true, pick-cases}
+use Rattle.ledger_spec.proofs.Masks.{bit-not}
+use Rattle.ledger_spec.proofs.Steps.{covered-lt, covered-in, covered-out, leaps-cover, leaps-short}
+use Rattle.ledger_spec.proofs.Rules.{rules-facts}
+use Rattle.ledger_spec.proofs.Tests.{and-false, and-true, pick-cases}
 
 -- ---- a ledger and its book
 

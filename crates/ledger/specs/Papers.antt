@@ -7,9 +7,9 @@ use Rattle.terms.specs.Paper.{Paper, answer, refusal}
 use Rattle.terms.specs.Counters.{tickOf}
 use Rattle.terms.specs.Refusals.{numberOf, told, told-refused}
 use Rattle.terms.specs.declared.TickNumber.{TickNumber}
-use Rattle.map.specs.declared.Map.{Map}
-use Rattle.map.specs.Bits.{bitsIn, mapOf}
-use Rattle.map.specs.Ring.{rotated, laid}
+use Rattle.tick_map.specs.declared.Map.{Map}
+use Rattle.tick_map.specs.Bits.{bitsIn, mapOf}
+use Rattle.tick_map.specs.Ring.{rotated, laid}
 use Rattle.ledger.specs.declared.TickAnswer.{TickAnswer}
 use Rattle.ledger.specs.declared.TickAnswer.the-variants as tick
 use Rattle.ledger.specs.declared.RequestAnswer.{RequestAnswer}
@@ -18,7 +18,7 @@ use Rattle.ledger.specs.declared.ReplyAnswer.{ReplyAnswer}
 use Rattle.ledger.specs.declared.ReplyAnswer.the-variants as reply
 use Rattle.ledger.specs.declared.Answer.{Answer}
 use Rattle.ledger.specs.declared.Answer.the-variants as plain
-use Rattle.book.specs.State.{Asked, nothing, range}
+use Rattle.ledger_spec.specs.State.{Asked, nothing, range}
 use Rattle.ledger.specs.State.{askedOf, laidFrom}
 use Rattle.ledger.specs.declared.Pending.{Pending}
 use Rattle.ledger.specs.declared.Pending.the-variants.{Nothing, Range}

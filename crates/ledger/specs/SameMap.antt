@@ -4,8 +4,8 @@ use mathlib.Core.Bool.{Bool, _&&_}
 use Prim.Native.Nat.{ℕ, _+_, _-_, _/_, _%_}
 use lib.Dec.{leb, ltb}
 use lib.ListN.{getD}
-use Rattle.map.specs.Bits.{isSet}
-use Rattle.book.specs.Trace.{Calls, History}
+use Rattle.tick_map.specs.Bits.{isSet}
+use Rattle.ledger_spec.specs.Trace.{Calls, History}
 use Rattle.ledger.specs.Trace.{OldRan}
 use Rattle.ledger.specs.declared.Ledger.{Ledger}
 

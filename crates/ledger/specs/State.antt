@@ -4,12 +4,12 @@ use Rattle.terms.specs.Counters.{tickOf, channelOf}
 use Prim.Native.Nat.{ℕ, _+_, max}
 use lib.Dec.{eqb}
 use Rattle.terms.specs.Paper.{pick}
-use Rattle.map.specs.Bits.{bitsIn, mapOf}
+use Rattle.tick_map.specs.Bits.{bitsIn, mapOf}
 use Rattle.terms.specs.declared.TickNumber.{TickNumber}
-use Rattle.map.specs.declared.Map.{Map}
-use Rattle.map.specs.Ring.{rotated, laid}
-use Rattle.book.specs.State.{Asked, nothing, range, Book}
-use Rattle.book.specs.Calls.{Call, offered, numberTo, done}
+use Rattle.tick_map.specs.declared.Map.{Map}
+use Rattle.tick_map.specs.Ring.{rotated, laid}
+use Rattle.ledger_spec.specs.State.{Asked, nothing, range, Book}
+use Rattle.ledger_spec.specs.Calls.{Call, offered, numberTo, done}
 use Rattle.ledger.specs.declared.Ledger.{Ledger}
 use Rattle.ledger.specs.declared.Pending.{Pending}
 use Rattle.ledger.specs.declared.Pending.the-variants.{Nothing, Range}

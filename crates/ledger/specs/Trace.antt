@@ -2,9 +2,9 @@
 use mathlib.Core.Path.{_≡_}
 use Prim.Native.Nat.{ℕ}
 use Rattle.terms.specs.Paper.{Paper}
-use Rattle.book.specs.State.{Book}
-use Rattle.book.specs.Calls.{Call, answerTo, fresh}
-use Rattle.book.specs.Trace.{Calls, none, _▸_, History, start, _▸_⇒_}
+use Rattle.ledger_spec.specs.State.{Book}
+use Rattle.ledger_spec.specs.Calls.{Call, answerTo, fresh}
+use Rattle.ledger_spec.specs.Trace.{Calls, none, _▸_, History, start, _▸_⇒_}
 use Rattle.ledger.specs.State.{bookOf, ledgerOf, nextBy}
 use Rattle.ledger.specs.Old.{oldBookOf, oldLedgerOf}
 use Rattle.ledger.specs.declared.Ledger.{Ledger}

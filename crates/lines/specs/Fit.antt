@@ -14,17 +14,17 @@ use Rattle.octets.specs.Octets.{be, Bytes}
 use Rattle.octets.specs.Numerals.{numeral-below, below-drop}
 use Rattle.rules.specs.declared.Kind.{Kind}
 use Rattle.rules.specs.declared.Kind.the-variants.{S001, S002, S003, P001, P002, M101, M102, M201, Unknown}
-use Rattle.wire.specs.Frame.{readOf}
-use Rattle.wire.specs.Given.{Reads}
-use Rattle.wire.specs.GivenRead.{read-given}
-use Rattle.wire.specs.Search.{searchOf}
-use Rattle.book.specs.State.{Book, largest, has, soundOf}
-use Rattle.book.specs.Calls.{Tick, Announce, tickNumber, elsewhere, ownNumber, checkedOf, numberTo}
-use Rattle.book.specs.Trace.{Calls, none, _▸_, after}
-use Rattle.book.proofs.Agree.{agrees}
+use Rattle.frame_spec.specs.Frame.{readOf}
+use Rattle.frame_spec.specs.Given.{Reads}
+use Rattle.frame_spec.specs.GivenRead.{read-given}
+use Rattle.frame_spec.specs.Search.{searchOf}
+use Rattle.ledger_spec.specs.State.{Book, largest, has, soundOf}
+use Rattle.ledger_spec.specs.Calls.{Tick, Announce, tickNumber, elsewhere, ownNumber, checkedOf, numberTo}
+use Rattle.ledger_spec.specs.Trace.{Calls, none, _▸_, after}
+use Rattle.ledger_spec.proofs.Agree.{agrees}
 use Rattle.record.specs.Record.{blankOf}
 use Rattle.record.specs.Fields.{Fits}
-use Rattle.trail.specs.Literal.{typeIn, lengthIn, tickIn, channelIn, answerIn, ledgerIn, ledgerAfter, frameRecord, stopped, goOn, walkFrom, literalWalk}
+use Rattle.walk_spec.specs.Literal.{typeIn, lengthIn, tickIn, channelIn, answerIn, ledgerIn, ledgerAfter, frameRecord, stopped, goOn, walkFrom, literalWalk}
 use Rattle.lines.specs.Laws.{AllFit, all-none, all-more}
 
 -- ANSWERS: a reading's is at most 7, the ledger's at most 18

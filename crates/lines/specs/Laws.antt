@@ -11,7 +11,7 @@ use Rattle.octets.specs.Octets.{laid, Bytes}
 use Rattle.octets.specs.Numerals.{numeral-below}
 use Rattle.octets.specs.Overlays.{laid-same}
 use Rattle.octets.specs.Papers.{laidIfRoom, laid-there}
-use Rattle.steps.specs.Frames.{joined, eachOf, each-long}
+use Rattle.walk_laws.specs.Frames.{joined, eachOf, each-long}
 use Rattle.record.specs.declared.Record.{Record}
 use Rattle.report.specs.declared.Summary.{Summary}
 use Rattle.record.specs.Record.{recordOf, recordAt, blankOf}

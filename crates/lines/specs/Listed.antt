@@ -4,19 +4,19 @@ use mathlib.Core.Path.{_≡_, ap, _∙_}
 use mathlib.Core.List.{List, _++_}
 use native.Mathlib.Omega.{arith}
 use Rattle.terms.specs.Counters.{tickOf}
-use Rattle.book.specs.State.{Book}
-use Rattle.book.specs.Calls.{Missing, answerTo}
-use Rattle.book.specs.Trace.{after}
-use Rattle.book.specs.Words.{valueAt}
-use Rattle.book.proofs.Agree.{agrees}
+use Rattle.ledger_spec.specs.State.{Book}
+use Rattle.ledger_spec.specs.Calls.{Missing, answerTo}
+use Rattle.ledger_spec.specs.Trace.{after}
+use Rattle.ledger_spec.specs.Words.{valueAt}
+use Rattle.ledger_spec.proofs.Agree.{agrees}
 use Rattle.ledger.specs.State.{bookOf, ledgerOf}
 use Rattle.ledger.proofs.Seam.{book-of}
 use Rattle.report.specs.declared.Summary.{Summary}
 use Rattle.report.specs.Text.{summaryOf}
-use Rattle.trail.specs.Walk.{callsOf}
-use Rattle.trail.specs.CallLaws.{walk-ledger}
-use Rattle.trail.specs.Literal.{Walk, literalWalk}
-use Rattle.trail.specs.LiteralLaws.{literal-walk}
+use Rattle.walk_spec.specs.Walk.{callsOf}
+use Rattle.walk_spec.specs.CallLaws.{walk-ledger}
+use Rattle.walk_spec.specs.Literal.{Walk, literalWalk}
+use Rattle.walk_spec.specs.LiteralLaws.{literal-walk}
 use Rattle.lines.specs.Listing.{linesOf}
 
 -- "`missing` is the ledger's"

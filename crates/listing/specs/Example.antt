@@ -7,17 +7,17 @@ use Rattle.octets.specs.Octets.{numeral, digitsOf, sum8, sumOf}
 use Rattle.calendar.specs.Calendar.{leap, daysIn, realParts, realTime}
 use Rattle.rules.specs.Table.{kindOf, suits, measureOf}
 use Rattle.rules.specs.Fields.{p001Ok, fieldsOk, judgeOf}
-use Rattle.wire.specs.Frame.{checked, readOf}
-use Rattle.wire.specs.Search.{firstOf, searchOf}
-use Rattle.wire.specs.Examples.{startOfA, frameA, frameB}
+use Rattle.frame_spec.specs.Frame.{checked, readOf}
+use Rattle.frame_spec.specs.Search.{firstOf, searchOf}
+use Rattle.frame_spec.specs.Examples.{startOfA, frameA, frameB}
 use Rattle.digits.specs.Digits.{decimalOf, widthIn}
-use Rattle.book.specs.State.{nothing, rangeRules, mapRules, soundOf}
-use Rattle.book.specs.Calls.{ownNumber, checkedOf, numberTo, raised, done, missingCount, valuesOf, answerTo, nextOf, fresh}
+use Rattle.ledger_spec.specs.State.{nothing, rangeRules, mapRules, soundOf}
+use Rattle.ledger_spec.specs.Calls.{ownNumber, checkedOf, numberTo, raised, done, missingCount, valuesOf, answerTo, nextOf, fresh}
 use Rattle.record.specs.Record.{blankOf}
 use Rattle.record.specs.Examples.{recordA, recordFF, recordB}
 use Rattle.report.specs.Listing.{listing}
 use Rattle.report.specs.Text.{column, named, summaryOf}
-use Rattle.trail.specs.Literal.{walkFrom, literalWalk}
+use Rattle.walk_spec.specs.Literal.{walkFrom, literalWalk}
 use Rattle.lines.specs.Listing.{linesOf}
 use Rattle.lines.specs.Listed.{listedOf}
 use Rattle.listing.specs.Output.{outputOf}

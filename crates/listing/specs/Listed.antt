@@ -8,9 +8,9 @@ use Rattle.octets.specs.Octets.{Bytes}
 use Rattle.octets.specs.Overlays.{take-front, length-laid}
 use Rattle.report.specs.Lengths.{summary-most}
 use Rattle.walk.specs.declared.Walked.{Walked}
-use Rattle.trail.specs.WalkLaws.{records-few}
-use Rattle.trail.specs.Literal.{Walk, literalWalk}
-use Rattle.trail.specs.LiteralLaws.{literal-walk}
+use Rattle.walk_spec.specs.WalkLaws.{records-few}
+use Rattle.walk_spec.specs.Literal.{Walk, literalWalk}
+use Rattle.walk_spec.specs.LiteralLaws.{literal-walk}
 use Rattle.walk.specs.Promises.{Listed}
 use Rattle.lines.specs.Listing.{listingOf}
 use Rattle.lines.specs.Laws.{tableOf, length-table, listing-table, LastFits, lines-most}

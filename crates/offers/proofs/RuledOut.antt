@@ -6,14 +6,14 @@ use lib.Count.{trailingZeros}
 use Rattle.terms.specs.Counters.{sessionOf, tickOf, channelOf}
 use Rattle.terms.specs.RuledOut.{Row, _never_, _only_, Kept, RulesOut, ruled, numbers, lists, beside}
 use Rattle.rules.specs.Table.{kindOf}
-use Rattle.map.specs.Bits.{valueOf, mapOf, run}
-use Rattle.map.specs.Ring.{rotated}
-use Rattle.book.specs.State.{Asked, nothing, range, Book, has, rangeRules, mapRules, soundOf}
-use Rattle.book.specs.Calls.{ownNumber, checkedOf, numberTo, passes, taken, raised, done, nextOf}
+use Rattle.tick_map.specs.Bits.{valueOf, mapOf, run}
+use Rattle.tick_map.specs.Ring.{rotated}
+use Rattle.ledger_spec.specs.State.{Asked, nothing, range, Book, has, rangeRules, mapRules, soundOf}
+use Rattle.ledger_spec.specs.Calls.{ownNumber, checkedOf, numberTo, passes, taken, raised, done, nextOf}
 use Rattle.ledger.specs.State.{bookOf, ledgerOf}
 use Rattle.ledger.specs.declared.Ledger.{Ledger}
-use Rattle.seen.specs.declared.Seen.{Seen}
-use Rattle.trail.specs.Offers.{callsBy, answered, offerOf}
+use Rattle.reading.specs.declared.Seen.{Seen}
+use Rattle.walk_spec.specs.Offers.{callsBy, answered, offerOf}
 use Rattle.offers.proofs.offer.Reads as offer
 use Rattle.offers.proofs.offer.Kinds as offer-kinds
 

@@ -1,12 +1,12 @@
 -- Each offer from the calls that the reading makes.
 use mathlib.Core.Path.{_≡_}
 use mathlib.Core.List.{[], _∷_}
-use Rattle.book.specs.State.{Book}
+use Rattle.ledger_spec.specs.State.{Book}
 use Rattle.ledger.specs.State.{ledgerOf}
-use Rattle.book.specs.Calls.{Call, numberTo, nextOf}
-use Rattle.seen.specs.declared.Seen.{Seen}
+use Rattle.ledger_spec.specs.Calls.{Call, numberTo, nextOf}
+use Rattle.reading.specs.declared.Seen.{Seen}
 use Rattle.offers.specs.declared.Offered.{Offered}
-use Rattle.trail.specs.Offers.{callsBy, answered, offerOf}
+use Rattle.walk_spec.specs.Offers.{callsBy, answered, offerOf}
 
 -- what the code gives where no call is made, and where one is
 module _ (o : Offered) (b : Book) (x : Seen) where

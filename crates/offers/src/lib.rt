@@ -1,13 +1,13 @@
 // A reading offered to the ledger. Document 01, "Fault records and the listing".
 ghost use mathlib.Core.Path.{_≡_};
 ghost use Rattle.ledger.specs.State.{bookOf, ledgerOf};
-ghost use Rattle.book.specs.Calls.{Tick, Announce, numberTo, nextOf};
-ghost use Rattle.trail.specs.Offers.{offerOf};
+ghost use Rattle.ledger_spec.specs.Calls.{Tick, Announce, numberTo, nextOf};
+ghost use Rattle.walk_spec.specs.Offers.{offerOf};
 use ledger::Answer;
 use ledger::Ledger;
 use ledger::TickAnswer;
 use rules::Kind;
-use seen::Seen;
+use reading::Seen;
 use terms::ChannelNumber;
 use terms::TickNumber;
 

@@ -4,7 +4,7 @@ use mathlib.Core.List.{List}
 use lib.ListN.{take}
 use Rattle.terms.specs.Paper.{Paper, pick}
 use Rattle.octets.specs.Papers.{roomFor, laidIfRoom}
-use Rattle.wire.specs.Frame.{bodyLength, readOf, reads}
+use Rattle.frame_spec.specs.Frame.{bodyLength, readOf, reads}
 use Rattle.private.specs.Scrub.{scrubbed}
 
 -- the frame's own bytes

@@ -14,11 +14,11 @@ use Rattle.octets.specs.Papers.{writtenPaper, Refuses, roomFor, laidIfRoom, roo
 use Rattle.octets.specs.Octets.{be}
 use Rattle.octets.specs.Numerals.{numeral-take}
 use Rattle.rules.specs.Outcomes.{measure-not-more, judge-not-more}
-use Rattle.wire.specs.Frame.{msgType, bodyLength, body, readOf}
-use Rattle.wire.specs.Outcomes.{Reading, r-short, r-measure, r-cut, r-sum, r-judged, r-frame, reading, good}
-use Rattle.wire.specs.Stable.{kept}
-use Rattle.wire.specs.Given.{Reads}
-use Rattle.wire.specs.GivenRead.{read-given}
+use Rattle.frame_spec.specs.Frame.{msgType, bodyLength, body, readOf}
+use Rattle.frame_spec.specs.Outcomes.{Reading, r-short, r-measure, r-cut, r-sum, r-judged, r-frame, reading, good}
+use Rattle.frame_spec.specs.Stable.{kept}
+use Rattle.frame_spec.specs.Given.{Reads}
+use Rattle.frame_spec.specs.GivenRead.{read-given}
 use Rattle.private.specs.Scrub.{spansOf, scrubbed}
 use Rattle.private.specs.Paint.{Agree}
 use Rattle.private.specs.Laws.{length-always, Alike, scrub-alike}

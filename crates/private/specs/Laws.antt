@@ -22,18 +22,18 @@ use Rattle.octets.specs.Overlays.{length-laid, laid-again, laid-same, take-laid
 use Rattle.rules.specs.Table.{kindOf, suits}
 use Rattle.rules.specs.Fields.{judgeOf}
 use Rattle.rules.specs.Outcomes.{measure-same}
-use Rattle.wire.specs.Frame.{msgType, sendingTime, msgSeqNum, bodyLength, body, plain, checkSum, readOf}
-use Rattle.wire.specs.Outcomes.{Good, good, good-reads}
-use Rattle.wire.specs.Measures.{fits}
-use Rattle.wire.specs.Places.{body-length}
-use Rattle.wire.specs.Write.{Message, message, messageOf}
+use Rattle.frame_spec.specs.Frame.{msgType, sendingTime, msgSeqNum, bodyLength, body, plain, checkSum, readOf}
+use Rattle.frame_spec.specs.Outcomes.{Good, good, good-reads}
+use Rattle.frame_spec.specs.Measures.{fits}
+use Rattle.frame_spec.specs.Places.{body-length}
+use Rattle.frame_spec.specs.Write.{Message, message, messageOf}
 use Rattle.private.specs.declared.Span.{Span}
 use Rattle.rules.specs.declared.Kind.{Kind}
 use Rattle.private.specs.Private.{privateOf}
 use Rattle.private.specs.Scrub.{painted, spansOf, cleanBody, summed, scrubbed, scrubAnswer}
 use Rattle.private.specs.Paint.{Inside, Within, Agree, length-painted, painted-outside, painted-inside, painted-agrees, painted-same}
 use Rattle.private.specs.Within.{scrubbedAs}
-use Rattle.view.specs.View.{viewOf}
+use Rattle.frame_view.specs.View.{viewOf}
 use Rattle.private.specs.PrivateLaws.{view-same, private-few, private-within, private-filled, private-same, judged-same}
 
 -- the message without what is private

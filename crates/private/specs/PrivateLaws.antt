@@ -14,7 +14,7 @@ use Rattle.rules.specs.declared.Kind.{Kind}
 use Rattle.rules.specs.declared.Kind.the-variants.{S001, S002, S003, P001, P002, M101, M102, M201, Unknown}
 use Rattle.rules.specs.Table.{suits}
 use Rattle.rules.specs.Fields.{s001Ok, s002Ok, p002Ok, m201Ok, fieldsOk, judgeOf}
-use Rattle.view.specs.View.{viewOf}
+use Rattle.frame_view.specs.View.{viewOf}
 use Rattle.private.specs.Private.{privateOf}
 use Rattle.private.specs.Paint.{Inside, Within, Filled, Agree, Clear, number-same}
 

@@ -5,7 +5,7 @@ use lib.ListN.{take, replicate}
 use Rattle.terms.specs.Paper.{Paper, answer, pick}
 use Rattle.octets.specs.Octets.{bytesOf, sum8, laid}
 use Rattle.rules.specs.Table.{kindOf}
-use Rattle.wire.specs.Frame.{msgType, bodyLength, body, readOf, reads}
+use Rattle.frame_spec.specs.Frame.{msgType, bodyLength, body, readOf, reads}
 use Rattle.private.specs.declared.Span.{Span}
 use Rattle.private.specs.Private.{privateOf}
 

@@ -13,10 +13,10 @@ use Rattle.octets.specs.declared.Written.{Written}
 use Rattle.octets.specs.Papers.{writtenPaper}
 use Rattle.frame.specs.declared.Read.{Read}
 use Rattle.frame.specs.declared.Found.{Found}
-use Rattle.wire.specs.Frame.{readOf, bodyRead}
+use Rattle.frame_spec.specs.Frame.{readOf, bodyRead}
 use Rattle.frame.specs.Papers.{readPaper, foundPaper}
-use Rattle.wire.specs.Write.{Message, message, writeOf, leftOf}
-use Rattle.wire.specs.Search.{searchOf}
+use Rattle.frame_spec.specs.Write.{Message, message, writeOf, leftOf}
+use Rattle.frame_spec.specs.Search.{searchOf}
 use Rattle.frame.proofs.read_at.Reads as read-at
 use Rattle.frame.proofs.read_at.Kinds as read-at-kinds
 use Rattle.frame.proofs.body_at.Reads as body-at

@@ -10,33 +10,33 @@ use lib.ListN.{length, drop}
 use Rattle.octets.specs.Octets.{Bytes}
 use Rattle.ledger.specs.State.{bookOf, ledgerOf}
 use Rattle.report.specs.Text.{summaryOf}
-use Rattle.wire.specs.Frame.{readOf}
-use Rattle.trail.specs.Walk.{sights, tableOf}
-use Rattle.trail.specs.Records.{Covers}
-use Rattle.trail.specs.Literal.{Walk, literalWalk}
-use Rattle.trail.specs.LiteralLaws.{literal-walk}
+use Rattle.frame_spec.specs.Frame.{readOf}
+use Rattle.walk_spec.specs.Walk.{sights, tableOf}
+use Rattle.walk_spec.specs.Records.{Covers}
+use Rattle.walk_spec.specs.Literal.{Walk, literalWalk}
+use Rattle.walk_spec.specs.LiteralLaws.{literal-walk}
 use Rattle.lines.specs.Listing.{linesOf, listingOf}
 use Rattle.lines.specs.Laws.{listing-table}
 use Rattle.lines.specs.Fit.{walk-fits}
 use Rattle.lines.specs.Listed.{lastAt, listedOf, walked-book}
-use Rattle.flow.specs.declared.Stream.{Stream}
-use Rattle.flow.specs.declared.Fed.{Fed}
+use Rattle.stream_spec.specs.declared.Stream.{Stream}
+use Rattle.stream_spec.specs.declared.Fed.{Fed}
 use Rattle.terms.specs.declared.Verdict.the-variants.{Fine}
-use Rattle.flow.specs.State.{headOf, StreamRules}
-use Rattle.flow.specs.Calls.{Call, cutOf, closes}
+use Rattle.stream_spec.specs.State.{headOf, StreamRules}
+use Rattle.stream_spec.specs.Calls.{Call, cutOf, closes}
 use Rattle.terms.specs.Verdicts.{verdictNumber}
-use Rattle.flow.specs.CallLaws.{Promised}
-use Rattle.flow.specs.Answers.{refused-leaves, refused-stream}
-use Rattle.flow.specs.Trace.{Calls, after, given, taken, ended, Row, heard}
-use Rattle.flow.specs.Words.{waitAt, decided, answered}
-use Rattle.flow.proofs.Rules.{rules-facts}
-use Rattle.flow.proofs.Cuttings.{every-cutting, one-state, ran-is, waits-there, waits-first}
-use Rattle.flow.proofs.Promised as Opened
+use Rattle.stream_spec.specs.CallLaws.{Promised}
+use Rattle.stream_spec.specs.Answers.{refused-leaves, refused-stream}
+use Rattle.stream_spec.specs.Trace.{Calls, after, given, taken, ended, Row, heard}
+use Rattle.stream_spec.specs.Words.{waitAt, decided, answered}
+use Rattle.stream_spec.proofs.Rules.{rules-facts}
+use Rattle.stream_spec.proofs.Cuttings.{every-cutting, one-state, ran-is, waits-there, waits-first}
+use Rattle.stream_spec.proofs.Promised as Opened
 use Rattle.stream.proofs.Promised as Promised
-use Rattle.lent.specs.Lent.{Lent}
-use Rattle.lent.specs.Rows.{Followed, HostFollows}
-use Rattle.follow.proofs.Promised as Follow
-use Rattle.lent.proofs.Cuttings.{every-host-cutting}
+use Rattle.host_stream_spec.specs.Lent.{Lent}
+use Rattle.host_stream_spec.specs.Rows.{Followed, HostFollows}
+use Rattle.host_stream.proofs.Promised as Follow
+use Rattle.host_stream_spec.proofs.Cuttings.{every-host-cutting}
 use Rattle.stream.proofs.Promised.{ran-rules, ran-few, ran-heard, ran-closed, ran-number}
 
 -- "A place that answers 1 waits for more": `waitAt` is such a place, or the end, and every one before it lies inside a frame that was read

@@ -18,11 +18,11 @@ use Rattle.octets.specs.Papers.{writtenPaper}
 use Rattle.terms.specs.declared.Verdict.{Verdict}
 use Rattle.terms.specs.declared.Verdict.the-variants as verdict
 use Rattle.terms.specs.Verdicts.{verdictNumber}
-use Rattle.wire.specs.Frame.{readOf}
-use Rattle.wire.specs.Given.{Reads}
-use Rattle.wire.specs.GivenRead.{read-given}
-use Rattle.seen.specs.Seen.{seenOf}
-use Rattle.seen.specs.SeenLaws.{seen-answer}
+use Rattle.frame_spec.specs.Frame.{readOf}
+use Rattle.frame_spec.specs.Given.{Reads}
+use Rattle.frame_spec.specs.GivenRead.{read-given}
+use Rattle.reading.specs.Seen.{seenOf}
+use Rattle.reading.specs.SeenLaws.{seen-answer}
 use Rattle.frame.specs.declared.Read.{Read}
 use Rattle.frame.specs.declared.Read.the-variants as read
 use Rattle.frame.specs.declared.Found.{Found}
@@ -40,18 +40,18 @@ use Rattle.ledger.specs.declared.TickAnswer.the-variants as tick
 use Rattle.ledger.specs.declared.RequestAnswer.{RequestAnswer}
 use Rattle.ledger.specs.declared.RequestAnswer.the-variants as request
 use Rattle.terms.specs.declared.TickNumber.{TickNumber}
-use Rattle.map.specs.declared.Map.{Map}
+use Rattle.tick_map.specs.declared.Map.{Map}
 use Rattle.ledger.specs.declared.ReplyAnswer.{ReplyAnswer}
 use Rattle.ledger.specs.declared.ReplyAnswer.the-variants as reply
-use Rattle.book.specs.State.{Book}
-use Rattle.book.specs.Calls.{Call, Tick, offered, answerTo, nextOf}
-use Rattle.book.specs.Answers.{OnlyTop}
-use Rattle.book.proofs.Answers.{keeps}
+use Rattle.ledger_spec.specs.State.{Book}
+use Rattle.ledger_spec.specs.Calls.{Call, Tick, offered, answerTo, nextOf}
+use Rattle.ledger_spec.specs.Answers.{OnlyTop}
+use Rattle.ledger_spec.proofs.Answers.{keeps}
 use Rattle.ledger.specs.Papers.{tickPaper, requestPaper, replyPaper, paperOf}
 use Rattle.ledger.specs.Trace.{Promise}
-use Rattle.flow.specs.declared.Fed.{Fed}
-use Rattle.flow.specs.Calls.{fedPaper}
-use Rattle.book.specs.Words.{answered}
+use Rattle.stream_spec.specs.declared.Fed.{Fed}
+use Rattle.stream_spec.specs.Calls.{fedPaper}
+use Rattle.ledger_spec.specs.Words.{answered}
 use Rattle.ledger.proofs.Promised.{refused-gives-back, far-raises-top}
 use Rattle.terms.proofs.OneAnswer as terms
 use Rattle.octets.proofs.OneAnswer as octets
@@ -63,24 +63,24 @@ use Rattle.frame.proofs.OneAnswer as frame
 use Rattle.entries.proofs.OneAnswer as entries
 use Rattle.private.proofs.OneAnswer as private
 use Rattle.scrub.proofs.OneAnswer as scrub
-use Rattle.map.proofs.OneAnswer as map
+use Rattle.tick_map.proofs.OneAnswer as map
 use Rattle.ledger.proofs.OneAnswer as ledger
 use Rattle.record.proofs.OneAnswer as «record»
 use Rattle.report.proofs.OneAnswer as report
-use Rattle.view.proofs.OneAnswer as view
-use Rattle.seen.proofs.OneAnswer as seen
+use Rattle.frame_view.proofs.OneAnswer as view
+use Rattle.reading.proofs.OneAnswer as seen
 use Rattle.offers.proofs.OneAnswer as offers
 use Rattle.table.proofs.OneAnswer as table
 use Rattle.walk.proofs.OneAnswer as walk
-use Rattle.flow.proofs.OneAnswer as flow
+use Rattle.stream_spec.proofs.OneAnswer as flow
 use Rattle.stream.proofs.OneAnswer as stream
 use Rattle.lines.proofs.OneAnswer as lines
 use Rattle.clean.proofs.OneAnswer as clean
-use Rattle.words.proofs.OneAnswer as words
-use Rattle.host.proofs.OneAnswer as host
+use Rattle.host_words.proofs.OneAnswer as words
+use Rattle.host_frames.proofs.OneAnswer as host
 use Rattle.host_ledger.proofs.OneAnswer as host_ledger
 use Rattle.host_captures.proofs.OneAnswer as host_captures
-use Rattle.follow.proofs.OneAnswer as follow
+use Rattle.host_stream.proofs.OneAnswer as follow
 use Rattle.host_step.proofs.OneAnswer as host_step
 use Rattle.market.proofs.OneAnswer as market
 use Rattle.market_columns.proofs.OneAnswer as market_columns

@@ -15,20 +15,20 @@ use Rattle.octets.specs.Papers.{writtenPaper}
 use Rattle.rules.specs.Table.{kindOf}
 use Rattle.frame.specs.declared.Read.{Read}
 use Rattle.frame.specs.declared.Read.the-variants.{Frame}
-use Rattle.wire.specs.Outcomes.{good, good-reads}
-use Rattle.wire.specs.Frame.{msgType, sendingTime, msgSeqNum, bodyLength, body, plain, checkSum, readOf, bodyRead}
-use Rattle.wire.specs.Given.{Reads, Reads0}
-use Rattle.wire.specs.GivenRead.{read-given, read-given-0}
+use Rattle.frame_spec.specs.Outcomes.{good, good-reads}
+use Rattle.frame_spec.specs.Frame.{msgType, sendingTime, msgSeqNum, bodyLength, body, plain, checkSum, readOf, bodyRead}
+use Rattle.frame_spec.specs.Given.{Reads, Reads0}
+use Rattle.frame_spec.specs.GivenRead.{read-given, read-given-0}
 use Rattle.frame.specs.Papers.{readPaper, read-one}
-use Rattle.wire.specs.Places.{body-of}
-use Rattle.wire.specs.Write.{Message, message, messageOf, writeOf, leftOf}
-use Rattle.wire.specs.RoundTrip.{Widths, write-read, read-then-write, write-then-read, write-then-body}
+use Rattle.frame_spec.specs.Places.{body-of}
+use Rattle.frame_spec.specs.Write.{Message, message, messageOf, writeOf, leftOf}
+use Rattle.frame_spec.specs.RoundTrip.{Widths, write-read, read-then-write, write-then-read, write-then-body}
 use Rattle.private.specs.Scrub.{scrubbed, scrubAnswer}
 use Rattle.private.specs.Laws.{scrub-number, scrub-length, scrub-keeps, scrub-fills, scrub-reads, scrub-sum, refused-same, answer-as}
 use Rattle.private.specs.PrivateLaws.{PrivateByte, private-is}
 use Rattle.frame.specs.declared.Found.{Found}
 use Rattle.frame.specs.Papers.{foundPaper}
-use Rattle.wire.specs.Lowest.{ReadsAt, LowestPlace, search-given-place, search-given-none, search-given-9}
+use Rattle.frame_spec.specs.Lowest.{ReadsAt, LowestPlace, search-given-place, search-given-none, search-given-9}
 use Rattle.promises.specs.Calls.{Reading, Body, Writing, Searching, Scrubbing}
 
 -- the bytes from a place on are bytes

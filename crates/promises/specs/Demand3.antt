@@ -1,23 +1,23 @@
 -- Demand 3, of every row of calls of the code on a ledger that it opened. `Ran channel calls l h` says that the ledger l and the history h come of
--- the calls, each meeting its promise; h has the calls and their answers alone. Words.antt of `book` tells each word from h.
+-- the calls, each meeting its promise; h has the calls and their answers alone. Words.antt of `ledger_spec` tells each word from h.
 use Prim.Native.Nat.{ℕ, _≤_}
 use mathlib.Core.List.{List, [], _∷_}
 use mathlib.Core.Path.{_≡_}
-use Rattle.book.specs.State.{StateRules}
+use Rattle.ledger_spec.specs.State.{StateRules}
 use Rattle.ledger.specs.State.{bookOf}
 use Rattle.terms.specs.Paper.{Paper, answer}
-use Rattle.book.specs.Calls.{Call, Tick, Announce, Request, Reply, Missing, Held, answerTo}
-use Rattle.book.specs.Words.{knownTop, held, missing, count}
-use Rattle.book.specs.Trace.{Calls, after, History}
+use Rattle.ledger_spec.specs.Calls.{Call, Tick, Announce, Request, Reply, Missing, Held, answerTo}
+use Rattle.ledger_spec.specs.Words.{knownTop, held, missing, count}
+use Rattle.ledger_spec.specs.Trace.{Calls, after, History}
 use Rattle.ledger.specs.Trace.{Promise, Ran}
-use Rattle.book.specs.Answers.{TickAnswers, AnnounceAnswers, ReplyAnswers, Answers}
-use Rattle.book.specs.Demand3.{Demand3, Deliveries, MissingNumbers, Requests, Counts, Shown}
+use Rattle.ledger_spec.specs.Answers.{TickAnswers, AnnounceAnswers, ReplyAnswers, Answers}
+use Rattle.ledger_spec.specs.Demand3.{Demand3, Deliveries, MissingNumbers, Requests, Counts, Shown}
 use Rattle.ledger.specs.declared.Ledger.{Ledger}
-use Rattle.book.proofs.Answers as Answered
+use Rattle.ledger_spec.proofs.Answers as Answered
 use Rattle.ledger.proofs.Promised as Promised
 use Rattle.ledger.proofs.Promised.{ran-demand-3}
 use Rattle.ledger.proofs.RanAnswers as Ran
-use Rattle.words.specs.Words.{bookIn}
+use Rattle.host_words.specs.Words.{bookIn}
 use Rattle.host_ledger.specs.Called.{Called, HostRan}
 use Rattle.host_ledger.proofs.Promised as Hosted
 

@@ -1,17 +1,17 @@
 -- Request 7, sentence by sentence: when the exchange has no data. Of every row of calls of the code on a ledger that it opened, and of whatever the promise of a
--- further call allows; then of the calls through the host. The words are those of GivenUp.antt and Words.antt of `book`, told from the calls and answers alone.
+-- further call allows; then of the calls through the host. The words are those of GivenUp.antt and Words.antt of `ledger_spec`, told from the calls and answers alone.
 use Prim.Native.Nat.{ℕ, _≤_}
 use mathlib.Core.Path.{_≡_}
 use mathlib.Core.Logic.{_↔_}
 use mathlib.Core.Bool.{true, false}
 use mathlib.Core.List.{List}
 use Rattle.terms.specs.Paper.{Paper, refusal}
-use Rattle.book.specs.State.{Book, StateRules}
-use Rattle.book.specs.Calls.{Tick, Request, Reply, answerTo, nextOf}
-use Rattle.book.specs.Trace.{Calls, _▸_, after, History, _▸_⇒_, trace}
-use Rattle.book.specs.Words.{answered, received, givesUp, givenUp}
-use Rattle.book.specs.GivenUp.{reply, InRange, NamesApart, FloorStands, OnlyClears, then, AsksNoMore}
-use Rattle.book.proofs.GivenUp as Book
+use Rattle.ledger_spec.specs.State.{Book, StateRules}
+use Rattle.ledger_spec.specs.Calls.{Tick, Request, Reply, answerTo, nextOf}
+use Rattle.ledger_spec.specs.Trace.{Calls, _▸_, after, History, _▸_⇒_, trace}
+use Rattle.ledger_spec.specs.Words.{answered, received, givesUp, givenUp}
+use Rattle.ledger_spec.specs.GivenUp.{reply, InRange, NamesApart, FloorStands, OnlyClears, then, AsksNoMore}
+use Rattle.ledger_spec.proofs.GivenUp as Book
 use Rattle.ledger.specs.State.{bookOf}
 use Rattle.ledger.specs.Trace.{Promise, Ran}
 use Rattle.ledger.specs.declared.Ledger.{Ledger}

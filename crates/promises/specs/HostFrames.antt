@@ -1,5 +1,5 @@
 -- Demand 2 through the host, where an answer is a bare number and the rest is told in a lent row: of whatever its functions may answer by their promises, as
--- `HostRead`, `HostWrote` and `HostScrubbed` of `host` have it. The search rule is `HostFound`'s own. Bytes are below 256 (`Bytes`), and a message's numbers fit
+-- `HostRead`, `HostWrote` and `HostScrubbed` of `host_frames` have it. The search rule is `HostFound`'s own. Bytes are below 256 (`Bytes`), and a message's numbers fit
 -- their widths (`Widths`): both hold of every value that a host can lend.
 use Prim.Native.Nat.{ℕ, _+_, _≤_}
 use mathlib.Core.Path.{_≡_, sym, ap, _∙_}
@@ -10,16 +10,16 @@ use lib.Seq.{drop-drop, getD-drop}
 use Rattle.terms.specs.Paper.{answer, one-number}
 use Rattle.octets.specs.Octets.{Bytes}
 use Rattle.octets.specs.declared.Written.the-variants as written
-use Rattle.wire.specs.Frame.{bodyLength, readOf}
-use Rattle.wire.specs.Given.{Reads0}
-use Rattle.wire.specs.Outcomes.{read-length}
-use Rattle.wire.specs.Places.{body-of}
-use Rattle.wire.specs.RoundTrip.{Widths, write-read, read-then-write, write-then-read, write-then-body}
-use Rattle.wire.specs.Write.{Message, message, messageOf, writeOf, leftOf}
+use Rattle.frame_spec.specs.Frame.{bodyLength, readOf}
+use Rattle.frame_spec.specs.Given.{Reads0}
+use Rattle.frame_spec.specs.Outcomes.{read-length}
+use Rattle.frame_spec.specs.Places.{body-of}
+use Rattle.frame_spec.specs.RoundTrip.{Widths, write-read, read-then-write, write-then-read, write-then-body}
+use Rattle.frame_spec.specs.Write.{Message, message, messageOf, writeOf, leftOf}
 use Rattle.private.specs.Laws.{scrub-number, refused-same}
-use Rattle.words.specs.Told.{seen}
-use Rattle.host.specs.Means.{HostRead, HostWrote, HostScrubbed}
-use Rattle.host.proofs.Means as Means
+use Rattle.host_words.specs.Told.{seen}
+use Rattle.host_frames.specs.Means.{HostRead, HostWrote, HostScrubbed}
+use Rattle.host_frames.proofs.Means as Means
 use Rattle.promises.specs.Demand2.{ScrubbedFrame, scrubbed-frame}
 
 -- "A frame reads exactly if it meets IS120 0.62 as document 01 sets it out."

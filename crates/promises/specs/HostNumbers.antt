@@ -1,5 +1,5 @@
 -- Demand 1 through the host, where an answer is a bare number: it is 0, or one of document 01's table. `Tells` says that it is a paper's, and
--- this is said of each paper that a function of `host`, `host_ledger` or `host_captures` names in its promise.
+-- this is said of each paper that a function of `host_frames`, `host_ledger` or `host_captures` names in its promise.
 use Prim.Native.Nat.{ℕ, _+_, _/_}
 use mathlib.Core.Path.{_≡_, refl, ap}
 use mathlib.Core.Bool.{Bool, true, false, not}
@@ -17,43 +17,43 @@ use Rattle.rules.specs.declared.Kind.the-variants.{M102}
 use Rattle.rules.specs.Table.{kindOf, known, suits, measureOf}
 use Rattle.calendar.specs.Calendar.{realTime}
 use Rattle.rules.specs.Fields.{fieldsOk, judgeOf}
-use Rattle.wire.specs.Frame.{checked, readOf, reads, bodyLength}
-use Rattle.wire.specs.GivenRead.{read-given}
-use Rattle.wire.specs.Write.{Message, writeOf}
-use Rattle.wire.specs.Search.{searchOf}
-use Rattle.wire.specs.Lowest.{search-given-9, search-given-0}
+use Rattle.frame_spec.specs.Frame.{checked, readOf, reads, bodyLength}
+use Rattle.frame_spec.specs.GivenRead.{read-given}
+use Rattle.frame_spec.specs.Write.{Message, writeOf}
+use Rattle.frame_spec.specs.Search.{searchOf}
+use Rattle.frame_spec.specs.Lowest.{search-given-9, search-given-0}
 use Rattle.entries.specs.Reader.{openOf, stands, entryAt, stepOf}
 use Rattle.private.specs.Scrub.{scrubAnswer}
-use Rattle.book.specs.State.{Book, largest, has, soundOf}
-use Rattle.book.specs.Calls.{Call, Tick, Announce, Request, Reply, Missing, Held, tickNumber, replyStatus, isPending, startsAt, elsewhere, ownNumber, checkedOf, numberTo, answerTo, openNumber}
-use Rattle.trail.specs.Walk as walk
-use Rattle.wash.specs.Clean as clean
-use Rattle.flow.specs.declared.Stream.{Stream}
-use Rattle.flow.specs.State as stream
-use Rattle.flow.specs.State.{lastPlace}
-use Rattle.flow.specs.Calls as stream-calls
-use Rattle.flow.specs.Calls.{givenOf, numberFor, answerFor}
-use Rattle.words.specs.Told.{Tells}
-use Rattle.lent.specs.Lent.{lent, streamIn}
-use Rattle.host.specs.Frames.{readTold, searchTold, privateTold, entriesTold, entryTold}
-use Rattle.words.specs.Words.{bookIn}
-use Rattle.words.specs.Calls.{callTold}
+use Rattle.ledger_spec.specs.State.{Book, largest, has, soundOf}
+use Rattle.ledger_spec.specs.Calls.{Call, Tick, Announce, Request, Reply, Missing, Held, tickNumber, replyStatus, isPending, startsAt, elsewhere, ownNumber, checkedOf, numberTo, answerTo, openNumber}
+use Rattle.walk_spec.specs.Walk as walk
+use Rattle.clean_spec.specs.Clean as clean
+use Rattle.stream_spec.specs.declared.Stream.{Stream}
+use Rattle.stream_spec.specs.State as stream
+use Rattle.stream_spec.specs.State.{lastPlace}
+use Rattle.stream_spec.specs.Calls as stream-calls
+use Rattle.stream_spec.specs.Calls.{givenOf, numberFor, answerFor}
+use Rattle.host_words.specs.Told.{Tells}
+use Rattle.host_stream_spec.specs.Lent.{lent, streamIn}
+use Rattle.host_frames.specs.Frames.{readTold, searchTold, privateTold, entriesTold, entryTold}
+use Rattle.host_words.specs.Words.{bookIn}
+use Rattle.host_words.specs.Calls.{callTold}
 use Rattle.host_ledger.specs.Words.{ledgerTold}
 use Rattle.host_captures.specs.Captures.{listed, listingTold, cleanTold}
-use Rattle.host.proofs.rk_read.Reads as rk-read
-use Rattle.host.proofs.rk_read.Kinds as rk-read-kinds
-use Rattle.host.proofs.rk_write.Reads as rk-write
-use Rattle.host.proofs.rk_write.Kinds as rk-write-kinds
-use Rattle.host.proofs.rk_search.Reads as rk-search
-use Rattle.host.proofs.rk_search.Kinds as rk-search-kinds
-use Rattle.host.proofs.rk_scrub.Reads as rk-scrub
-use Rattle.host.proofs.rk_scrub.Kinds as rk-scrub-kinds
-use Rattle.host.proofs.rk_private.Reads as rk-private
-use Rattle.host.proofs.rk_private.Kinds as rk-private-kinds
-use Rattle.host.proofs.rk_entries.Reads as rk-entries
-use Rattle.host.proofs.rk_entries.Kinds as rk-entries-kinds
-use Rattle.host.proofs.rk_entry.Reads as rk-entry
-use Rattle.host.proofs.rk_entry.Kinds as rk-entry-kinds
+use Rattle.host_frames.proofs.rk_read.Reads as rk-read
+use Rattle.host_frames.proofs.rk_read.Kinds as rk-read-kinds
+use Rattle.host_frames.proofs.rk_write.Reads as rk-write
+use Rattle.host_frames.proofs.rk_write.Kinds as rk-write-kinds
+use Rattle.host_frames.proofs.rk_search.Reads as rk-search
+use Rattle.host_frames.proofs.rk_search.Kinds as rk-search-kinds
+use Rattle.host_frames.proofs.rk_scrub.Reads as rk-scrub
+use Rattle.host_frames.proofs.rk_scrub.Kinds as rk-scrub-kinds
+use Rattle.host_frames.proofs.rk_private.Reads as rk-private
+use Rattle.host_frames.proofs.rk_private.Kinds as rk-private-kinds
+use Rattle.host_frames.proofs.rk_entries.Reads as rk-entries
+use Rattle.host_frames.proofs.rk_entries.Kinds as rk-entries-kinds
+use Rattle.host_frames.proofs.rk_entry.Reads as rk-entry
+use Rattle.host_frames.proofs.rk_entry.Kinds as rk-entry-kinds
 use Rattle.host_ledger.proofs.rk_ledger_open.Reads as rk-ledger-open
 use Rattle.host_ledger.proofs.rk_ledger_open.Kinds as rk-ledger-open-kinds
 use Rattle.host_ledger.proofs.rk_ledger_tick.Reads as rk-ledger-tick
@@ -74,12 +74,12 @@ use Rattle.host_captures.proofs.rk_clean.Reads as rk-clean
 use Rattle.host_captures.proofs.rk_clean.Kinds as rk-clean-kinds
 use Rattle.host_captures.proofs.rk_is_clean.Reads as rk-is-clean
 use Rattle.host_captures.proofs.rk_is_clean.Kinds as rk-is-clean-kinds
-use Rattle.follow.proofs.rk_stream_open.Reads as rk-stream-open
-use Rattle.follow.proofs.rk_stream_open.Kinds as rk-stream-open-kinds
-use Rattle.follow.proofs.rk_stream_feed.Reads as rk-stream-feed
-use Rattle.follow.proofs.rk_stream_feed.Kinds as rk-stream-feed-kinds
-use Rattle.follow.proofs.rk_stream_close.Reads as rk-stream-close
-use Rattle.follow.proofs.rk_stream_close.Kinds as rk-stream-close-kinds
+use Rattle.host_stream.proofs.rk_stream_open.Reads as rk-stream-open
+use Rattle.host_stream.proofs.rk_stream_open.Kinds as rk-stream-open-kinds
+use Rattle.host_stream.proofs.rk_stream_feed.Reads as rk-stream-feed
+use Rattle.host_stream.proofs.rk_stream_feed.Kinds as rk-stream-feed-kinds
+use Rattle.host_stream.proofs.rk_stream_close.Reads as rk-stream-close
+use Rattle.host_stream.proofs.rk_stream_close.Kinds as rk-stream-close-kinds
 use Rattle.promises.specs.Calls.{Promises}
 use Rattle.promises.specs.Demand1.{inTable, Numbered, done, refused, reads-numbered}
 
@@ -259,7 +259,7 @@ rk-clean-numbered κs a x s p = tells-numbered (p .0) (host-numbered .cleaning _
 pub rk-is-clean-numbered : Promises _ rk-is-clean-kinds.ps rk-is-clean-kinds.r rk-is-clean.Post (λ κs a x s. Numbered x)
 rk-is-clean-numbered κs a x s p = tells-numbered p (host-numbered .checking _)
 
--- and of `follow`
+-- and of `host_stream`
 
 either-one : (b : Bool) (m n : ℕ) → Numbered m → Numbered n → Numbered (pick b m n)
 either-one true m n p q = p

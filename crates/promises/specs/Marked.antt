@@ -13,12 +13,12 @@ use Rattle.octets.specs.Octets.{numeral, digitsOf, sum8, sumOf}
 use Rattle.calendar.specs.Calendar.{leap, daysIn, realParts, realTime}
 use Rattle.rules.specs.Table.{kindOf, suits, measureOf}
 use Rattle.rules.specs.Fields.{fieldsOk, judgeOf}
-use Rattle.wire.specs.Frame.{bodyLength, checked, readOf}
-use Rattle.wire.specs.Examples.{startOfA, frameA, headerM101}
-use Rattle.map.specs.Bits.{run, bit, tally}
-use Rattle.map.proofs.Digits.{ones-tally}
-use Rattle.book.specs.State.{Asked, nothing, range, Book, has, rangeRules, mapRules, soundOf}
-use Rattle.book.specs.Calls.{Call, Tick, Announce, Request, Missing, ownNumber, checkedOf, numberTo, passes, taken, raised, waiting, asked, done, missingCount, valuesOf, answerTo, nextOf, fresh}
+use Rattle.frame_spec.specs.Frame.{bodyLength, checked, readOf}
+use Rattle.frame_spec.specs.Examples.{startOfA, frameA, headerM101}
+use Rattle.tick_map.specs.Bits.{run, bit, tally}
+use Rattle.tick_map.proofs.Digits.{ones-tally}
+use Rattle.ledger_spec.specs.State.{Asked, nothing, range, Book, has, rangeRules, mapRules, soundOf}
+use Rattle.ledger_spec.specs.Calls.{Call, Tick, Announce, Request, Missing, ownNumber, checkedOf, numberTo, passes, taken, raised, waiting, asked, done, missingCount, valuesOf, answerTo, nextOf, fresh}
 
 -- a line of an example over a ledger: a call and its answer, or what the ledger's top then is
 pub data Line : Type 0 where

@@ -9,11 +9,11 @@ use native.Mathlib.Nat.{zero-add}
 use lib.ListN.{length, take, drop, take-append-drop, length-append}
 use lib.Seq.{take-append-le, drop-append-le}
 use Rattle.terms.specs.Cases.{clash}
-use Rattle.steps.specs.Walk.{Says, frame, more, bad, Mode, within, seeking, after, next}
-use Rattle.steps.specs.Waits.{waits, Got, ranOf, ran-wait, ran-step, ran-append}
-use Rattle.steps.specs.Kept.{Between, b-reads, b-seeks, Ends, e-within, e-seeking, seen-few, settled, rested}
-use Rattle.steps.specs.Closing.{waitOf, ran-place, ran-kept}
-use Rattle.steps.specs.Frames.{frontOf, takenOf, acceptedOf}
+use Rattle.walk_laws.specs.Walk.{Says, frame, more, bad, Mode, within, seeking, after, next}
+use Rattle.walk_laws.specs.Waits.{waits, Got, ranOf, ran-wait, ran-step, ran-append}
+use Rattle.walk_laws.specs.Kept.{Between, b-reads, b-seeks, Ends, e-within, e-seeking, seen-few, settled, rested}
+use Rattle.walk_laws.specs.Closing.{waitOf, ran-place, ran-kept}
+use Rattle.walk_laws.specs.Frames.{frontOf, takenOf, acceptedOf}
 
 module _ {R : Type 0} (readOf : List ℕ → R) (saysOf : R → Says) where
   abbrev says : List ℕ → Says

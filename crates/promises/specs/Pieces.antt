@@ -12,22 +12,22 @@ use lib.Seq.{take-all}
 use borrow.Author.Tests.{eqb-true}
 use Rattle.terms.specs.Paper.{pick}
 use Rattle.terms.specs.Cases.{two, clash}
-use Rattle.book.specs.State.{orElse}
+use Rattle.ledger_spec.specs.State.{orElse}
 use Rattle.private.specs.Scrub.{scrubbed}
-use Rattle.steps.specs.Walk.{within}
-use Rattle.steps.specs.Frames.{joined, eachOf, acceptedOf, each-joined}
+use Rattle.walk_laws.specs.Walk.{within}
+use Rattle.walk_laws.specs.Frames.{joined, eachOf, acceptedOf, each-joined}
 use Rattle.promises.specs.Parts.{piece-accepts}
-use Rattle.seen.specs.Seen.{seenOf, saysOf}
-use Rattle.seen.specs.SeenLaws.{seen-kept, seen-fits}
-use Rattle.wash.specs.Clean.{cleanOf}
-use Rattle.wash.specs.Accepted.{acceptedIn, clean-is}
-use Rattle.wash.specs.Own.{seen-own}
-use Rattle.flow.specs.declared.Stream.{Stream}
-use Rattle.flow.specs.State.{valueOf, opened}
-use Rattle.flow.specs.Calls.{Call, Feed, Close, cutOf, closes, numberFor, numberTo, nextFor, nextOf}
-use Rattle.flow.specs.Trace.{Calls, none, _▸_, Asked, after, accepted, taken, ended, Row}
-use Rattle.flow.specs.Words.{waitAt, answered}
-use Rattle.flow.proofs.Cuttings.{every-cutting, closing-call}
+use Rattle.reading.specs.Seen.{seenOf, saysOf}
+use Rattle.reading.specs.SeenLaws.{seen-kept, seen-fits}
+use Rattle.clean_spec.specs.Clean.{cleanOf}
+use Rattle.clean_spec.specs.Accepted.{acceptedIn, clean-is}
+use Rattle.clean_spec.specs.Own.{seen-own}
+use Rattle.stream_spec.specs.declared.Stream.{Stream}
+use Rattle.stream_spec.specs.State.{valueOf, opened}
+use Rattle.stream_spec.specs.Calls.{Call, Feed, Close, cutOf, closes, numberFor, numberTo, nextFor, nextOf}
+use Rattle.stream_spec.specs.Trace.{Calls, none, _▸_, Asked, after, accepted, taken, ended, Row}
+use Rattle.stream_spec.specs.Words.{waitAt, answered}
+use Rattle.stream_spec.proofs.Cuttings.{every-cutting, closing-call}
 
 -- what one more call decides
 abbrev pub pieceOf : Calls → Asked → List ℕ

@@ -8,15 +8,15 @@ use Rattle.terms.specs.Cases.{clash}
 use Rattle.octets.specs.Octets.{be}
 use Rattle.calendar.specs.Calendar.{RealTime, leap, daysIn, realParts, realTime}
 use Rattle.calendar.specs.Times.{time-says}
-use Rattle.wire.specs.Frame.{readOf}
-use Rattle.wire.specs.Write.{Message, writeOf}
-use Rattle.wire.specs.GivenRead.{read-given-0}
-use Rattle.wire.specs.GivenWrite.{write-given-0}
-use Rattle.book.specs.State.{Book}
+use Rattle.frame_spec.specs.Frame.{readOf}
+use Rattle.frame_spec.specs.Write.{Message, writeOf}
+use Rattle.frame_spec.specs.GivenRead.{read-given-0}
+use Rattle.frame_spec.specs.GivenWrite.{write-given-0}
+use Rattle.ledger_spec.specs.State.{Book}
 use Rattle.record.specs.Record.{blankOf}
-use Rattle.seen.specs.Seen.{seenOf}
-use Rattle.trail.specs.Walk.{recordBy}
-use Rattle.trail.specs.FrameLaws.{refused-record}
+use Rattle.reading.specs.Seen.{seenOf}
+use Rattle.walk_spec.specs.Walk.{recordBy}
+use Rattle.walk_spec.specs.FrameLaws.{refused-record}
 
 -- "A FRAME'S TIME MUST BE A REAL DATE": of every frame that is read, and of every one that is written
 pub read-is-real : (s : List ℕ) → readOf s .number ≡ 0 → RealTime (be 8 4 s)

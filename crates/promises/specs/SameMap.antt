@@ -5,11 +5,11 @@ use mathlib.Core.Bool.{true, false}
 use mathlib.Core.Path.{_≡_}
 use lib.ListN.{getD}
 use Rattle.terms.specs.Paper.{Paper}
-use Rattle.map.specs.Bits.{Words, isSet}
-use Rattle.book.specs.State.{has}
-use Rattle.book.specs.Calls.{Call}
-use Rattle.book.specs.Trace.{Calls, History}
-use Rattle.book.specs.Words.{answered}
+use Rattle.tick_map.specs.Bits.{Words, isSet}
+use Rattle.ledger_spec.specs.State.{has}
+use Rattle.ledger_spec.specs.Calls.{Call}
+use Rattle.ledger_spec.specs.Trace.{Calls, History}
+use Rattle.ledger_spec.specs.Words.{answered}
 use Rattle.ledger.specs.declared.Ledger.{Ledger}
 use Rattle.ledger.specs.State.{bookOf}
 use Rattle.ledger.specs.Old.{oldBookOf, oldLedgerOf}

@@ -18,7 +18,7 @@ use Rattle.octets.specs.Overlays.{length-laid, mid-laid, laid-again}
 use Rattle.octets.specs.Papers.{writtenPaper, Refuses, roomFor, laidIfRoom, room-there, room-lacks, laid-there, refused-kept}
 use Rattle.rules.specs.declared.Kind.{Kind}
 use Rattle.rules.specs.Table.{kindOf, suits}
-use Rattle.wire.specs.Frame.{msgType, bodyLength, readOf}
+use Rattle.frame_spec.specs.Frame.{msgType, bodyLength, readOf}
 use Rattle.private.specs.Scrub.{scrubbed}
 use Rattle.private.specs.Within.{scrubbedAs}
 use Rattle.private.specs.Laws.{read-there, read-suits, read-sum, read-scrubs}

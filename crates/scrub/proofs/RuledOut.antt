@@ -11,9 +11,9 @@ use Rattle.octets.specs.Papers.{writtenPaper, roomFor, laidIfRoom}
 use Rattle.calendar.specs.Calendar.{leap, daysIn, realParts, realTime}
 use Rattle.rules.specs.Table.{kindOf, suits, measureOf}
 use Rattle.rules.specs.Fields.{s001Ok, p002Ok, m201Ok, fieldsOk, judgeOf}
-use Rattle.wire.specs.Frame.{checked, readOf}
-use Rattle.wire.specs.Write.{plainOf, frameOf}
-use Rattle.wire.specs.Examples.{startOfA, frameA, ending, logon, resend, tick}
+use Rattle.frame_spec.specs.Frame.{checked, readOf}
+use Rattle.frame_spec.specs.Write.{plainOf, frameOf}
+use Rattle.frame_spec.specs.Examples.{startOfA, frameA, ending, logon, resend, tick}
 use Rattle.private.specs.Scrub.{painted, summed, scrubAnswer, scrubbed}
 use Rattle.private.specs.Into.{intoAnswer, intoLeaves}
 use Rattle.scrub.proofs.scrub_into.Reads as scrub-into

@@ -10,7 +10,7 @@ ghost use Rattle.private.specs.Scrub.{painted, summed, scrubAnswer, scrubbed};
 ghost use Rattle.private.specs.Within.{bodyIn, spanIn, spanPainted, scrubbedAs};
 ghost use Rattle.private.specs.Into.{frameIn, intoAnswer, intoLeaves};
 ghost use Rattle.rules.specs.Table.{suits, kindOf};
-ghost use Rattle.wire.specs.Frame.{msgType, bodyLength, readOf};
+ghost use Rattle.frame_spec.specs.Frame.{msgType, bodyLength, readOf};
 use frame::Read;
 use octets::Written;
 use rules::Kind;

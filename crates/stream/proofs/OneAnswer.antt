@@ -6,7 +6,7 @@ use mathlib.Core.List.{[]}
 use denote.Ref.{now}
 use Rattle.terms.specs.OneAnswer.{OneAnswer}
 use Rattle.terms.specs.OneBuffer.{OneBuffer, RefusedKeeps}
-use Rattle.flow.specs.Answers.{fed-one, Refuses, refused-leaves}
+use Rattle.stream_spec.specs.Answers.{fed-one, Refuses, refused-leaves}
 use Rattle.stream.proofs.feed.Reads as feed
 use Rattle.stream.proofs.feed.Kinds as feed-kinds
 use Rattle.stream.proofs.close.Reads as close

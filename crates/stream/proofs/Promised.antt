@@ -15,18 +15,18 @@ use Rattle.octets.specs.Octets.{laid}
 use Rattle.octets.specs.Overlays.{take-front}
 use Rattle.record.specs.Record.{recordOf}
 use Rattle.record.specs.RecordLaws.{length-record}
-use Rattle.steps.specs.Frames.{joined, eachOf, each-joined, each-long}
-use Rattle.trail.specs.Walk.{walkOf, tableOf}
-use Rattle.flow.specs.declared.Stream.{Stream}
-use Rattle.flow.specs.declared.Fed.{Fed}
-use Rattle.flow.specs.State.{StreamRules}
-use Rattle.flow.specs.Calls.{Call, Feed, Close, cutOf, closes, share, numberTo, answerFor, leavesFor}
+use Rattle.walk_laws.specs.Frames.{joined, eachOf, each-joined, each-long}
+use Rattle.walk_spec.specs.Walk.{walkOf, tableOf}
+use Rattle.stream_spec.specs.declared.Stream.{Stream}
+use Rattle.stream_spec.specs.declared.Fed.{Fed}
+use Rattle.stream_spec.specs.State.{StreamRules}
+use Rattle.stream_spec.specs.Calls.{Call, Feed, Close, cutOf, closes, share, numberTo, answerFor, leavesFor}
 use Rattle.terms.specs.Verdicts.{verdictNumber}
-use Rattle.flow.specs.CallLaws.{Promised}
-use Rattle.flow.specs.Trace.{Calls, _▸_, after, given, taken, ended, Row, opening, one-more, heard}
-use Rattle.flow.specs.Words.{decided, answered, Closed}
-use Rattle.flow.proofs.Rules.{rules-facts}
-use Rattle.flow.proofs.Cuttings.{every-cutting, closing-call, ran-is}
+use Rattle.stream_spec.specs.CallLaws.{Promised}
+use Rattle.stream_spec.specs.Trace.{Calls, _▸_, after, given, taken, ended, Row, opening, one-more, heard}
+use Rattle.stream_spec.specs.Words.{decided, answered, Closed}
+use Rattle.stream_spec.proofs.Rules.{rules-facts}
+use Rattle.stream_spec.proofs.Cuttings.{every-cutting, closing-call, ran-is}
 use Rattle.stream.proofs.feed.Reads as feed
 use Rattle.stream.proofs.feed.Kinds as feed-kinds
 use Rattle.stream.proofs.close.Reads as close

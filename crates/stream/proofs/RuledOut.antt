@@ -11,30 +11,30 @@ use Rattle.octets.specs.Octets.{numeral, digitsOf, laid, sum8, sumOf}
 use Rattle.calendar.specs.Calendar.{leap, daysIn, realParts, realTime}
 use Rattle.rules.specs.Table.{kindOf, suits, measureOf}
 use Rattle.rules.specs.Fields.{p001Ok, fieldsOk, judgeOf}
-use Rattle.wire.specs.Frame.{checked, readOf, bodyRead}
-use Rattle.wire.specs.Examples.{startOfA, frameA, frameB, A}
-use Rattle.view.specs.View.{viewOf}
-use Rattle.map.specs.Bits as Bits
-use Rattle.map.specs.Ring.{rotated}
-use Rattle.book.specs.State.{rangeRules, mapRules, soundOf}
-use Rattle.book.specs.Calls as Book
+use Rattle.frame_spec.specs.Frame.{checked, readOf, bodyRead}
+use Rattle.frame_spec.specs.Examples.{startOfA, frameA, frameB, A}
+use Rattle.frame_view.specs.View.{viewOf}
+use Rattle.tick_map.specs.Bits as Bits
+use Rattle.tick_map.specs.Ring.{rotated}
+use Rattle.ledger_spec.specs.State.{rangeRules, mapRules, soundOf}
+use Rattle.ledger_spec.specs.Calls as Book
 use Rattle.ledger.specs.State.{bookOf, ledgerOf}
-use Rattle.steps.specs.Walk.{after, next, found, noted}
-use Rattle.steps.specs.Waits as Waits
-use Rattle.steps.specs.Cuts as Cuts
-use Rattle.steps.specs.Account as Account
-use Rattle.steps.specs.Frames.{joined, eachOf}
+use Rattle.walk_laws.specs.Walk.{after, next, found, noted}
+use Rattle.walk_laws.specs.Waits as Waits
+use Rattle.walk_laws.specs.Cuts as Cuts
+use Rattle.walk_laws.specs.Account as Account
+use Rattle.walk_laws.specs.Frames.{joined, eachOf}
 use Rattle.record.specs.Record.{firstHalf, secondHalf, recordOf, blankOf}
 use Rattle.record.specs.Examples.{recordA, recordFF, recordB}
-use Rattle.seen.specs.Seen.{seenOf, saysOf}
-use Rattle.trail.specs.Offers.{callsBy, answered, offerOf}
-use Rattle.trail.specs.Walk.{madeOf, recordBy, bookBy, accepts, refuses}
-use Rattle.flow.specs.declared.Stream.{Stream}
-use Rattle.flow.specs.State as State
-use Rattle.flow.specs.State.{opened}
-use Rattle.flow.specs.Tally as Tally
-use Rattle.flow.specs.Calls as Calls
-use Rattle.flow.specs.Calls.{Feed, Close, fedPaper, answerTo, nextOf, leaves}
+use Rattle.reading.specs.Seen.{seenOf, saysOf}
+use Rattle.walk_spec.specs.Offers.{callsBy, answered, offerOf}
+use Rattle.walk_spec.specs.Walk.{madeOf, recordBy, bookBy, accepts, refuses}
+use Rattle.stream_spec.specs.declared.Stream.{Stream}
+use Rattle.stream_spec.specs.State as State
+use Rattle.stream_spec.specs.State.{opened}
+use Rattle.stream_spec.specs.Tally as Tally
+use Rattle.stream_spec.specs.Calls as Calls
+use Rattle.stream_spec.specs.Calls.{Feed, Close, fedPaper, answerTo, nextOf, leaves}
 use Rattle.stream.proofs.feed.Reads as feed
 use Rattle.stream.proofs.feed.Kinds as feed-kinds
 use Rattle.stream.proofs.close.Reads as close

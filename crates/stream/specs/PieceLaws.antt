@@ -8,11 +8,11 @@ use native.Mathlib.Nat.{add-assoc}
 use lib.ListN.{length, take, drop, length-append, length-drop, take-append-drop, drop-of-length-le}
 use lib.Seq.{drop-drop, length-take-le}
 use Rattle.record.specs.declared.Record.{Record}
-use Rattle.trail.specs.Tables.{notedAt, writtenFrom}
-use Rattle.flow.specs.declared.Stream.{Stream}
-use Rattle.flow.specs.Calls.{givenOf, behindOf}
-use Rattle.flow.specs.CutLaws as Cut
-use Rattle.flow.specs.CutLaws.{given-both, behind-both}
+use Rattle.walk_spec.specs.Tables.{notedAt, writtenFrom}
+use Rattle.stream_spec.specs.declared.Stream.{Stream}
+use Rattle.stream_spec.specs.Calls.{givenOf, behindOf}
+use Rattle.stream_spec.specs.CutLaws as Cut
+use Rattle.stream_spec.specs.CutLaws.{given-both, behind-both}
 use Rattle.stream.specs.declared.Pushed.{Pushed}
 use Rattle.stream.specs.Pushed.{pushedOf}
 

@@ -6,14 +6,14 @@ use mathlib.Core.List.{List, _++_}
 use native.Mathlib.Nat.{zero-add}
 use lib.Dec.{leb}
 use lib.ListN.{length, drop, replicate}
-use Rattle.trail.specs.Tables.{writtenFrom}
-use Rattle.flow.specs.declared.Stream.{Stream}
+use Rattle.walk_spec.specs.Tables.{writtenFrom}
+use Rattle.stream_spec.specs.declared.Stream.{Stream}
 use Rattle.terms.specs.declared.Verdict.the-variants.{Fine}
-use Rattle.flow.specs.State.{headOf}
-use Rattle.flow.specs.Run.{RanIs}
-use Rattle.flow.specs.Calls.{givenOf, behindOf, numberFor}
-use Rattle.flow.specs.CallLaws.{Promised, done-with}
-use Rattle.flow.specs.Window.{given-is, behind-is}
+use Rattle.stream_spec.specs.State.{headOf}
+use Rattle.stream_spec.specs.Run.{RanIs}
+use Rattle.stream_spec.specs.Calls.{givenOf, behindOf, numberFor}
+use Rattle.stream_spec.specs.CallLaws.{Promised, done-with}
+use Rattle.stream_spec.specs.Window.{given-is, behind-is}
 use Rattle.stream.specs.declared.Ran.{Ran}
 use Rattle.stream.specs.declared.Pushed.{Pushed}
 

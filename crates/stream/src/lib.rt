@@ -5,19 +5,19 @@ ghost use Prim.Native.Nat.{_+_, _-_, _*_, _/_, _≤_, _<_, _^_};
 ghost use lib.Dec.{leb};
 ghost use lib.ListN.{length, drop};
 ghost use Rattle.octets.specs.Octets.{laid};
-ghost use Rattle.trail.specs.Tables.{writtenFrom};
-ghost use Rattle.flow.specs.Tally.{tallyWith, tallyRight, ledgerRight};
-ghost use Rattle.flow.specs.State.{lastPlace, headOf, allZero, soundOf};
-ghost use Rattle.flow.specs.Run.{waitsAt, passedOver, strideOf, accountedOf, RanIs};
-ghost use Rattle.flow.specs.Calls.{Feed, Close, givenOf, answerFor, nextFor, leavesFor, answerTo, nextOf, leaves, fedPaper, refusedBy};
+ghost use Rattle.walk_spec.specs.Tables.{writtenFrom};
+ghost use Rattle.stream_spec.specs.Tally.{tallyWith, tallyRight, ledgerRight};
+ghost use Rattle.stream_spec.specs.State.{lastPlace, headOf, allZero, soundOf};
+ghost use Rattle.stream_spec.specs.Run.{waitsAt, passedOver, strideOf, accountedOf, RanIs};
+ghost use Rattle.stream_spec.specs.Calls.{Feed, Close, givenOf, answerFor, nextFor, leavesFor, answerTo, nextOf, leaves, fedPaper, refusedBy};
 ghost use Rattle.stream.specs.Pieces.{Piece};
 ghost use Rattle.stream.specs.Pushed.{pushedOf};
-use flow::Fed;
-use flow::Stream;
-use flow::Tally;
+use stream_spec::Fed;
+use stream_spec::Stream;
+use stream_spec::Tally;
 use ledger::Answer;
 use ledger::Ledger;
-use seen::Seen;
+use reading::Seen;
 use terms::Refusal;
 use terms::Verdict;
 
@@ -92,7 +92,7 @@ fn run(
     let mut count = k;
     let mut tally = start;
     while p < w.len() {
-        let seen = seen::see(w, p);
+        let seen = reading::see(w, p);
         let answer = seen.answer;
         if waits(closing, answer) {
             break;
@@ -275,7 +275,7 @@ fn sound(st: Stream) -> bool
     if st.closed {
         return false;
     }
-    let seen = seen::see(&held[..n], 0);
+    let seen = reading::see(&held[..n], 0);
     seen.answer == 1
 }
 

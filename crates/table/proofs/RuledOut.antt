@@ -10,9 +10,9 @@ use Rattle.octets.specs.Octets.{digitsOf, laid}
 use Rattle.record.specs.declared.Record.{Record}
 use Rattle.record.specs.Record.{firstHalf, secondHalf, recordOf}
 use Rattle.record.specs.Examples.{recordA}
-use Rattle.seen.specs.declared.Seen.{Seen}
-use Rattle.trail.specs.Walk.{madeOf}
-use Rattle.trail.specs.Tables.{notedAt}
+use Rattle.reading.specs.declared.Seen.{Seen}
+use Rattle.walk_spec.specs.Walk.{madeOf}
+use Rattle.walk_spec.specs.Tables.{notedAt}
 use Rattle.table.proofs.made.Reads as made
 use Rattle.table.proofs.made.Kinds as made-kinds
 use Rattle.table.proofs.note.Reads as note

@@ -1,10 +1,10 @@
 // The record of a reading, and the table of records. Document 01, "Fault records and the listing".
 ghost use mathlib.Core.Path.{_≡_};
-ghost use Rattle.trail.specs.Walk.{madeOf};
-ghost use Rattle.trail.specs.Tables.{notedAt};
+ghost use Rattle.walk_spec.specs.Walk.{madeOf};
+ghost use Rattle.walk_spec.specs.Tables.{notedAt};
 use offers::Offered;
 use record::Record;
-use seen::Seen;
+use reading::Seen;
 
 // The record of a reading: what was seen, the answer, and the ledger's floor and top after the offer.
 pub fn made(place: u64, seen: Seen, after: Offered) -> Record

@@ -5,27 +5,27 @@ use mathlib.Core.List.{List, [], _∷_}
 use native.Mathlib.Omega.{arith}
 use lib.ListN.{length, drop}
 use Rattle.terms.specs.Counters.{tickOf}
-use Rattle.book.specs.State.{Book}
+use Rattle.ledger_spec.specs.State.{Book}
 use Rattle.ledger.specs.State.{bookOf, ledgerOf}
-use Rattle.book.specs.Calls.{fresh}
-use Rattle.book.specs.Trace.{Calls, none, after}
+use Rattle.ledger_spec.specs.Calls.{fresh}
+use Rattle.ledger_spec.specs.Trace.{Calls, none, after}
 use Rattle.ledger.specs.declared.Ledger.{Ledger}
-use Rattle.book.proofs.Agree.{agrees}
+use Rattle.ledger_spec.proofs.Agree.{agrees}
 use Rattle.ledger.proofs.Seam.{book-of}
 use Rattle.record.specs.declared.Record.{Record}
-use Rattle.steps.specs.Account as Account
-use Rattle.steps.specs.Account.{Account, first, accountOf}
-use Rattle.steps.specs.Literal.{fromOf, sightAt, from-end}
-use Rattle.seen.specs.declared.Seen.{Seen}
+use Rattle.walk_laws.specs.Account as Account
+use Rattle.walk_laws.specs.Account.{Account, first, accountOf}
+use Rattle.walk_laws.specs.Literal.{fromOf, sightAt, from-end}
+use Rattle.reading.specs.declared.Seen.{Seen}
 use Rattle.offers.specs.declared.Offered.{Offered}
 use Rattle.walk.specs.declared.Passed.{Passed}
-use Rattle.seen.specs.Seen.{seenOf, saysOf}
-use Rattle.trail.specs.Offers.{callsBy, offerOf}
-use Rattle.trail.specs.CallLaws.{book-added}
-use Rattle.trail.specs.Onward.{Goes}
-use Rattle.trail.specs.Walk.{madeOf, recordBy, bookBy, walkOf, sights, added, accepts, framesOf}
-use Rattle.trail.specs.Tables.{notedAt, writtenFrom, noted-length}
-use Rattle.trail.specs.Counts.{accepts-one}
+use Rattle.reading.specs.Seen.{seenOf, saysOf}
+use Rattle.walk_spec.specs.Offers.{callsBy, offerOf}
+use Rattle.walk_spec.specs.CallLaws.{book-added}
+use Rattle.walk_spec.specs.Onward.{Goes}
+use Rattle.walk_spec.specs.Walk.{madeOf, recordBy, bookBy, walkOf, sights, added, accepts, framesOf}
+use Rattle.walk_spec.specs.Tables.{notedAt, writtenFrom, noted-length}
+use Rattle.walk_spec.specs.Counts.{accepts-one}
 use Rattle.walk.specs.Passes.{passedOf}
 
 -- the walk from a place on, with the book b

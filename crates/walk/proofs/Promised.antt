@@ -8,13 +8,13 @@ use denote.Ref.{now}
 use denote.Triple.Clauses.{AtExit}
 use lib.ListN.{length}
 use Rattle.ledger.specs.State.{bookOf, ledgerOf}
-use Rattle.book.specs.Trace.{trace}
-use Rattle.book.specs.Demand3.{Demand3}
-use Rattle.trail.specs.Walk.{callsOf}
-use Rattle.trail.specs.Literal.{Walk, literalWalk}
-use Rattle.trail.specs.LiteralLaws.{literal-walk}
+use Rattle.ledger_spec.specs.Trace.{trace}
+use Rattle.ledger_spec.specs.Demand3.{Demand3}
+use Rattle.walk_spec.specs.Walk.{callsOf}
+use Rattle.walk_spec.specs.Literal.{Walk, literalWalk}
+use Rattle.walk_spec.specs.LiteralLaws.{literal-walk}
 use Rattle.walk.specs.Promises.{Listed, Untouched, with-room, without-room}
-use Rattle.trail.proofs.Demand3.{ledger-demand-3}
+use Rattle.walk_spec.proofs.Demand3.{ledger-demand-3}
 use Rattle.walk.proofs.walk.Reads as walk
 use Rattle.walk.proofs.walk.Kinds as walk-kinds
 

@@ -10,23 +10,23 @@ use Rattle.octets.specs.Octets.{numeral, digitsOf, laid, sum8, sumOf}
 use Rattle.calendar.specs.Calendar.{leap, daysIn, realParts, realTime}
 use Rattle.rules.specs.Table.{kindOf, suits, measureOf}
 use Rattle.rules.specs.Fields.{p001Ok, fieldsOk, judgeOf}
-use Rattle.wire.specs.Frame.{checked, readOf, bodyRead}
-use Rattle.wire.specs.Examples.{startOfA, frameA, frameB, four, capture}
-use Rattle.view.specs.View.{viewOf}
-use Rattle.map.specs.Bits.{valueOf, mapOf}
-use Rattle.map.specs.Ring.{rotated}
-use Rattle.book.specs.State.{Asked, nothing, range, Book, rangeRules, mapRules, soundOf}
-use Rattle.book.specs.Calls.{ownNumber, checkedOf, numberTo, raised, done, nextOf, fresh}
+use Rattle.frame_spec.specs.Frame.{checked, readOf, bodyRead}
+use Rattle.frame_spec.specs.Examples.{startOfA, frameA, frameB, four, capture}
+use Rattle.frame_view.specs.View.{viewOf}
+use Rattle.tick_map.specs.Bits.{valueOf, mapOf}
+use Rattle.tick_map.specs.Ring.{rotated}
+use Rattle.ledger_spec.specs.State.{Asked, nothing, range, Book, rangeRules, mapRules, soundOf}
+use Rattle.ledger_spec.specs.Calls.{ownNumber, checkedOf, numberTo, raised, done, nextOf, fresh}
 use Rattle.ledger.specs.State.{bookOf, ledgerOf}
 use Rattle.ledger.specs.declared.Ledger.{Ledger}
-use Rattle.steps.specs.Walk.{after, next, found, noted, sightsOf}
-use Rattle.steps.specs.Account as Account
-use Rattle.steps.specs.Frames.{joined, eachOf}
+use Rattle.walk_laws.specs.Walk.{after, next, found, noted, sightsOf}
+use Rattle.walk_laws.specs.Account as Account
+use Rattle.walk_laws.specs.Frames.{joined, eachOf}
 use Rattle.record.specs.Record.{firstHalf, secondHalf, recordOf, blankOf}
 use Rattle.record.specs.Examples.{recordA, recordFF, recordB}
-use Rattle.seen.specs.Seen.{seenOf, saysOf}
-use Rattle.trail.specs.Offers.{callsBy, answered, offerOf}
-use Rattle.trail.specs.Walk.{madeOf, recordBy, bookBy, accepts, refuses, framesOf, refusedOf, fitsIn, walkAnswer, walkBook, walkLeaves}
+use Rattle.reading.specs.Seen.{seenOf, saysOf}
+use Rattle.walk_spec.specs.Offers.{callsBy, answered, offerOf}
+use Rattle.walk_spec.specs.Walk.{madeOf, recordBy, bookBy, accepts, refuses, framesOf, refusedOf, fitsIn, walkAnswer, walkBook, walkLeaves}
 use Rattle.walk.specs.Papers.{walkPaper}
 use Rattle.walk.proofs.walk.Reads as walk
 use Rattle.walk.proofs.walk.Kinds as walk-kinds

@@ -13,10 +13,10 @@ use Rattle.ledger.specs.declared.Answer.{Answer}
 use Rattle.ledger.specs.declared.Answer.the-variants.{Refused}
 use Rattle.ledger.specs.declared.Ledger.{Ledger}
 use Rattle.ledger.specs.Papers.{paperOf, count-paper-one}
-use Rattle.book.specs.Words.{valueAt}
+use Rattle.ledger_spec.specs.Words.{valueAt}
 use Rattle.walk.specs.declared.Walked.{Walked}
-use Rattle.trail.specs.Walk.{fitsIn, walkAnswer, walkLeaves}
-use Rattle.trail.specs.Answers.{left-kept, answer-done}
+use Rattle.walk_spec.specs.Walk.{fitsIn, walkAnswer, walkLeaves}
+use Rattle.walk_spec.specs.Answers.{left-kept, answer-done}
 use Rattle.walk.specs.Papers.{walkPaper}
 
 same : (a b : Answer) (i j k m n o : ℕ) (x y : Ledger) → a ≡ b → i ≡ j → k ≡ m → n ≡ o → x ≡ y

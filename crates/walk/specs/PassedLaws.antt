@@ -9,9 +9,9 @@ use lib.ListN.{length}
 use Rattle.terms.specs.Paper.{answer}
 use Rattle.ledger.specs.State.{ledgerOf}
 use Rattle.walk.specs.declared.Passed.{Passed}
-use Rattle.trail.specs.Walk.{sights, walkOf, framesOf, refusedOf, fitsIn, walkAnswer, walkBook, walkLeaves}
-use Rattle.trail.specs.Tables.{writtenFrom}
-use Rattle.trail.specs.WalkLaws.{counts-all, all-written}
+use Rattle.walk_spec.specs.Walk.{sights, walkOf, framesOf, refusedOf, fitsIn, walkAnswer, walkBook, walkLeaves}
+use Rattle.walk_spec.specs.Tables.{writtenFrom}
+use Rattle.walk_spec.specs.WalkLaws.{counts-all, all-written}
 use Rattle.walk.specs.Passes.{passedOf}
 
 module _ (s : List ℕ) (x : Passed) (e : x ≡ passedOf s) where

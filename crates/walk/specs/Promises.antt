@@ -10,14 +10,14 @@ use borrow.Author.Tests.{le-leb, lt-leb}
 use Rattle.terms.specs.Paper.{Paper, answer, one-number}
 use Rattle.octets.specs.Octets.{laid}
 use Rattle.ledger.specs.State.{ledgerOf}
-use Rattle.book.specs.Calls.{fresh}
+use Rattle.ledger_spec.specs.Calls.{fresh}
 use Rattle.ledger.specs.Papers.{paperOf}
-use Rattle.book.specs.Words.{valueAt}
+use Rattle.ledger_spec.specs.Words.{valueAt}
 use Rattle.walk.specs.declared.Walked.{Walked}
-use Rattle.trail.specs.Walk.{sights, walkOf, framesOf, refusedOf, fitsIn, walkAnswer, walkBook, tableOf, walkLeaves}
+use Rattle.walk_spec.specs.Walk.{sights, walkOf, framesOf, refusedOf, fitsIn, walkAnswer, walkBook, tableOf, walkLeaves}
 use Rattle.walk.specs.Papers.{walkPaper}
-use Rattle.trail.specs.Literal.{Walk, literalWalk}
-use Rattle.trail.specs.LiteralLaws.{literal-walk}
+use Rattle.walk_spec.specs.Literal.{Walk, literalWalk}
+use Rattle.walk_spec.specs.LiteralLaws.{literal-walk}
 
 -- WHAT THE CODE'S PROMISE COMES TO, of a capture s, a buffer d that is d′ later, and the answer x
 

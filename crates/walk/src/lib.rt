@@ -4,17 +4,17 @@ ghost use Prim.Native.Nat.{_+_, _*_, _/_, _<_};
 ghost use lib.Dec.{leb};
 ghost use lib.ListN.{length, drop};
 ghost use Rattle.ledger.specs.State.{ledgerOf};
-ghost use Rattle.book.specs.Calls.{fresh};
-ghost use Rattle.seen.specs.Seen.{seenOf};
-ghost use Rattle.trail.specs.Onward.{Goes};
-ghost use Rattle.trail.specs.Walk.{accepts, walkOf, fitsIn, walkAnswer, walkBook, walkLeaves};
-ghost use Rattle.trail.specs.Tables.{writtenFrom};
+ghost use Rattle.ledger_spec.specs.Calls.{fresh};
+ghost use Rattle.reading.specs.Seen.{seenOf};
+ghost use Rattle.walk_spec.specs.Onward.{Goes};
+ghost use Rattle.walk_spec.specs.Walk.{accepts, walkOf, fitsIn, walkAnswer, walkBook, walkLeaves};
+ghost use Rattle.walk_spec.specs.Tables.{writtenFrom};
 ghost use Rattle.walk.specs.Papers.{walkPaper};
 ghost use Rattle.walk.specs.Passes.{passedOf};
 use frame::Found;
 use ledger::Answer;
 use ledger::Ledger;
-use seen::Seen;
+use reading::Seen;
 use terms::ChannelNumber;
 use terms::Refusal;
 
@@ -68,7 +68,7 @@ fn pass(capture: &[u8], start: Ledger, out: &mut [u8]) -> Passed
     let mut frames: usize = 0;
     let mut ledger = start;
     while p < capture.len() {
-        let seen = seen::see(capture, p);
+        let seen = reading::see(capture, p);
         let after = offers::offer(ledger, seen);
         table::note(out, records, table::made(p as u64, seen, after));
         p = onward(capture, p, seen);

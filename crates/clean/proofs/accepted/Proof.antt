@@ -1,6 +1,6 @@
 -- `accepted`: the reading's answer is 0 or not. Assumes nothing.
 use borrow.Author.Tests.{ne-eqb}
-use Rattle.trail.specs.Walk.{accepts}
+use Rattle.walk_spec.specs.Walk.{accepts}
 use Rattle.clean.proofs.accepted.Statement.{statement}
 use Rattle.clean.proofs.accepted.Tie as tie
 

@@ -2,7 +2,7 @@
 -- does. The measure is what is left of size. Assumes nothing.
 use native.Mathlib.Omega.{arith}
 use Prim.Native.Nat.{_-_}
-use Rattle.wash.specs.Differ.{Alike, alike-start, alike-step, alike-here, alike-all}
+use Rattle.clean_spec.specs.Differ.{Alike, alike-start, alike-step, alike-here, alike-all}
 use Rattle.clean.proofs.agreed.Statement.{statement}
 use Rattle.clean.proofs.agreed.Tie as tie
 

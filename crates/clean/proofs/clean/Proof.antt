@@ -3,7 +3,7 @@ use mathlib.Core.Path.{sym, _∙_}
 use borrow.Author.Needs.{needs}
 use borrow.Author.Tests.{not-true, not-false}
 use Rattle.clean.specs.Answers.{clean-done}
-use Rattle.wash.specs.Answers.{clean-full}
+use Rattle.clean_spec.specs.Answers.{clean-full}
 use Rattle.clean.proofs.clean.Statement.{statement}
 use Rattle.clean.proofs.clean.Tie as tie
 

@@ -3,8 +3,8 @@ use mathlib.Core.Path.{_∙_, sym}
 use borrow.Author.Needs.{needs}
 use borrow.Author.Tests.{ne-eqb}
 use native.Mathlib.Omega.{arith}
-use Rattle.trail.specs.Counts.{accepts-one}
-use Rattle.wash.specs.Clean.{foundBy}
+use Rattle.walk_spec.specs.Counts.{accepts-one}
+use Rattle.clean_spec.specs.Clean.{foundBy}
 use Rattle.clean.proofs.found.Statement.{statement}
 use Rattle.clean.proofs.found.Tie as tie
 

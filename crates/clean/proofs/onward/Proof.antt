@@ -5,8 +5,8 @@ use mathlib.Core.Path.{_≡_, sym, ap, _∙_}
 use borrow.Author.Needs.{needs}
 use Rattle.frame.specs.declared.Found.{Found}
 use Rattle.frame.specs.Papers.{foundPaper}
-use Rattle.wire.specs.Search.{searchOf}
-use Rattle.wash.specs.Steps.{Steps}
+use Rattle.frame_spec.specs.Search.{searchOf}
+use Rattle.clean_spec.specs.Steps.{Steps}
 use Rattle.clean.proofs.PassLaws.{kept-frame, kept-found, kept-none, kept-within}
 use Rattle.clean.proofs.onward.Statement.{statement}
 use Rattle.clean.proofs.onward.Tie as tie

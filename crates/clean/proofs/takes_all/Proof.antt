@@ -1,6 +1,6 @@
 -- `takes_all`: the cleaned capture is no longer than the capture; else the pass counted its bytes. Assumes nothing.
 use borrow.Author.Needs.{needs}
-use Rattle.wash.specs.Answers.{fits-roomy}
+use Rattle.clean_spec.specs.Answers.{fits-roomy}
 use Rattle.clean.specs.Answers.{fits-counted}
 use Rattle.clean.proofs.takes_all.Statement.{statement}
 use Rattle.clean.proofs.takes_all.Tie as tie

@@ -1,8 +1,8 @@
 -- `body_at`: the paper of a frame that reads tells its length, and that its body lies within the bytes. Assumes nothing.
 use native.Mathlib.Omega.{arith}
-use Rattle.wire.specs.Places.{body-none, read-inside, read-part}
+use Rattle.frame_spec.specs.Places.{body-none, read-inside, read-part}
 use Rattle.frame.specs.Papers.{readPaper}
-use Rattle.wire.specs.Frame.{readOf}
+use Rattle.frame_spec.specs.Frame.{readOf}
 use Rattle.terms.specs.Refusals.{refusal-pos}
 use Rattle.terms.specs.Paper.{answer, one-number}
 use lib.ListN.{length, drop}

@@ -1,9 +1,9 @@
 -- `head_at`: each return cites the outcome of reading for the tests that led there; a number at `at + k` of the bytes
 -- is the one at k of what lies behind the place. Assumes nothing.
 use native.Mathlib.Omega.{arith}
-use Rattle.wire.specs.Places.{be-at, be-here}
-use Rattle.wire.specs.Outcomes.{measure, read-short, read-measured, read-cut}
-use Rattle.wire.specs.Frame.{msgType, bodyLength}
+use Rattle.frame_spec.specs.Places.{be-at, be-here}
+use Rattle.frame_spec.specs.Outcomes.{measure, read-short, read-measured, read-cut}
+use Rattle.frame_spec.specs.Frame.{msgType, bodyLength}
 use Rattle.terms.specs.Verdicts.{verdictNumber}
 use Rattle.rules.specs.Outcomes.{measure-type, measure-same}
 use Rattle.rules.specs.Table.{kindOf, known, kind-is}

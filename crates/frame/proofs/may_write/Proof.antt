@@ -1,7 +1,7 @@
 -- `may_write`: each return cites the outcome of writing for the tests that led there. Assumes nothing.
 use native.Mathlib.Omega.{arith}
-use Rattle.wire.specs.WriteLaws.{measureIn, judgementIn, write-measured, write-judged, write-room, write-done}
-use Rattle.wire.specs.Write.{Message, message}
+use Rattle.frame_spec.specs.WriteLaws.{measureIn, judgementIn, write-measured, write-judged, write-room, write-done}
+use Rattle.frame_spec.specs.Write.{Message, message}
 use Rattle.terms.specs.Verdicts.{verdictNumber}
 use Rattle.rules.specs.Outcomes.{measure-same, judge-same}
 use Rattle.rules.specs.Table.{kindOf, kind-is}

@@ -1,8 +1,8 @@
 -- `read_at`: a head's refusal is reading's; a whole frame is summed and handed on. Assumes nothing.
 use native.Mathlib.Omega.{arith}
-use Rattle.wire.specs.Measures.{fits}
+use Rattle.frame_spec.specs.Measures.{fits}
 use Rattle.frame.specs.Papers.{HeadSays}
-use Rattle.wire.specs.Frame.{Whole}
+use Rattle.frame_spec.specs.Frame.{Whole}
 use Rattle.frame.specs.declared.Head.the-variants as Head
 use lib.ListN.{drop}
 use mathlib.Core.List.{List}

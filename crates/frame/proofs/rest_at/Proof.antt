@@ -1,9 +1,9 @@
 -- `rest_at`: what it requires says that the frame is whole, so its places are inside; each return cites the outcome of
 -- reading behind the sum. Assumes nothing.
 use native.Mathlib.Omega.{arith}
-use Rattle.wire.specs.Places.{be-at, be-here, stored-at, part-body, plain-sum, inside-at}
-use Rattle.wire.specs.Outcomes.{accepted, judgement, read-sum, read-judgement, read-frame}
-use Rattle.wire.specs.Frame.{msgType, sendingTime, msgSeqNum, bodyLength, checkSum, plain, Whole}
+use Rattle.frame_spec.specs.Places.{be-at, be-here, stored-at, part-body, plain-sum, inside-at}
+use Rattle.frame_spec.specs.Outcomes.{accepted, judgement, read-sum, read-judgement, read-frame}
+use Rattle.frame_spec.specs.Frame.{msgType, sendingTime, msgSeqNum, bodyLength, checkSum, plain, Whole}
 use Rattle.terms.specs.Verdicts.{verdictNumber}
 use Rattle.rules.specs.Outcomes.{judge-same}
 use Rattle.octets.specs.Octets.{sum8}

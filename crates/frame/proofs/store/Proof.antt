@@ -3,8 +3,8 @@
 use native.Mathlib.Omega.{arith}
 use borrow.Author.Tests.{le-leb}
 use Rattle.octets.specs.Papers.{laid-there}
-use Rattle.wire.specs.WriteLaws.{plain-length, put-next}
-use Rattle.wire.specs.Write.{Message, message, plainOf, frameOf}
+use Rattle.frame_spec.specs.WriteLaws.{plain-length, put-next}
+use Rattle.frame_spec.specs.Write.{Message, message, plainOf, frameOf}
 use Rattle.octets.specs.Overlays.{take-front}
 use Rattle.octets.specs.Numerals.{length-digits}
 use Rattle.octets.specs.Octets.{bytesOf, laid, sum8}

@@ -1,6 +1,6 @@
 -- `write`: `may_write` gives the answer; the bytes are stored only where it is 0. Assumes nothing.
-use Rattle.wire.specs.WriteLaws.{fit, left-kept, left-laid}
-use Rattle.wire.specs.Write.{Message, message, writeOf}
+use Rattle.frame_spec.specs.WriteLaws.{fit, left-kept, left-laid}
+use Rattle.frame_spec.specs.Write.{Message, message, writeOf}
 use Rattle.octets.specs.Papers.{writtenPaper}
 use Rattle.terms.specs.Refusals.{numberOf, refusal-pos}
 use Rattle.terms.specs.Paper.{answer, refusal, one-number}

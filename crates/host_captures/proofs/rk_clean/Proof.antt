@@ -1,5 +1,5 @@
 -- `rk_clean`: the cleaner's paper is told, and the buffer is as it left it. Assumes nothing.
-use Rattle.words.specs.Told.{tells-then, tells-else}
+use Rattle.host_words.specs.Told.{tells-then, tells-else}
 use borrow.Author.Needs.{needs}
 use Rattle.host_captures.proofs.rk_clean.Statement.{statement}
 use Rattle.host_captures.proofs.rk_clean.Tie as tie

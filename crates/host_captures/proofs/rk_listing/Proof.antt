@@ -1,11 +1,11 @@
 -- `rk_listing`: 13, else what laying the listing answers and leaves. Assumes nothing.
 use mathlib.Core.Path.{ap, _∙_}
 use Rattle.terms.specs.Paper.{Paper, one-number}
-use Rattle.book.specs.Words.{valueAt}
-use Rattle.book.specs.Calls.{Missing, answerTo}
+use Rattle.ledger_spec.specs.Words.{valueAt}
+use Rattle.ledger_spec.specs.Calls.{Missing, answerTo}
 use Rattle.ledger.specs.declared.Ledger.{Ledger}
 use Rattle.ledger.specs.State.{bookOf}
-use Rattle.words.specs.Told.{tells-as}
+use Rattle.host_words.specs.Told.{tells-as}
 use Rattle.host_captures.specs.Captures.{last-line, listing-refused, listing-laid}
 use borrow.Author.Needs.{needs}
 use Rattle.host_captures.proofs.rk_listing.Statement.{statement}

@@ -1,7 +1,7 @@
 -- `rk_walk`: the walk's paper is told; words and records are those after it. Assumes nothing.
 use mathlib.Core.Path.{_∙_}
 use Rattle.terms.specs.Paper.{one-number}
-use Rattle.words.specs.Told.{tells-then, tells-else}
+use Rattle.host_words.specs.Told.{tells-then, tells-else}
 use Rattle.host_captures.specs.Captures.{walk-words}
 use borrow.Author.Needs.{needs}
 use Rattle.host_captures.proofs.rk_walk.Statement.{statement}

@@ -2,7 +2,7 @@
 use mathlib.Core.Path.{sym, ap}
 use Rattle.terms.specs.Paper.{one-number}
 use Rattle.octets.specs.Papers.{writtenPaper}
-use Rattle.words.specs.Told.{tells-done, tells-why}
+use Rattle.host_words.specs.Told.{tells-done, tells-why}
 use borrow.Author.Needs.{needs}
 use Rattle.host_captures.proofs.told_bytes.Statement.{statement}
 use Rattle.host_captures.proofs.told_bytes.Tie as tie

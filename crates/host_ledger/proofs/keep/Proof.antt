@@ -1,6 +1,6 @@
 -- `keep`: 0 and 12 store the next ledger, any other answer nothing. Assumes nothing.
 use borrow.Author.Tests.{ne-eqb}
-use Rattle.words.specs.Calls.{keptBy}
+use Rattle.host_words.specs.Calls.{keptBy}
 use borrow.Author.Needs.{needs}
 use Rattle.host_ledger.proofs.keep.Statement.{statement}
 use Rattle.host_ledger.proofs.keep.Tie as tie

@@ -2,7 +2,7 @@
 use mathlib.Core.Path.{ap₂}
 use Rattle.terms.specs.declared.ChannelNumber.{ChannelNumber}
 use Rattle.terms.specs.declared.TickNumber.{TickNumber}
-use Rattle.book.specs.Calls.{Announce}
+use Rattle.ledger_spec.specs.Calls.{Announce}
 use Rattle.host_ledger.proofs.Calls.{answers}
 use borrow.Author.Needs.{needs}
 use Rattle.host_ledger.proofs.rk_ledger_announce.Statement.{statement}

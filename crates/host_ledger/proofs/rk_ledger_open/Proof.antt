@@ -2,7 +2,7 @@
 use mathlib.Core.Path.{ap, _∙_}
 use Rattle.terms.specs.Paper.{one-number}
 use Rattle.terms.specs.declared.ChannelNumber.{ChannelNumber}
-use Rattle.book.specs.Calls.{openNumber}
+use Rattle.ledger_spec.specs.Calls.{openNumber}
 use Rattle.host_ledger.proofs.Calls.{opened-words}
 use borrow.Author.Needs.{needs}
 use Rattle.host_ledger.proofs.rk_ledger_open.Statement.{statement}

@@ -3,7 +3,7 @@ use mathlib.Core.Path.{sym, ap, ap₂, _∙_}
 use Rattle.terms.specs.Paper.{one-number}
 use Rattle.terms.specs.declared.ChannelNumber.{ChannelNumber}
 use Rattle.terms.specs.declared.TickNumber.{TickNumber}
-use Rattle.book.specs.Calls.{Reply}
+use Rattle.ledger_spec.specs.Calls.{Reply}
 use Rattle.ledger.specs.Papers.{replyPaper}
 use Rattle.ledger.specs.declared.ReplyAnswer.{ReplyAnswer}
 use Rattle.host_ledger.proofs.Calls.{reply-refuses, reply-tells}

@@ -1,7 +1,7 @@
 -- `rk_ledger_request`: the call's paper is told, and the words are those after it. Assumes nothing.
 use mathlib.Core.Path.{sym, ap, _∙_}
 use Rattle.terms.specs.declared.ChannelNumber.{ChannelNumber}
-use Rattle.book.specs.Calls.{Request}
+use Rattle.ledger_spec.specs.Calls.{Request}
 use Rattle.ledger.specs.Papers.{requestPaper}
 use Rattle.host_ledger.proofs.Calls.{refuses, tells}
 use borrow.Author.Needs.{needs}

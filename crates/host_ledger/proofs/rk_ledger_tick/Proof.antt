@@ -2,7 +2,7 @@
 use mathlib.Core.Path.{sym, ap, ap₂, _∙_}
 use Rattle.terms.specs.declared.ChannelNumber.{ChannelNumber}
 use Rattle.terms.specs.declared.TickNumber.{TickNumber}
-use Rattle.book.specs.Calls.{Tick}
+use Rattle.ledger_spec.specs.Calls.{Tick}
 use Rattle.ledger.specs.Papers.{tickPaper}
 use Rattle.host_ledger.proofs.Calls.{refuses, tells}
 use borrow.Author.Needs.{needs}

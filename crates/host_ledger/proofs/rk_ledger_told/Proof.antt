@@ -1,5 +1,5 @@
 -- `rk_ledger_told`: 13, or what the ledger has to tell. Assumes nothing.
-use Rattle.words.specs.Told.{tells-then, tells-else}
+use Rattle.host_words.specs.Told.{tells-then, tells-else}
 use Rattle.host_ledger.specs.Words.{ledger-told}
 use borrow.Author.Needs.{needs}
 use Rattle.host_ledger.proofs.rk_ledger_told.Statement.{statement}

@@ -3,7 +3,7 @@ use mathlib.Core.Path.{sym, ap, _∙_}
 use native.Mathlib.Omega.{arith}
 use Rattle.terms.specs.Paper.{one-number}
 use Rattle.step_frame.specs.Papers.{fieldPaper}
-use Rattle.words.specs.Told.{tells-done, tells-refused}
+use Rattle.host_words.specs.Told.{tells-done, tells-refused}
 use borrow.Author.Needs.{needs}
 use Rattle.host_step.proofs.rk_step_field.Statement.{statement}
 use Rattle.host_step.proofs.rk_step_field.Tie as tie

@@ -1,5 +1,5 @@
 -- `rk_step_write`: the writer's paper is told, and the buffer is as it left it. Assumes nothing.
-use Rattle.words.specs.Told.{tells-as}
+use Rattle.host_words.specs.Told.{tells-as}
 use borrow.Author.Needs.{needs}
 use Rattle.host_step.proofs.rk_step_write.Statement.{statement}
 use Rattle.host_step.proofs.rk_step_write.Tie as tie

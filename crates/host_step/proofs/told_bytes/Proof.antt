@@ -2,7 +2,7 @@
 use mathlib.Core.Path.{sym, ap, _∙_}
 use Rattle.terms.specs.Paper.{one-number}
 use Rattle.step_frame.specs.Papers.{stepWrittenPaper, step-pos}
-use Rattle.words.specs.Told.{tells-done, tells-refused}
+use Rattle.host_words.specs.Told.{tells-done, tells-refused}
 use borrow.Author.Needs.{needs}
 use Rattle.host_step.proofs.told_bytes.Statement.{statement}
 use Rattle.host_step.proofs.told_bytes.Tie as tie

@@ -7,8 +7,8 @@ use native.Mathlib.Omega.{arith}
 use borrow.Author.Tests.{eqb-true, eqb-false}
 use borrow.Author.Needs.{needs}
 use lib.Dec.{leb}
-use Rattle.map.specs.Bits.{Words}
-use Rattle.map.proofs.Words.{list-lt}
+use Rattle.tick_map.specs.Bits.{Words}
+use Rattle.tick_map.proofs.Words.{list-lt}
 use Rattle.ledger.proofs.Seam.{rules-empty, rules-none, rules-all, rules-scan}
 use Rattle.ledger.proofs.map_sound.Statement.{statement}
 use Rattle.ledger.proofs.map_sound.Tie as tie

@@ -3,7 +3,7 @@ use mathlib.Core.Bool.{Bool, _&&_, true, false}
 use mathlib.Core.Path.{_≡_, refl, sym}
 use borrow.Author.Tests.{eq-eqb, ne-eqb, le-leb, lt-leb}
 use lib.Dec.{leb}
-use Rattle.book.specs.State.{orElse}
+use Rattle.ledger_spec.specs.State.{orElse}
 use Rattle.ledger.proofs.reply_status.Statement.{statement}
 use Rattle.ledger.proofs.reply_status.Tie as tie
 

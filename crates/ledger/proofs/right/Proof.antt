@@ -2,8 +2,8 @@
 use Prim.Native.Nat.{_+_, _≤_, _<_}
 use native.Mathlib.Omega.{arith}
 use borrow.Author.Tests.{le-leb, lt-leb}
-use Rattle.book.specs.State.{rangeRules}
-use Rattle.book.proofs.Tests.{short-is}
+use Rattle.ledger_spec.specs.State.{rangeRules}
+use Rattle.ledger_spec.proofs.Tests.{short-is}
 use Rattle.ledger.proofs.right.Statement.{statement}
 use Rattle.ledger.proofs.right.Tie as tie
 

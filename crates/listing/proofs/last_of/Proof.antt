@@ -2,7 +2,7 @@
 use mathlib.Core.Path.{ap}
 use Rattle.terms.specs.Paper.{Paper}
 use Rattle.ledger.specs.State.{bookOf}
-use Rattle.book.specs.Words.{valueAt}
+use Rattle.ledger_spec.specs.Words.{valueAt}
 use Rattle.listing.specs.Output.{lastBy}
 use borrow.Author.Needs.{needs}
 use Rattle.listing.proofs.last_of.Statement.{statement}

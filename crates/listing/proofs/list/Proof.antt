@@ -9,7 +9,7 @@ use lib.Seq.{length-take-le}
 use Rattle.octets.specs.Octets.{Bytes}
 use Rattle.octets.specs.Papers.{writtenPaper, roomFor, laidIfRoom}
 use Rattle.report.specs.Columns.{not-refused}
-use Rattle.trail.specs.Literal.{literalWalk}
+use Rattle.walk_spec.specs.Literal.{literalWalk}
 use Rattle.walk.specs.Promises.{Listed, with-room}
 use Rattle.lines.specs.Answered.{answered}
 use Rattle.lines.specs.Laws.{LastFits}

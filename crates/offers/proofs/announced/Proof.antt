@@ -2,8 +2,8 @@
 use mathlib.Core.Path.{sym, ap, _∙_}
 use borrow.Author.Needs.{needs}
 use Rattle.terms.specs.Paper.{one-number}
-use Rattle.map.specs.Bits.{Words}
-use Rattle.book.specs.Calls.{answerTo}
+use Rattle.tick_map.specs.Bits.{Words}
+use Rattle.ledger_spec.specs.Calls.{answerTo}
 use Rattle.ledger.proofs.Seam.{next-of}
 use Rattle.ledger.specs.Papers.{paperOf}
 use Rattle.offers.proofs.announced.Statement.{statement}

@@ -1,7 +1,7 @@
 -- `kept`: a ledger that code holds is the ledger of its book. Assumes nothing.
 use mathlib.Core.Path.{refl, sym}
 use borrow.Author.Needs.{needs}
-use Rattle.map.specs.Bits.{Words}
+use Rattle.tick_map.specs.Bits.{Words}
 use Rattle.ledger.proofs.Seam.{ledger-of}
 use Rattle.offers.proofs.kept.Statement.{statement}
 use Rattle.offers.proofs.kept.Tie as tie

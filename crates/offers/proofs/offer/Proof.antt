@@ -3,8 +3,8 @@ use mathlib.Core.Path.{_≡_, sym, _∙_}
 use borrow.Author.Needs.{needs}
 use Rattle.rules.specs.Table.{kind-is}
 use Rattle.rules.specs.declared.Kind.{Kind}
-use Rattle.trail.specs.Offers.{callsFor, callsBy}
-use Rattle.trail.specs.OfferLaws.{calls-refused, calls-of}
+use Rattle.walk_spec.specs.Offers.{callsFor, callsBy}
+use Rattle.walk_spec.specs.OfferLaws.{calls-refused, calls-of}
 use Rattle.offers.specs.OfferedLaws.{offer-none, offer-one}
 use Rattle.offers.proofs.offer.Statement.{statement}
 use Rattle.offers.proofs.offer.Tie as tie

@@ -1,9 +1,9 @@
 -- `scrub`: reading's refusal is passed on; of a frame that reads, its paper tells the type and the length that it is scrubbed
 -- by, and CheckSum's last byte the sum. Assumes nothing.
 use Rattle.private.specs.Laws.{answer-as, read-there, read-suits, read-sum, read-scrubs, answer-refused, refused-same}
-use Rattle.wire.specs.Outcomes.{read-done, read-values, read-length}
+use Rattle.frame_spec.specs.Outcomes.{read-done, read-values, read-length}
 use Rattle.frame.specs.Papers.{readPaper}
-use Rattle.wire.specs.Frame.{msgType, bodyLength, readOf}
+use Rattle.frame_spec.specs.Frame.{msgType, bodyLength, readOf}
 use Rattle.rules.specs.Table.{kindOf, kind-is}
 use Rattle.terms.specs.Refusals.{numberOf, refusal-pos}
 use Rattle.terms.specs.Paper.{Paper, answer, refusal, one-number}

@@ -8,8 +8,8 @@ use borrow.Author.Needs.{needs}
 use Rattle.terms.specs.Paper.{Paper, answer, refusal, one-number}
 use Rattle.terms.specs.Refusals.{numberOf, refusal-pos}
 use Rattle.rules.specs.Table.{kindOf, kind-is}
-use Rattle.wire.specs.Frame.{readOf}
-use Rattle.wire.specs.Outcomes.{read-done, read-values, read-length}
+use Rattle.frame_spec.specs.Frame.{readOf}
+use Rattle.frame_spec.specs.Outcomes.{read-done, read-values, read-length}
 use Rattle.frame.specs.Papers.{readPaper}
 use Rattle.private.specs.IntoLaws.{into-passed, into-kept}
 use Rattle.scrub.proofs.scrub_into.Statement.{statement}

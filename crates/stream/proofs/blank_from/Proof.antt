@@ -5,8 +5,8 @@ use mathlib.Core.Path.{_≡_, refl, _∙_}
 use mathlib.Core.Bool.{_&&_}
 use lib.ListN.{length, drop}
 use borrow.Author.Needs.{needs}
-use Rattle.flow.specs.State.{allZero}
-use Rattle.flow.specs.StateLaws.{zero-step, zero-end}
+use Rattle.stream_spec.specs.State.{allZero}
+use Rattle.stream_spec.specs.StateLaws.{zero-step, zero-end}
 use Rattle.stream.proofs.blank_from.Statement.{statement}
 use Rattle.stream.proofs.blank_from.Tie as tie
 

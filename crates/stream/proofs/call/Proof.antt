@@ -8,9 +8,9 @@ use lib.ListN.{length}
 use borrow.Author.Tests.{not-true, not-false, leb-true}
 use borrow.Author.Needs.{needs}
 use Rattle.terms.specs.declared.Refusal.the-variants.{State, Closed, Places, Room}
-use Rattle.flow.specs.State.{lastPlace, soundOf}
-use Rattle.flow.specs.StateLaws.{sound-checked}
-use Rattle.flow.specs.CallLaws.{number-13, number-19, number-29, number-8, number-0, refused-call}
+use Rattle.stream_spec.specs.State.{lastPlace, soundOf}
+use Rattle.stream_spec.specs.StateLaws.{sound-checked}
+use Rattle.stream_spec.specs.CallLaws.{number-13, number-19, number-29, number-8, number-0, refused-call}
 use Rattle.stream.specs.Pushed.{done-call}
 use Rattle.stream.proofs.call.Statement.{statement}
 use Rattle.stream.proofs.call.Tie as tie

@@ -2,8 +2,8 @@
 use native.Mathlib.Nat.{add-zero}
 use borrow.Author.Needs.{needs}
 use borrow.Author.Tests.{eq-eqb, ne-eqb}
-use Rattle.trail.specs.Walk.{accepts, refuses}
-use Rattle.flow.specs.Tally.{tallyWith}
+use Rattle.walk_spec.specs.Walk.{accepts, refuses}
+use Rattle.stream_spec.specs.Tally.{tallyWith}
 use Rattle.stream.proofs.counted.Statement.{statement}
 use Rattle.stream.proofs.counted.Tie as tie
 

@@ -1,7 +1,7 @@
 -- `fits`: the room behind the place takes n bytes, and then m. Assumes nothing.
 use native.Mathlib.Omega.{arith}
 use borrow.Author.Needs.{needs}
-use Rattle.flow.specs.StateLaws.{fits-is, fits-not}
+use Rattle.stream_spec.specs.StateLaws.{fits-is, fits-not}
 use Rattle.stream.proofs.fits.Statement.{statement}
 use Rattle.stream.proofs.fits.Tie as tie
 

@@ -5,8 +5,8 @@ use Prim.Native.Nat.{_-_, _≤_}
 use mathlib.Core.Path.{_≡_, refl}
 use lib.ListN.{length}
 use Rattle.octets.specs.Octets.{laid}
-use Rattle.flow.specs.State.{headOf}
-use Rattle.flow.specs.Window.{head-more, head-none}
+use Rattle.stream_spec.specs.State.{headOf}
+use Rattle.stream_spec.specs.Window.{head-more, head-none}
 use Rattle.stream.proofs.hold.Statement.{statement}
 use Rattle.stream.proofs.hold.Tie as tie
 

@@ -1,7 +1,7 @@
 -- `ledger_right`: a count of a sound ledger is not refused, one of a broken ledger is. Assumes nothing.
 use mathlib.Core.Path.{sym, _∙_}
 use borrow.Author.Needs.{needs}
-use Rattle.flow.specs.StateLaws.{held-done, held-refused, ledger-other, ledger-own}
+use Rattle.stream_spec.specs.StateLaws.{held-done, held-refused, ledger-other, ledger-own}
 use Rattle.stream.proofs.ledger_right.Statement.{statement}
 use Rattle.stream.proofs.ledger_right.Tie as tie
 

@@ -1,5 +1,5 @@
 -- `passes`: by whether the search is under way. Assumes nothing.
-use Rattle.flow.specs.Run.{passedOver}
+use Rattle.stream_spec.specs.Run.{passedOver}
 use Rattle.stream.proofs.passes.Statement.{statement}
 use Rattle.stream.proofs.passes.Tie as tie
 

@@ -4,8 +4,8 @@ use Prim.Native.Nat.{ℕ, _+_, _-_, _≤_}
 use mathlib.Core.Path.{_≡_, refl, sym, ap, _∙_}
 use mathlib.Core.List.{List, _++_}
 use lib.ListN.{length, take, drop}
-use Rattle.flow.specs.State.{headOf}
-use Rattle.flow.specs.Window.{dropped, joined-length, laid-in, window-is, take-drop, padded, kept-few, given-written}
+use Rattle.stream_spec.specs.State.{headOf}
+use Rattle.stream_spec.specs.Window.{dropped, joined-length, laid-in, window-is, take-drop, padded, kept-few, given-written}
 use Rattle.stream.specs.Pushed.{push-is}
 use borrow.Author.Needs.{needs}
 use Rattle.stream.proofs.push.Statement.{statement}

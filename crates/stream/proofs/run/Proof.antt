@@ -6,8 +6,8 @@ use Prim.Native.Nat.{_+_, _-_, _≤_}
 use mathlib.Core.Path.{_≡_, sym, _∙_}
 use mathlib.Core.Bool.{false}
 use lib.ListN.{length}
-use Rattle.flow.specs.Run.{strideOf, waitsAt}
-use Rattle.flow.specs.RunLaws.{Left, left-start, left-over, left-note, left-wait, left-end, seen-at}
+use Rattle.stream_spec.specs.Run.{strideOf, waitsAt}
+use Rattle.stream_spec.specs.RunLaws.{Left, left-start, left-over, left-note, left-wait, left-end, seen-at}
 use Rattle.stream.proofs.run.Statement.{statement}
 use Rattle.stream.proofs.run.Tie as tie
 

@@ -8,9 +8,9 @@ use lib.ListN.{length, drop}
 use lib.Seq.{length-take-le}
 use borrow.Author.Tests.{not-true, not-false}
 use borrow.Author.Needs.{needs}
-use Rattle.flow.specs.Tally.{tallyRight}
-use Rattle.flow.specs.State.{lastPlace, allZero}
-use Rattle.flow.specs.StateLaws.{sound-long, sound-blank, sound-tally, sound-places, sound-none, sound-closed, sound-waits}
+use Rattle.stream_spec.specs.Tally.{tallyRight}
+use Rattle.stream_spec.specs.State.{lastPlace, allZero}
+use Rattle.stream_spec.specs.StateLaws.{sound-long, sound-blank, sound-tally, sound-places, sound-none, sound-closed, sound-waits}
 use Rattle.stream.proofs.sound.Statement.{statement}
 use Rattle.stream.proofs.sound.Tie as tie
 

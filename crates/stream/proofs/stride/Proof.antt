@@ -1,6 +1,6 @@
 -- `stride`: by whether the reading is a frame. Assumes nothing.
 use borrow.Author.Tests.{eq-eqb, ne-eqb}
-use Rattle.flow.specs.Run.{strideOf}
+use Rattle.stream_spec.specs.Run.{strideOf}
 use Rattle.stream.proofs.stride.Statement.{statement}
 use Rattle.stream.proofs.stride.Tie as tie
 

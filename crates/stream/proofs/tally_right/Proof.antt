@@ -2,7 +2,7 @@
 use native.Mathlib.Omega.{arith}
 use mathlib.Core.Path.{_∙_}
 use borrow.Author.Needs.{needs}
-use Rattle.flow.specs.StateLaws.{tally-many, tally-own}
+use Rattle.stream_spec.specs.StateLaws.{tally-many, tally-own}
 use Rattle.stream.proofs.tally_right.Statement.{statement}
 use Rattle.stream.proofs.tally_right.Tie as tie
 

@@ -1,5 +1,5 @@
 -- `waits`: by whether this is the closing call. Assumes nothing.
-use Rattle.flow.specs.Run.{waitsAt}
+use Rattle.stream_spec.specs.Run.{waitsAt}
 use Rattle.stream.proofs.waits.Statement.{statement}
 use Rattle.stream.proofs.waits.Tie as tie
 

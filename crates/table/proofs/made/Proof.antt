@@ -1,6 +1,6 @@
 -- `made`: each field is the one that the definition has. Assumes nothing.
 use mathlib.Core.Path.{refl}
-use Rattle.trail.specs.Walk.{madeOf}
+use Rattle.walk_spec.specs.Walk.{madeOf}
 use Rattle.table.proofs.made.Statement.{statement}
 use Rattle.table.proofs.made.Tie as tie
 

@@ -1,6 +1,6 @@
 -- `note`: with room the record is laid, without it nothing is. Assumes nothing.
 use mathlib.Core.Path.{sym}
-use Rattle.trail.specs.Tables.{noted-put, noted-full}
+use Rattle.walk_spec.specs.Tables.{noted-put, noted-full}
 use borrow.Author.Needs.{needs}
 use Rattle.table.proofs.note.Statement.{statement}
 use Rattle.table.proofs.note.Tie as tie

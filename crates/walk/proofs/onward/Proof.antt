@@ -5,8 +5,8 @@ use mathlib.Core.Path.{_≡_, sym, ap, _∙_}
 use borrow.Author.Needs.{needs}
 use Rattle.frame.specs.declared.Found.{Found}
 use Rattle.frame.specs.Papers.{foundPaper}
-use Rattle.wire.specs.Search.{searchOf}
-use Rattle.trail.specs.Onward.{Goes, goes-frame, goes-found, goes-none, goes-inside}
+use Rattle.frame_spec.specs.Search.{searchOf}
+use Rattle.walk_spec.specs.Onward.{Goes, goes-frame, goes-found, goes-none, goes-inside}
 use Rattle.walk.proofs.onward.Statement.{statement}
 use Rattle.walk.proofs.onward.Tie as tie
 

@@ -4,7 +4,7 @@ use native.Mathlib.Omega.{arith}
 use Prim.Native.Nat.{_-_}
 use lib.ListN.{length}
 use borrow.Author.Needs.{needs}
-use Rattle.trail.specs.Counts.{accepts-one}
+use Rattle.walk_spec.specs.Counts.{accepts-one}
 use Rattle.walk.proofs.PassLaws.{Left, left-start, left-step, left-end}
 use Rattle.walk.proofs.pass.Statement.{statement}
 use Rattle.walk.proofs.pass.Tie as tie

@@ -1,6 +1,6 @@
 -- `takes_all`: no capture makes more records than `roomy` asks room for; else the pass counted them. Assumes nothing.
 use mathlib.Core.Path.{sym, _∙_}
-use Rattle.trail.specs.WalkLaws.{fits-roomy}
+use Rattle.walk_spec.specs.WalkLaws.{fits-roomy}
 use Rattle.walk.specs.PassedLaws.{fits-counted}
 use borrow.Author.Needs.{needs}
 use Rattle.walk.proofs.takes_all.Statement.{statement}

@@ -2,9 +2,9 @@
 use mathlib.Core.Path.{_≡_, sym, ap, _∙_}
 use Rattle.terms.specs.declared.ChannelNumber.{ChannelNumber}
 use Rattle.ledger.specs.State.{ledgerOf}
-use Rattle.book.specs.Calls.{openOf, fresh}
+use Rattle.ledger_spec.specs.Calls.{openOf, fresh}
 use Rattle.walk.specs.PassedLaws.{frames-few, walk-done}
-use Rattle.trail.specs.WalkLaws.{walk-full}
+use Rattle.walk_spec.specs.WalkLaws.{walk-full}
 use borrow.Author.Needs.{needs}
 use borrow.Author.Tests.{not-true, not-false}
 use Rattle.walk.proofs.walk.Statement.{statement}

@@ -3,10 +3,10 @@ use mathlib.Core.Path.{_≡_, sym, ap, _∙_}
 use Prim.Native.Nat.{ℕ}
 use borrow.Author.Needs.{needs}
 use Rattle.terms.specs.Refusals.{numberOf}
-use Rattle.map.specs.Bits.{Words}
-use Rattle.book.specs.State.{Book}
+use Rattle.tick_map.specs.Bits.{Words}
+use Rattle.ledger_spec.specs.State.{Book}
 use Rattle.ledger.specs.State.{bookOf, ledgerOf}
-use Rattle.book.specs.Calls.{Call, ownNumber, numberTo, valuesOf, done, raised, Announce}
+use Rattle.ledger_spec.specs.Calls.{Call, ownNumber, numberTo, valuesOf, done, raised, Announce}
 use Rattle.ledger.specs.Papers.{verdictNumber}
 use Rattle.ledger.proofs.Seam.{raised-of, judged, done-answer, refused-answer, done-in, same-in, announce-not-12}
 use Rattle.ledger.proofs.Ledger.announce.Statement.{statement}

@@ -1,6 +1,6 @@
 -- One check: 10. Assumes nothing.
 use borrow.Author.Tests.{lt-ltb, le-ltb}
-use Rattle.book.specs.Calls.{ownNumber}
+use Rattle.ledger_spec.specs.Calls.{ownNumber}
 use Rattle.ledger.proofs.Ledger.announce_verdict.Statement.{statement}
 use Rattle.ledger.proofs.Ledger.announce_verdict.Tie as tie
 

@@ -4,9 +4,9 @@ use mathlib.Core.Bool.{true}
 use native.Mathlib.Omega.{arith}
 use borrow.Author.Tests.{not-true, not-false, eq-eqb, ne-eqb}
 use borrow.Author.Needs.{needs}
-use Rattle.book.specs.State.{soundOf}
+use Rattle.ledger_spec.specs.State.{soundOf}
 use Rattle.ledger.specs.State.{bookOf}
-use Rattle.book.specs.Calls.{checkedOf}
+use Rattle.ledger_spec.specs.Calls.{checkedOf}
 use Rattle.ledger.proofs.Ledger.checked.Statement.{statement}
 use Rattle.ledger.proofs.Ledger.checked.Tie as tie
 

@@ -7,11 +7,11 @@ use lib.Count.{trailingZeros}
 use Rattle.terms.specs.declared.TickNumber.{TickNumber}
 use Rattle.terms.specs.Counters.{tickOf}
 use Rattle.terms.specs.Paper.{answer}
-use Rattle.map.specs.Bits.{bitsIn}
-use Rattle.map.specs.Ring.{rotated}
-use Rattle.book.specs.State.{range}
+use Rattle.tick_map.specs.Bits.{bitsIn}
+use Rattle.tick_map.specs.Ring.{rotated}
+use Rattle.ledger_spec.specs.State.{range}
 use Rattle.ledger.specs.State.{bookOf, ledgerOf}
-use Rattle.book.specs.Calls.{waiting, asked}
+use Rattle.ledger_spec.specs.Calls.{waiting, asked}
 use Rattle.ledger.proofs.Ledger.granted.Statement.{statement}
 use Rattle.ledger.proofs.Ledger.granted.Tie as tie
 

@@ -6,10 +6,10 @@ use Prim.Native.Nat.{ℕ}
 use borrow.Author.Tests.{not-true, not-false}
 use borrow.Author.Needs.{needs}
 use Rattle.terms.specs.Paper.{answer}
-use Rattle.map.specs.Bits.{Words}
-use Rattle.book.specs.State.{soundOf}
+use Rattle.tick_map.specs.Bits.{Words}
+use Rattle.ledger_spec.specs.State.{soundOf}
 use Rattle.ledger.specs.State.{bookOf, nextBy}
-use Rattle.book.specs.Calls.{ownNumber, checkedOf, numberTo, answerTo, valuesOf, done, taken, heldCount}
+use Rattle.ledger_spec.specs.Calls.{ownNumber, checkedOf, numberTo, answerTo, valuesOf, done, taken, heldCount}
 use Rattle.ledger.proofs.Seam.{ledger-of, held-of}
 use Rattle.ledger.proofs.Ledger.held.Statement.{statement}
 use Rattle.ledger.proofs.Ledger.held.Tie as tie

@@ -7,12 +7,12 @@ use native.Mathlib.Omega.{arith}
 use borrow.Author.Tests.{not-true, not-false}
 use borrow.Author.Needs.{needs}
 use Rattle.terms.specs.Paper.{answer}
-use Rattle.map.specs.Bits.{Words}
-use Rattle.book.specs.State.{soundOf}
+use Rattle.tick_map.specs.Bits.{Words}
+use Rattle.ledger_spec.specs.State.{soundOf}
 use Rattle.ledger.specs.State.{bookOf, nextBy}
-use Rattle.book.specs.Calls.{ownNumber, checkedOf, numberTo, answerTo, valuesOf, done, taken, missingCount}
+use Rattle.ledger_spec.specs.Calls.{ownNumber, checkedOf, numberTo, answerTo, valuesOf, done, taken, missingCount}
 use Rattle.ledger.proofs.Seam.{ledger-of, held-of}
-use Rattle.book.proofs.Rules.{rules-facts, held-fits}
+use Rattle.ledger_spec.proofs.Rules.{rules-facts, held-fits}
 use Rattle.ledger.proofs.Ledger.missing.Statement.{statement}
 use Rattle.ledger.proofs.Ledger.missing.Tie as tie
 

@@ -6,7 +6,7 @@ use borrow.Author.Tests.{lt-ltb, le-ltb}
 use borrow.Author.Needs.{needs}
 use Rattle.terms.specs.declared.ChannelNumber.{ChannelNumber}
 use Rattle.ledger.specs.State.{ledgerOf}
-use Rattle.book.specs.Calls.{openOf, fresh}
+use Rattle.ledger_spec.specs.Calls.{openOf, fresh}
 use Rattle.ledger.proofs.Ledger.opened.Statement.{statement}
 use Rattle.ledger.proofs.Ledger.opened.Tie as tie
 

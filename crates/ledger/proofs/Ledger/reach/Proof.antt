@@ -3,7 +3,7 @@ use mathlib.Core.Path.{sym, ap, _∙_}
 use Prim.Native.Nat.{ℕ, _-_}
 use borrow.Author.Needs.{needs}
 use borrow.Author.Tests.{eq-eqb, ne-eqb}
-use Rattle.book.specs.Calls.{lastOf, reach}
+use Rattle.ledger_spec.specs.Calls.{lastOf, reach}
 use Rattle.ledger.specs.State.{askedOf, bookOf}
 use Rattle.ledger.proofs.Ledger.reach.Statement.{statement}
 use Rattle.ledger.proofs.Ledger.reach.Tie as tie

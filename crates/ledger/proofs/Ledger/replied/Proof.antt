@@ -7,12 +7,12 @@ use borrow.Author.Needs.{needs}
 use Rattle.terms.specs.declared.TickNumber.{TickNumber}
 use Rattle.terms.specs.Counters.{tickOf}
 use Rattle.terms.specs.Paper.{answer}
-use Rattle.map.specs.declared.Map.{Map}
-use Rattle.map.specs.Bits.{Words, bitsIn, run, mapOf}
-use Rattle.map.specs.Ring.{rotated, without, only, lacking}
-use Rattle.map.proofs.Laws.{run-le}
-use Rattle.book.specs.Calls.{leaps}
-use Rattle.book.proofs.Rules.{rules-facts}
+use Rattle.tick_map.specs.declared.Map.{Map}
+use Rattle.tick_map.specs.Bits.{Words, bitsIn, run, mapOf}
+use Rattle.tick_map.specs.Ring.{rotated, without, only, lacking}
+use Rattle.tick_map.proofs.Laws.{run-le}
+use Rattle.ledger_spec.specs.Calls.{leaps}
+use Rattle.ledger_spec.proofs.Rules.{rules-facts}
 use Rattle.ledger.specs.State.{bookOf, laidFrom}
 use Rattle.ledger.proofs.Seam.{sound-low, book-known, laid-kept, leaps-of, replied-of, given-lt, given-of, passed-lt, passed-of}
 use Rattle.ledger.proofs.Ledger.replied.Statement.{statement}

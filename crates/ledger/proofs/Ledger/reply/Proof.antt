@@ -6,13 +6,13 @@ use native.Mathlib.Omega.{arith}
 use borrow.Author.Needs.{needs}
 use Rattle.terms.specs.Paper.{answer}
 use Rattle.terms.specs.Refusals.{numberOf}
-use Rattle.map.specs.Bits.{Words}
-use Rattle.book.specs.State.{Book, StateRules}
+use Rattle.tick_map.specs.Bits.{Words}
+use Rattle.ledger_spec.specs.State.{Book, StateRules}
 use Rattle.ledger.specs.State.{bookOf, ledgerOf}
-use Rattle.book.specs.Calls.{Call, ownNumber, numberTo, reach, gaveUp, handed, replied, valuesOf, done, Reply}
-use Rattle.book.proofs.Numbers.{checked-facts}
-use Rattle.book.proofs.Rules.{rules-test}
-use Rattle.book.proofs.Steps.{reach-near}
+use Rattle.ledger_spec.specs.Calls.{Call, ownNumber, numberTo, reach, gaveUp, handed, replied, valuesOf, done, Reply}
+use Rattle.ledger_spec.proofs.Numbers.{checked-facts}
+use Rattle.ledger_spec.proofs.Rules.{rules-test}
+use Rattle.ledger_spec.proofs.Steps.{reach-near}
 use Rattle.ledger.specs.Papers.{verdictNumber}
 use Rattle.ledger.proofs.Seam.{floor-is, ledger-known, judged, done-answer, refused-answer, done-in, same-in, reply-not-12}
 use Rattle.ledger.proofs.Ledger.reply.Statement.{statement}

@@ -7,11 +7,11 @@ use lib.Pow.{pow-pos}
 use Rattle.terms.specs.declared.TickNumber.{TickNumber}
 use Rattle.terms.specs.Paper.{answer}
 use Rattle.terms.specs.Refusals.{numberOf}
-use Rattle.map.specs.declared.Map.{Map}
-use Rattle.map.specs.Bits.{bitsIn, mapOf}
-use Rattle.map.specs.Ring.{rotated}
-use Rattle.map.proofs.Words.{value-of}
-use Rattle.map.proofs.Ring.{rotated-zero}
+use Rattle.tick_map.specs.declared.Map.{Map}
+use Rattle.tick_map.specs.Bits.{bitsIn, mapOf}
+use Rattle.tick_map.specs.Ring.{rotated}
+use Rattle.tick_map.proofs.Words.{value-of}
+use Rattle.tick_map.proofs.Ring.{rotated-zero}
 use Rattle.ledger.specs.State.{laidFrom}
 use Rattle.ledger.proofs.Seam.{laid-kept}
 use Rattle.ledger.proofs.Ledger.reply_refused.Statement.{statement}

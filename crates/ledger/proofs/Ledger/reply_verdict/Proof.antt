@@ -4,7 +4,7 @@ use mathlib.Core.Bool.{true, false}
 use borrow.Author.Tests.{not-true, not-false}
 use borrow.Author.Needs.{needs}
 use Rattle.ledger.specs.State.{bookOf}
-use Rattle.book.specs.Calls.{replyStatus, ownNumber}
+use Rattle.ledger_spec.specs.Calls.{replyStatus, ownNumber}
 use Rattle.ledger.proofs.Ledger.reply_verdict.Statement.{statement}
 use Rattle.ledger.proofs.Ledger.reply_verdict.Tie as tie
 

@@ -3,12 +3,12 @@ use mathlib.Core.Path.{_≡_, sym, ap, _∙_}
 use native.Mathlib.Omega.{arith}
 use borrow.Author.Needs.{needs}
 use Rattle.terms.specs.Refusals.{numberOf}
-use Rattle.book.specs.State.{Book}
+use Rattle.ledger_spec.specs.State.{Book}
 use Rattle.ledger.specs.State.{bookOf, ledgerOf}
-use Rattle.book.specs.Calls.{Call, ownNumber, numberTo, valuesOf, done, Request}
+use Rattle.ledger_spec.specs.Calls.{Call, ownNumber, numberTo, valuesOf, done, Request}
 use Rattle.ledger.specs.Papers.{verdictNumber}
 use Rattle.ledger.proofs.Seam.{judged, done-answer, refused-answer, done-in, same-in, request-not-12}
-use Rattle.book.proofs.Numbers.{checked-facts}
+use Rattle.ledger_spec.proofs.Numbers.{checked-facts}
 use Rattle.ledger.proofs.Ledger.request.Statement.{statement}
 use Rattle.ledger.proofs.Ledger.request.Tie as tie
 

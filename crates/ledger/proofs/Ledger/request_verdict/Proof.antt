@@ -4,7 +4,7 @@ use native.Mathlib.Omega.{arith}
 use borrow.Author.Tests.{eq-eqb, ne-eqb}
 use borrow.Author.Needs.{needs}
 use Rattle.ledger.specs.State.{bookOf}
-use Rattle.book.specs.Calls.{ownNumber}
+use Rattle.ledger_spec.specs.Calls.{ownNumber}
 use Rattle.ledger.proofs.Ledger.request_verdict.Statement.{statement}
 use Rattle.ledger.proofs.Ledger.request_verdict.Tie as tie
 

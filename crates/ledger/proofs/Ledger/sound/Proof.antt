@@ -4,9 +4,9 @@ use Prim.Native.Nat.{ℕ, _+_, _-_, _≤_, _<_}
 use native.Mathlib.Omega.{arith}
 use borrow.Author.Tests.{not-true, not-false, le-leb, lt-leb}
 use borrow.Author.Needs.{needs}
-use Rattle.map.specs.Bits.{bitsIn}
-use Rattle.map.specs.Ring.{rotated}
-use Rattle.book.specs.State.{largest, rangeRules, mapRules, soundOf}
+use Rattle.tick_map.specs.Bits.{bitsIn}
+use Rattle.tick_map.specs.Ring.{rotated}
+use Rattle.ledger_spec.specs.State.{largest, rangeRules, mapRules, soundOf}
 use Rattle.ledger.specs.State.{bookOf, askedOf}
 use Rattle.ledger.proofs.Ledger.sound.Statement.{statement}
 use Rattle.ledger.proofs.Ledger.sound.Tie as tie

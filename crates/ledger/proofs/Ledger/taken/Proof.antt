@@ -7,11 +7,11 @@ use borrow.Author.Needs.{needs}
 use Rattle.terms.specs.declared.TickNumber.{TickNumber}
 use Rattle.terms.specs.Counters.{tickOf}
 use Rattle.terms.specs.Paper.{answer}
-use Rattle.map.specs.Bits.{Words, bitsIn, run, mapOf}
-use Rattle.map.specs.Ring.{rotated, without}
-use Rattle.map.proofs.Laws.{run-le}
+use Rattle.tick_map.specs.Bits.{Words, bitsIn, run, mapOf}
+use Rattle.tick_map.specs.Ring.{rotated, without}
+use Rattle.tick_map.proofs.Laws.{run-le}
 use Rattle.ledger.specs.State.{bookOf}
-use Rattle.book.specs.Calls.{passes, marked}
+use Rattle.ledger_spec.specs.Calls.{passes, marked}
 use Rattle.ledger.proofs.Seam.{marked-of, taken-of}
 use Rattle.ledger.proofs.Ledger.taken.Statement.{statement}
 use Rattle.ledger.proofs.Ledger.taken.Tie as tie

@@ -7,14 +7,14 @@ use borrow.Author.Needs.{needs}
 use lib.Dec.{eqb}
 use Rattle.terms.specs.Paper.{answer, pick}
 use Rattle.terms.specs.Refusals.{numberOf}
-use Rattle.book.specs.State.{Book, largest}
+use Rattle.ledger_spec.specs.State.{Book, largest}
 use Rattle.ledger.specs.State.{bookOf, ledgerOf, topped}
 use Rattle.ledger.specs.declared.Ledger.{Ledger}
-use Rattle.book.specs.Calls.{Call, ownNumber, numberTo, valuesOf, done, taken, passes, Tick}
+use Rattle.ledger_spec.specs.Calls.{Call, ownNumber, numberTo, valuesOf, done, taken, passes, Tick}
 use Rattle.ledger.specs.Papers.{verdictNumber}
 use Rattle.ledger.proofs.Seam.{judged, done-answer, refused-answer, done-in, refused-in}
-use Rattle.book.proofs.Rules.{above-floor}
-use Rattle.book.proofs.Numbers.{tick-done}
+use Rattle.ledger_spec.proofs.Rules.{above-floor}
+use Rattle.ledger_spec.proofs.Numbers.{tick-done}
 use Rattle.ledger.proofs.Ledger.tick.Statement.{statement}
 use Rattle.ledger.proofs.Ledger.tick.Tie as tie
 

@@ -4,7 +4,7 @@ use native.Mathlib.Omega.{arith}
 use borrow.Author.Tests.{eq-eqb, ne-eqb}
 use borrow.Author.Needs.{needs}
 use Rattle.terms.specs.Refusals.{numberOf}
-use Rattle.book.proofs.Tests.{pick-true, pick-false}
+use Rattle.ledger_spec.proofs.Tests.{pick-true, pick-false}
 use Rattle.ledger.proofs.Ledger.tick_refused.Statement.{statement}
 use Rattle.ledger.proofs.Ledger.tick_refused.Tie as tie
 

@@ -6,10 +6,10 @@ use native.Mathlib.Omega.{arith}
 use borrow.Author.Tests.{lt-ltb, le-ltb, le-leb, lt-leb}
 use borrow.Author.Needs.{needs}
 use lib.Dec.{eqb}
-use Rattle.map.specs.Bits.{Words, isSet}
-use Rattle.book.specs.State.{has}
+use Rattle.tick_map.specs.Bits.{Words, isSet}
+use Rattle.ledger_spec.specs.State.{has}
 use Rattle.ledger.specs.State.{bookOf}
-use Rattle.book.specs.Calls.{ownNumber}
+use Rattle.ledger_spec.specs.Calls.{ownNumber}
 use Rattle.ledger.proofs.Seam.{place-bit, place-none}
 use Rattle.ledger.proofs.Ledger.tick_verdict.Statement.{statement}
 use Rattle.ledger.proofs.Ledger.tick_verdict.Tie as tie

@@ -1,6 +1,6 @@
 -- Only the pending request differs from the ledger of the book. Assumes nothing.
 use borrow.Author.Needs.{needs}
-use Rattle.map.specs.Bits.{Words}
+use Rattle.tick_map.specs.Bits.{Words}
 use Rattle.ledger.proofs.Seam.{waiting-of}
 use Rattle.ledger.proofs.Ledger.waiting.Statement.{statement}
 use Rattle.ledger.proofs.Ledger.waiting.Tie as tie

@@ -3,7 +3,7 @@ use mathlib.Core.Path.{ap}
 use Prim.Native.Nat.{_-_}
 use native.Mathlib.Omega.{arith}
 use borrow.Author.Needs.{needs}
-use Rattle.book.specs.Calls.{lastOf}
+use Rattle.ledger_spec.specs.Calls.{lastOf}
 use Rattle.ledger.specs.State.{askedOf}
 use Rattle.ledger.specs.declared.Pending.{Pending}
 use Rattle.ledger.proofs.Pending.reach.Statement.{statement}

@@ -2,7 +2,7 @@
 use mathlib.Core.Path.{ap₂, _∙_}
 use Prim.Native.Nat.{ℕ}
 use borrow.Author.Needs.{needs}
-use Rattle.book.specs.State.{range, rangeRules}
+use Rattle.ledger_spec.specs.State.{range, rangeRules}
 use Rattle.ledger.proofs.Pending.sound.Statement.{statement}
 use Rattle.ledger.proofs.Pending.sound.Tie as tie
 

@@ -1,0 +1,92 @@
+-- One turn of a pass: how many bytes a reading's frame has, where the next reading is, and what the frame adds to the cleaned capture.
+use Prim.Native.Nat.{ℕ, _+_, _≤_, _<_}
+use mathlib.Core.Path.{_≡_, refl, sym, ap, _∙_}
+use mathlib.Core.Logic.{⊎-elim}
+use mathlib.Core.List.{List, [], _∷_, _++_}
+use native.Mathlib.Omega.{arith}
+use lib.ListN.{length, take, drop, length-drop}
+use lib.Seq.{length-take-le}
+use borrow.Author.Tests.{eq-eqb, ne-eqb}
+use Rattle.terms.specs.Paper.{answer}
+use Rattle.terms.specs.Cases.{same}
+use Rattle.frame_spec.specs.Frame.{bodyLength, readOf}
+use Rattle.frame_spec.specs.Search.{searchOf}
+use Rattle.frame_spec.specs.Outcomes.{good}
+use Rattle.frame_spec.specs.Measures.{fits}
+use Rattle.private.specs.Scrub.{scrubbed}
+use Rattle.private.specs.Laws.{length-always}
+use Rattle.walk_laws.specs.Walk.{Sight}
+use Rattle.walk_laws.specs.Literal.{sightAt}
+use Rattle.walk_laws.specs.Frames.{joined, eachOf}
+use Rattle.reading.specs.declared.Seen.{Seen}
+use Rattle.reading.specs.Seen.{seenOf, saysOf}
+use Rattle.reading.specs.SeenLaws.{seen-answer, seen-size, seen-blank}
+use Rattle.walk_spec.specs.Onward.{goes-frame, goes-found, goes-none}
+use Rattle.clean_spec.specs.Clean.{framesIn, cleanIn}
+use Rattle.clean_spec.specs.Steps.{Steps}
+
+-- a list of no bytes scrubs to none
+none-of : (l : List ℕ) → length l ≡ 0 → l ≡ []
+none-of [] e = refl
+none-of (b ∷ l) e = absurd (omega arith)
+
+pub scrubbed-none : scrubbed [] ≡ []
+scrubbed-none = none-of (scrubbed []) (length-always [])
+
+-- WHAT WAS SEEN AT A PLACE
+module _ (s : List ℕ) (p : ℕ) (x : Seen) (e : x ≡ seenOf (drop p s)) where
+  read-is : x .answer ≡ readOf (drop p s) .number
+  read-is = ap (λ (y : Seen). y .answer) e ∙ seen-answer (drop p s)
+
+  -- a refused reading has no bytes
+  pub refused-size : (x .answer ≡ 0 → ⊥) → x .size ≡ 0
+  refused-size ne = ap (λ (y : Seen). y .size) (e ∙ seen-blank (drop p s) (λ (z : readOf (drop p s) .number ≡ 0). ne (read-is ∙ z)))
+
+  accepted-size : x .answer ≡ 0 → x .size ≡ 28 + bodyLength (drop p s)
+  accepted-size z = ap (λ (y : Seen). y .size) e ∙ seen-size (drop p s) (sym read-is ∙ z)
+
+  -- a frame lies within the capture, and has at most 8,192 bytes
+  pub size-inside : p ≤ length s → p + x .size ≤ length s
+  size-inside h =
+      ⊎-elim (λ (z : x .answer ≡ 0). omega (arith, accepted-size z, good (drop p s) (sym read-is ∙ z) .whole .there, length-drop p s))
+      (λ (ne : x .answer ≡ 0 → ⊥). omega (arith, refused-size ne))
+      (same (x .answer) 0)
+
+  pub size-small : x .size ≤ 8192
+  size-small =
+      ⊎-elim (λ (z : x .answer ≡ 0). omega (arith, accepted-size z, fits _ _ (good (drop p s) (sym read-is ∙ z) .whole .measured) .small))
+      (λ (ne : x .answer ≡ 0 → ⊥). omega (arith, refused-size ne))
+      (same (x .answer) 0)
+
+  -- WHERE THE NEXT READING IS
+  module _ (h : p < length s) where
+    pub steps-frame : x .answer ≡ 0 → Steps s p (x .size) (p + x .size)
+    steps-frame z = record { goes = goes-frame s p x h e z; past = omega arith }
+
+    pub steps-found : (x .answer ≡ 0 → ⊥) → (q : ℕ) → answer 0 (q ∷ []) ≡ searchOf s (p + 1) → Steps s p (x .size) q
+    steps-found ne q f =
+        let g = goes-found s p x h e ne q f in
+        record { goes = g; past = omega (arith, refused-size ne, g .further) }
+
+    pub steps-none : (x .answer ≡ 0 → ⊥) → answer 0 [] ≡ searchOf s (p + 1) → Steps s p (x .size) (length s)
+    steps-none ne f = record { goes = goes-none s p x h e ne f; past = omega (arith, refused-size ne) }
+
+  -- WHAT IT ADDS
+  abbrev frameAt : List ℕ
+  frameAt = scrubbed (take (x .size) (drop p s))
+
+  pub frame-length : p ≤ length s → length frameAt ≡ x .size
+  frame-length h =
+      length-always (take (x .size) (drop p s)) ∙ length-take-le (x .size) (drop p s) (simp length-drop (omega (arith, size-inside h)))
+
+  add-frame : (xs : List (Sight Seen)) → x .answer ≡ 0 → cleanIn s (sightAt seenOf saysOf p s ∷ xs) ≡ frameAt ++ cleanIn s xs
+  unfolding framesIn joined eachOf
+  add-frame xs z = rw (← e) (rw (eq-eqb (x .answer) 0 z))
+
+  add-none : (xs : List (Sight Seen)) → (x .answer ≡ 0 → ⊥) → cleanIn s (sightAt seenOf saysOf p s ∷ xs) ≡ frameAt ++ cleanIn s xs
+  unfolding framesIn
+  add-none xs ne = rw (← e) (rw (ne-eqb (x .answer) 0 ne, refused-size ne, scrubbed-none))
+
+  -- its frame scrubbed, or nothing
+  pub adds : (xs : List (Sight Seen)) → cleanIn s (sightAt seenOf saysOf p s ∷ xs) ≡ frameAt ++ cleanIn s xs
+  adds xs = ⊎-elim (add-frame xs) (add-none xs) (same (x .answer) 0)

@@ -1,0 +1,47 @@
+-- A call through the host, from the promises that the checker makes of the `ensures`, opens or goes on a row of calls; it is answered 13 exactly where
+-- what is lent breaks the rules, and opening is answered 0. Assumes nothing.
+use mathlib.Core.Path.{_≡_}
+use mathlib.Core.Logic.{_↔_}
+use contract.Lifetimes.{Lfts}
+use borrow.Fn.Kinds.{Dens, endedOf, resT}
+use denote.Ref.{now}
+use denote.Triple.Clauses.{AtExit}
+use Rattle.stream_spec.specs.Calls.{Feed, Close}
+use Rattle.stream_spec.specs.Trace.{none}
+use Rattle.host_stream_spec.specs.Lent.{lent}
+use Rattle.host_stream_spec.specs.Calls.{Called}
+use Rattle.host_stream_spec.specs.Rows.{Followed, opening}
+use Rattle.host_stream_spec.specs.Rules.{LentRules}
+use Rattle.host_stream_spec.proofs.Given.{lent-given-13}
+use Rattle.host_stream.proofs.rk_stream_open.Reads as opens
+use Rattle.host_stream.proofs.rk_stream_open.Kinds as opens-kinds
+use Rattle.host_stream.proofs.rk_stream_feed.Reads as feed
+use Rattle.host_stream.proofs.rk_stream_feed.Kinds as feed-kinds
+use Rattle.host_stream.proofs.rk_stream_close.Reads as close
+use Rattle.host_stream.proofs.rk_stream_close.Kinds as close-kinds
+
+pub open-is-opening : (κs : Lfts 3) (a : Dens κs opens-kinds.ps) (x : resT opens-kinds.r κs .Denot) (s : AtExit (endedOf 3 opens-kinds.ps opens-kinds.r) κs) → opens.Post κs a x s
+    → Followed none (lent (now (s .0)) (now (s .1 .0)) (now (s .1 .1 .0)))
+open-is-opening κs a x s p = opening (p .1)
+
+pub rk-stream-open-answers-0 : (κs : Lfts 3) (a : Dens κs opens-kinds.ps) (x : resT opens-kinds.r κs .Denot) (s : AtExit (endedOf 3 opens-kinds.ps opens-kinds.r) κs) → opens.Post κs a x s
+    → x ≡ 0
+rk-stream-open-answers-0 κs a x s p = p .0
+
+pub feed-is-call : (κs : Lfts 6) (a : Dens κs feed-kinds.ps) (x : resT feed-kinds.r κs .Denot) (s : AtExit (endedOf 6 feed-kinds.ps feed-kinds.r) κs) → feed.Post κs a x s
+    → Called (lent (now (a .0)) (now (a .1 .0)) (now (a .1 .1 .0))) (Feed (now (a .1 .1 .1 .0))) (now (a .1 .1 .1 .1 .1 .0)) (now (a .1 .1 .1 .1 .0)) x
+    (lent (now (s .0)) (now (s .1 .0)) (now (s .1 .1 .0))) (now (s .1 .1 .1 .1 .1 .0)) (now (s .1 .1 .1 .1 .0))
+feed-is-call κs a x s p = p
+
+pub close-is-call : (κs : Lfts 5) (a : Dens κs close-kinds.ps) (x : resT close-kinds.r κs .Denot) (s : AtExit (endedOf 5 close-kinds.ps close-kinds.r) κs) → close.Post κs a x s
+    → Called (lent (now (a .0)) (now (a .1 .0)) (now (a .1 .1 .0))) Close (now (a .1 .1 .1 .1 .0)) (now (a .1 .1 .1 .0)) x
+    (lent (now (s .0)) (now (s .1 .0)) (now (s .1 .1 .0))) (now (s .1 .1 .1 .1 .0)) (now (s .1 .1 .1 .0))
+close-is-call κs a x s p = p
+
+pub feed-given-13 : (κs : Lfts 6) (a : Dens κs feed-kinds.ps) (x : resT feed-kinds.r κs .Denot) (s : AtExit (endedOf 6 feed-kinds.ps feed-kinds.r) κs) → feed.Post κs a x s
+    → (x ≡ 13) ↔ (LentRules (lent (now (a .0)) (now (a .1 .0)) (now (a .1 .1 .0))) → ⊥)
+feed-given-13 κs a x s p = lent-given-13 _ (Feed (now (a .1 .1 .1 .0))) _ _ _ _ _ _ (feed-is-call κs a x s p)
+
+pub close-given-13 : (κs : Lfts 5) (a : Dens κs close-kinds.ps) (x : resT close-kinds.r κs .Denot) (s : AtExit (endedOf 5 close-kinds.ps close-kinds.r) κs) → close.Post κs a x s
+    → (x ≡ 13) ↔ (LentRules (lent (now (a .0)) (now (a .1 .0)) (now (a .1 .1 .0))) → ⊥)
+close-given-13 κs a x s p = lent-given-13 _ Close _ _ _ _ _ _ (close-is-call κs a x s p)

@@ -1,0 +1,151 @@
+// A stream for C and Rust: bytes that arrive in cuts, to records, counts and ledger. Between two calls the host keeps it as six numbers,
+// the nine words of its ledger, and the bytes that wait. Each call answers a number, 0 where all is well. A refusal writes nothing.
+ghost use mathlib.Core.Path.{_≡_};
+ghost use lib.ListN.{length};
+ghost use Rattle.stream_spec.specs.State.{opened};
+ghost use Rattle.stream_spec.specs.Calls.{Feed, Close, leaves, fedPaper};
+ghost use Rattle.terms.specs.Verdicts.{verdictNumber};
+ghost use Rattle.host_words.specs.Told.{Tells};
+ghost use Rattle.host_stream_spec.specs.Lent.{waitingIn, wordOf, lent, lentOf, streamIn};
+ghost use Rattle.host_stream_spec.specs.Calls.{toldWith, keptBeside, callTold, lentAfter};
+use stream_spec::Fed;
+use stream_spec::Stream;
+use stream_spec::Tally;
+
+// THE STREAM, AS SIX NUMBERS: the place of the first byte that waits, or of the next to come; 1 where the search is under way; 1 where the
+// stream is closed; how many bytes wait; how many frames and refused readings there were.
+
+// How many bytes wait. A flag above 1 is none, and stands for more of them than the state rules let wait.
+fn waiting_in(seeking: u64, closed: u64, waiting: u64) -> usize
+    ensures { λ r. ⌜ r ≡ waitingIn seeking closed waiting ⌝ }
+{
+    if (seeking <= 1) & (closed <= 1) {
+        return waiting as usize;
+    }
+    8192
+}
+
+// The stream that they stand for, sound or not.
+fn stream_in(state: &[u64; 6], ledger: &[u64; 9], kept: &[u8; 8191]) -> Stream
+    ensures { λ r. ⌜ r ≡ streamIn (lent (now (state .entry)) (now (ledger .entry)) (now (kept .entry))) ⌝ }
+{
+    let seeking = state[1];
+    let closed = state[2];
+    let tally = Tally {
+        frames: state[4],
+        refused: state[5],
+        ledger: host_words::ledger_in(ledger),
+    };
+    let held = *kept;
+    Stream {
+        place: state[0],
+        seeking: seeking == 1,
+        closed: closed == 1,
+        len: waiting_in(seeking, closed, state[3]),
+        kept: held,
+        tally,
+    }
+}
+
+fn word_of(flag: bool) -> u64
+    ensures { λ r. ⌜ r ≡ wordOf flag ⌝ }
+{
+    if flag { 1 } else { 0 }
+}
+
+// Keeps a stream as its words and bytes.
+fn keep(state: &mut [u64; 6], ledger: &mut [u64; 9], kept: &mut [u8; 8191], next: Stream)
+    ensures { λ _. ⌜ lent (now (state .exit)) (now (ledger .exit)) (now (kept .exit)) ≡ lentOf next ⌝ }
+{
+    let tally = next.tally;
+    let book = tally.ledger;
+    let held = next.kept;
+    *state = [
+        next.place,
+        word_of(next.seeking),
+        word_of(next.closed),
+        next.len as u64,
+        tally.frames,
+        tally.refused,
+    ];
+    *ledger = host_words::state_of(book);
+    *kept = held;
+}
+
+// What a call comes to: its number; beside 0 the stream after it is kept, and its numbers are told.
+fn settle(
+    state: &mut [u64; 6],
+    ledger: &mut [u64; 9],
+    kept: &mut [u8; 8191],
+    told: &mut [u64; 5],
+    fed: Fed,
+) -> u32
+    ensures { λ r. ⌜ Tells (toldWith (fedPaper fed) (fed .stream)) (now (told .entry)) r (now (told .exit))
+        × (lent (now (state .exit)) (now (ledger .exit)) (now (kept .exit))
+        ≡ keptBeside (verdictNumber (fed .answer)) (fed .stream) (lent (now (state .entry)) (now (ledger .entry)) (now (kept .entry)))) ⌝ }
+{
+    let given = fed.answer;
+    let answer = given.number();
+    let next = fed.stream;
+    if answer == 0 {
+        let tally = next.tally;
+        *told = [
+            fed.records as u64,
+            tally.frames,
+            tally.refused,
+            next.place,
+            next.len as u64,
+        ];
+        keep(state, ledger, kept, next);
+    }
+    answer
+}
+
+// A stream before its first call; its ledger is that of channel 100. Always 0.
+#[no_mangle]
+pub extern "C" fn rk_stream_open(
+    state: &mut [u64; 6],
+    ledger: &mut [u64; 9],
+    kept: &mut [u8; 8191],
+) -> u32
+    ensures { λ r. ⌜ (r ≡ 0) × (lent (now (state .exit)) (now (ledger .exit)) (now (kept .exit)) ≡ lentOf opened) ⌝ }
+{
+    keep(state, ledger, kept, Stream::opened());
+    0
+}
+
+// One more cut, perhaps of no bytes: a record of 64 bytes for each reading that it decides. Told: how many records; frames and refused
+// readings so far; the place of the first byte that waits, or of the next to come; how many bytes wait. 13, 19, 29, 8.
+#[no_mangle]
+pub extern "C" fn rk_stream_feed(
+    state: &mut [u64; 6],
+    ledger: &mut [u64; 9],
+    kept: &mut [u8; 8191],
+    cut: &[u8],
+    records: &mut [u8],
+    told: &mut [u64; 5],
+) -> u32
+    ensures { λ r. ⌜ Tells (callTold (lent (now (state .entry)) (now (ledger .entry)) (now (kept .entry))) (Feed (now (cut .entry))) (length (now (records .entry)))) (now (told .entry)) r (now (told .exit))
+        × ((lent (now (state .exit)) (now (ledger .exit)) (now (kept .exit)) ≡ lentAfter (lent (now (state .entry)) (now (ledger .entry)) (now (kept .entry))) (Feed (now (cut .entry))) (length (now (records .entry))))
+        × (now (records .exit) ≡ leaves (streamIn (lent (now (state .entry)) (now (ledger .entry)) (now (kept .entry)))) (Feed (now (cut .entry))) (now (records .entry)))) ⌝ }
+{
+    let fed = stream::feed(stream_in(state, ledger, kept), cut, records);
+    settle(state, ledger, kept, told, fed)
+}
+
+// No more bytes come: what remains is walked as the end of a closed capture is. Told as for a cut. 13, 19, 8.
+#[no_mangle]
+pub extern "C" fn rk_stream_close(
+    state: &mut [u64; 6],
+    ledger: &mut [u64; 9],
+    kept: &mut [u8; 8191],
+    records: &mut [u8],
+    told: &mut [u64; 5],
+) -> u32
+    ensures { λ r. ⌜ Tells (callTold (lent (now (state .entry)) (now (ledger .entry)) (now (kept .entry))) Close (length (now (records .entry)))) (now (told .entry)) r (now (told .exit))
+        × ((lent (now (state .exit)) (now (ledger .exit)) (now (kept .exit)) ≡ lentAfter (lent (now (state .entry)) (now (ledger .entry)) (now (kept .entry))) Close (length (now (records .entry))))
+        × (now (records .exit) ≡ leaves (streamIn (lent (now (state .entry)) (now (ledger .entry)) (now (kept .entry)))) Close (now (records .entry)))) ⌝ }
+{
+    let fed = stream::close(stream_in(state, ledger, kept), records);
+    settle(state, ledger, kept, told, fed)
+}

@@ -1,0 +1,48 @@
+-- What the walk sees at a place: all that records, ledger, listing and figures are made of. Nothing of it is private.
+use Prim.Native.Nat.{ℕ, _+_}
+use mathlib.Core.List.{List}
+use lib.Dec.{eqb}
+use Rattle.terms.specs.Paper.{pick}
+use Rattle.terms.specs.Counters.{sessionOf, tickOf, channelOf}
+use Rattle.rules.specs.Table.{kindOf}
+use Rattle.frame_view.specs.declared.View.{View}
+use Rattle.frame_spec.specs.Frame.{msgType, msgSeqNum, bodyLength, readOf, reads, bodyRead}
+use Rattle.frame_view.specs.View.{viewOf}
+use Rattle.walk_laws.specs.Walk.{Says, frame, more, bad}
+use Rattle.reading.specs.declared.Seen.{Seen}
+
+-- a frame that reads: its header's numbers, the counters of its body, and its length
+abbrev pub shown : List ℕ → View → Seen
+shown s v =
+    record {
+      answer = 0;
+      «msg_type» = msgType s;
+      seq = sessionOf (msgSeqNum s);
+      channel = v .channel;
+      tick = v .tick;
+      status = v .status;
+      «body_len» = bodyLength s;
+      size = 28 + bodyLength s;
+    }
+
+-- "If reading answered 1 to 6, MsgType is four spaces and all numbers but place, answer, floor and top are 0."
+abbrev pub blank : ℕ → Seen
+blank number =
+    record {
+      answer = number;
+      «msg_type» = 0x20202020;
+      seq = sessionOf 0;
+      channel = channelOf 0;
+      tick = tickOf 0;
+      status = 0;
+      «body_len» = 0;
+      size = 0;
+    }
+
+-- the reading of the bytes at the front of s
+unfoldable pub seenOf : List ℕ → Seen
+seenOf s = pick (reads s) (shown s (viewOf (kindOf (msgType s)) (bodyRead s))) (blank (readOf s .number))
+
+-- what it says to the walk: a frame of so many bytes, bytes are missing (1), or no frame
+unfoldable pub saysOf : Seen → Says
+saysOf x = pick (eqb (x .answer) 0) (frame (x .size)) (pick (eqb (x .answer) 1) more bad)

@@ -1,0 +1,241 @@
+// 256 bits in four words, as one number: place i is digit i of it, bit i % 64 (the low bit first) of word i / 64.
+// A map is read round from any place: the place behind 255 is 0.
+ghost use mathlib.Core.Path.{_≡_};
+ghost use Prim.Native.Nat.{_+_, _-_, _*_, _/_, _%_, _^_, _<_, _≤_, min};
+ghost use lib.Bits.{bitOr};
+ghost use lib.Count.{ones, trailingZeros};
+ghost use lib.Dec.{eqb};
+ghost use lib.ListN.{getD, set};
+ghost use Rattle.terms.specs.Paper.{pick};
+ghost use Rattle.tick_map.specs.Bits.{isSet, run, bitsIn, mapOf};
+ghost use Rattle.tick_map.specs.Ring.{rotated, without, only, lacking};
+
+// How many digits of a word are set.
+fn ones_in(w: u64) -> u64
+    ensures { λ r. ⌜ (r ≡ ones w) × (r ≤ 64) ⌝ }
+{
+    u64::count_ones(w) as u64
+}
+
+// How many digits of a word stand below its lowest set one: 64 where none is set.
+fn zeros_in(w: u64) -> u64
+    ensures { λ r. ⌜ (r ≡ trailingZeros 64 w) × (r ≤ 64) ⌝ }
+{
+    u64::trailing_zeros(w) as u64
+}
+
+// A choice without a branch.
+fn either(t: bool, a: u64, b: u64) -> u64
+    ensures { λ r. ⌜ r ≡ pick t a b ⌝ }
+{
+    if t { a } else { b }
+}
+
+fn bit_in(w: u64, i: u64) -> bool
+    requires { ⌜ i < 64 ⌝ }
+    ensures { λ r. ⌜ r ≡ isSet w i ⌝ }
+{
+    w >> i & 1 == 1
+}
+
+fn set_in(w: u64, i: u64) -> u64
+    requires { ⌜ i < 64 ⌝ }
+    ensures { λ r. ⌜ r ≡ bitOr w (2 ^ i) ⌝ }
+{
+    w | 1u64 << i
+}
+
+fn smaller(a: u64, b: u64) -> u64
+    ensures { λ r. ⌜ r ≡ min a b ⌝ }
+{
+    if a < b { a } else { b }
+}
+
+// The n digits of a word from digit q on. A shift by 64 is none, so n is not 0.
+fn part_of(w: u64, q: u64, n: u64) -> u64
+    requires { ⌜ (0 < n) × (q + n ≤ 64) ⌝ }
+    ensures { λ r. ⌜ r ≡ w / 2 ^ q % 2 ^ n ⌝ }
+{
+    w >> q << (64 - n) >> (64 - n)
+}
+
+// The word without its n digits from digit q on.
+fn part_out(w: u64, q: u64, n: u64) -> u64
+    requires { ⌜ (0 < n) × (q + n ≤ 64) ⌝ }
+    ensures { λ r. ⌜ r ≡ w - (w / 2 ^ q % 2 ^ n) * 2 ^ q ⌝ }
+{
+    w - (part_of(w, q, n) << q)
+}
+
+// The lowest word first.
+pub struct Map {
+    pub words: [u64; 4],
+}
+
+impl Map {
+    // Nothing held.
+    pub fn new() -> Map
+        ensures { λ r. ⌜ r ≡ mapOf 0 ⌝ }
+    {
+        Map { words: [0; 4] }
+    }
+
+    // Word j: chosen and not looked up, so that the four words stay in registers.
+    fn word(self, j: u64) -> u64
+        requires { ⌜ j < 4 ⌝ }
+        ensures { λ r. ⌜ r ≡ getD (self .words) j 0 ⌝ }
+    {
+        let low = either(j == 0, self.words[0], self.words[1]);
+        let high = either(j == 2, self.words[2], self.words[3]);
+        either(j < 2, low, high)
+    }
+
+    // The map with x for word j.
+    fn put(self, j: u64, x: u64) -> Map
+        requires { ⌜ j < 4 ⌝ }
+        ensures { λ r. ⌜ r .words ≡ set (self .words) j x ⌝ }
+    {
+        Map {
+            words: [
+                either(j == 0, x, self.words[0]),
+                either(j == 1, x, self.words[1]),
+                either(j == 2, x, self.words[2]),
+                either(j == 3, x, self.words[3]),
+            ],
+        }
+    }
+
+    // How many places are held.
+    pub fn held(self) -> u64
+        ensures { λ r. ⌜ r ≡ ones (bitsIn self) ⌝ }
+    {
+        ones_in(self.words[0])
+            + ones_in(self.words[1])
+            + ones_in(self.words[2])
+            + ones_in(self.words[3])
+    }
+
+    // Whether place i is held; none from 256 on is.
+    pub fn holds(self, i: u64) -> bool
+        ensures { λ r. ⌜ r ≡ isSet (bitsIn self) i ⌝ }
+    {
+        if 256 <= i {
+            return false;
+        }
+        let j = (i / 64) as usize;
+        bit_in(self.words[j], i % 64)
+    }
+
+    // Place i held too; from 256 on there is no place, and nothing changes.
+    pub fn with(self, i: u64) -> Map
+        ensures { λ r. ⌜ r ≡ mapOf (bitOr (bitsIn self) (2 ^ i) % 2 ^ 256) ⌝ }
+    {
+        if 256 <= i {
+            return self;
+        }
+        self.put(i / 64, set_in(self.word(i / 64), i % 64))
+    }
+
+    // The complement: held where this map is not.
+    fn flipped(self) -> Map
+        ensures { λ r. ⌜ bitsIn r ≡ (2 ^ 256 - 1) - bitsIn self ⌝ }
+    {
+        Map {
+            words: [
+                !self.words[0],
+                !self.words[1],
+                !self.words[2],
+                !self.words[3],
+            ],
+        }
+    }
+
+    // Whether no place is held.
+    pub fn empty(self) -> bool
+        ensures { λ r. ⌜ r ≡ eqb (bitsIn self) 0 ⌝ }
+    {
+        let w = self.words;
+        w[0] | w[1] | w[2] | w[3] == 0
+    }
+
+    // How many places from s on are clear, counted round: 256 where none is held.
+    // The place's own word is the first one, and the last: by then its places from s on are known to be clear.
+    pub fn first_from(self, s: u64) -> u64
+        ensures { λ r. ⌜ r ≡ trailingZeros 256 (rotated s (bitsIn self)) ⌝ }
+    {
+        let m = self;
+        let q = s % 64;
+        let mut j = s / 64 % 4;
+        let near = zeros_in(m.word(j) >> q);
+        if near < 64 {
+            return near;
+        }
+        let mut passed = 64 - q;
+        while passed < 256 {
+            j = (j + 1) % 4;
+            let z = zeros_in(m.word(j));
+            if z < 64 {
+                return passed + z;
+            }
+            passed += 64;
+        }
+        256
+    }
+
+    // How many places from s on are held without a break, counted round: the clear places of the complement.
+    pub fn run_from(self, s: u64) -> u64
+        ensures { λ r. ⌜ r ≡ run 256 (rotated s (bitsIn self)) ⌝ }
+    {
+        self.flipped().first_from(s)
+    }
+
+    // How many of the k places from s on are held, counted round; beyond 256 there is no place.
+    pub fn held_from(self, s: u64, k: u64) -> u64
+        ensures { λ r. ⌜ r ≡ ones (rotated s (bitsIn self) % 2 ^ k) ⌝ }
+    {
+        let m = self;
+        let mut at = s % 256;
+        let mut left = smaller(k, 256);
+        let mut count = 0;
+        while 0 < left {
+            let q = at % 64;
+            let n = smaller(64 - q, left);
+            count += ones_in(part_of(m.word(at / 64), q, n));
+            at = (at + n) % 256;
+            left -= n;
+        }
+        count
+    }
+
+    // The map without the k places from s on, counted round; beyond 256 nothing is left.
+    pub fn cleared(self, s: u64, k: u64) -> Map
+        ensures { λ r. ⌜ r ≡ mapOf (without s k (bitsIn self)) ⌝ }
+    {
+        let mut m = self;
+        let mut at = s % 256;
+        let mut left = smaller(k, 256);
+        while 0 < left {
+            let q = at % 64;
+            let n = smaller(64 - q, left);
+            m = m.put(at / 64, part_out(m.word(at / 64), q, n));
+            at = (at + n) % 256;
+            left -= n;
+        }
+        m
+    }
+
+    // The k places from s on alone, counted round: what lies outside them is cleared.
+    pub fn only(self, s: u64, k: u64) -> Map
+        ensures { λ r. ⌜ r ≡ mapOf (only s k (bitsIn self)) ⌝ }
+    {
+        let n = smaller(k, 256);
+        self.cleared(s % 256 + n, 256 - n)
+    }
+
+    // Those of the k places from s on that are not held, counted round.
+    pub fn lacking(self, s: u64, k: u64) -> Map
+        ensures { λ r. ⌜ r ≡ mapOf (lacking s k (bitsIn self)) ⌝ }
+    {
+        self.flipped().only(s, k)
+    }
+}
