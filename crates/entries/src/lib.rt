@@ -62,7 +62,7 @@ pub fn open_at(body: &[u8]) -> Verdict
     match rules::measure(Kind::M102, body.len()) {
         Verdict::Refused(why) => Verdict::Refused(why),
         Verdict::Fine => {
-            if !fields::fields_ok(Kind::M102, body) {
+            if !rules::fields_ok(Kind::M102, body) {
                 return Verdict::Refused(Refusal::Field);
             }
             Verdict::Fine
@@ -122,7 +122,7 @@ fn entry_at(body: &[u8], place: usize, w: usize) -> Entry
 fn step_at(body: &[u8], place: usize) -> Stop
     ensures { λ r. ⌜ Stops (now (body .entry)) place r ⌝ }
 {
-    let w = fields::entry_size(octets::u40_at(body, 10));
+    let w = rules::entry_size(octets::u40_at(body, 10));
     if !is_entry(body, place, w) {
         return Stop {
             answer: Answer::Refused(Refusal::Entries),

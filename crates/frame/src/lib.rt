@@ -78,7 +78,7 @@ fn rest_at(bytes: &[u8], at: usize, kind: Kind, n: usize, v: u8) -> Read
         return Read::Refused(Refusal::Sum);
     }
     let sent = octets::u64_at(bytes, at + 4);
-    match fields::judge(kind, sent, &bytes[start..end]) {
+    match rules::judge(kind, sent, &bytes[start..end]) {
         Verdict::Refused(why) => Read::Refused(why),
         Verdict::Fine => Read::Frame {
             msg_type: octets::u32_at(bytes, at),
@@ -136,7 +136,7 @@ fn may_write(
     let n = body.len();
     match rules::measure(kind, n) {
         Verdict::Refused(why) => Written::Refused(why),
-        Verdict::Fine => match fields::judge(kind, sending_time, body) {
+        Verdict::Fine => match rules::judge(kind, sending_time, body) {
             Verdict::Refused(why) => Written::Refused(why),
             Verdict::Fine => {
                 if room < 28 + n {

@@ -58,7 +58,7 @@ use Rattle.octets.proofs.OneAnswer as octets
 use Rattle.calendar.proofs.OneAnswer as calendar
 use Rattle.digits.proofs.OneAnswer as digits
 use Rattle.rules.proofs.OneAnswer as rules
-use Rattle.fields.proofs.OneAnswer as fields
+use Rattle.rules.proofs.OneAnswer as fields
 use Rattle.frame.proofs.OneAnswer as frame
 use Rattle.entries.proofs.OneAnswer as entries
 use Rattle.private.proofs.OneAnswer as private

@@ -9,6 +9,12 @@ use Rattle.rules.proofs.is_known.Reads as is-known
 use Rattle.rules.proofs.is_known.Kinds as is-known-kinds
 use Rattle.rules.proofs.measure.Reads as measure
 use Rattle.rules.proofs.measure.Kinds as measure-kinds
+use Rattle.rules.proofs.fields_ok.Reads as fields-ok
+use Rattle.rules.proofs.fields_ok.Kinds as fields-ok-kinds
+use Rattle.rules.proofs.entry_size.Reads as entry-size
+use Rattle.rules.proofs.entry_size.Kinds as entry-size-kinds
+use Rattle.rules.proofs.judge.Reads as judge
+use Rattle.rules.proofs.judge.Kinds as judge-kinds
 
 pub kind-of-one-answer : OneAnswer _ kind-of-kinds.ps kind-of-kinds.r kind-of.Post
 kind-of-one-answer κs a x y s t p q = kind-one x y (p ∙ sym q)
@@ -18,3 +24,12 @@ is-known-one-answer κs a x y s t p q = p ∙ sym q
 
 pub measure-one-answer : OneAnswer _ measure-kinds.ps measure-kinds.r measure.Post
 measure-one-answer κs a x y s t p q = verdict-one x y (p ∙ sym q)
+
+pub judge-one-answer : OneAnswer _ judge-kinds.ps judge-kinds.r judge.Post
+judge-one-answer κs a x y s t p q = verdict-one x y (p ∙ sym q)
+
+pub fields-ok-one-answer : OneAnswer _ fields-ok-kinds.ps fields-ok-kinds.r fields-ok.Post
+fields-ok-one-answer κs a x y s t p q = p ∙ sym q
+
+pub entry-size-one-answer : OneAnswer _ entry-size-kinds.ps entry-size-kinds.r entry-size.Post
+entry-size-one-answer κs a x y s t p q = p ∙ sym q

@@ -6,7 +6,7 @@ use mathlib.Core.List.{List, [], _∷_}
 use Rattle.terms.specs.Paper.{Paper, answer, refusal}
 use Rattle.terms.specs.RuledOut.{Row, _never_, _only_, Kept, RulesOut, ruled, numbers, bools, papers}
 use Rattle.rules.specs.declared.Kind.{Kind}
-use Rattle.rules.specs.declared.Kind.the-variants.{S003, M101, M102, M201, Unknown}
+use Rattle.rules.specs.declared.Kind.the-variants.{S003, M101, M102, M201, Unknown, S001, P001, P002}
 use Rattle.rules.specs.Table.{kindPaper, kindOf, typeOf, known, suits, measureOf}
 use Rattle.terms.specs.Verdicts.{verdictNumber}
 use Rattle.rules.proofs.kind_of.Reads as kind-of
@@ -15,6 +15,17 @@ use Rattle.rules.proofs.is_known.Reads as is-known
 use Rattle.rules.proofs.is_known.Kinds as is-known-kinds
 use Rattle.rules.proofs.measure.Reads as measure
 use Rattle.rules.proofs.measure.Kinds as measure-kinds
+use denote.Ref.{now}
+use Rattle.octets.specs.Octets.{numeral, digitsOf}
+use Rattle.calendar.specs.Calendar.{leap, daysIn, realParts, realTime}
+use Rattle.rules.specs.Bodies.{channelBody, resendBody, snapshotBody}
+use Rattle.rules.specs.Fields.{s001Ok, p001Ok, p002Ok, m102ValuesOk, entrySize, entryOk, entriesOk, m102Ok, fieldsOk, judgeOf}
+use Rattle.rules.proofs.fields_ok.Reads as fields-ok
+use Rattle.rules.proofs.fields_ok.Kinds as fields-ok-kinds
+use Rattle.rules.proofs.entry_size.Reads as entry-size
+use Rattle.rules.proofs.entry_size.Kinds as entry-size-kinds
+use Rattle.rules.proofs.judge.Reads as judge
+use Rattle.rules.proofs.judge.Kinds as judge-kinds
 
 -- a MsgType, four letters as one number
 abbrev pub kind-of-wrong : List (Row ℕ Paper)
@@ -50,3 +61,46 @@ measure-wrong =
 pub measure-rules-out : RulesOut (Kept _ measure-kinds.ps measure-kinds.r measure.Post) (λ c. (c .args .0, c .args .1 .0)) (λ c. verdictNumber (c .result)) measure-wrong
 unfolding suits measureOf
 measure-rules-out = ruled numbers (λ (i : Kind × ℕ). measureOf (i .0) (i .1)) (λ c p. p) _ refl
+
+-- a type and a body
+abbrev pub fields-ok-wrong : List (Row (Kind × List ℕ) Bool)
+fields-ok-wrong =
+    (P001, channelBody 13 0x59) never false  -- everything refused
+    ∷ (P001, channelBody 12 0x59) never true  -- SecurityType not judged
+    ∷ (P001, channelBody 13 0x58) never true  -- EndOfChannel not judged
+    ∷ (P002, resendBody 7 6 0 0x20) never true  -- a request that ends below its start
+    ∷ (P002, resendBody 7 0 0 0x20) only true  -- without an end
+    ∷ (M102, snapshotBody 1 0x4D44303031 1 2) only true
+    ∷ (M102, snapshotBody 1 0x4D44303031 1 10000000000000) never true  -- the second entry not judged: its price has 14 digits
+    ∷ (M102, snapshotBody 1 0x4D44333031 1 2) never true  -- SecurityType 1 with MD301
+    ∷ []
+
+pub fields-ok-rules-out : RulesOut (Kept _ fields-ok-kinds.ps fields-ok-kinds.r fields-ok.Post) (λ c. (c .args .0, now (c .args .1 .0))) (λ c. c .result) fields-ok-wrong
+unfolding numeral digitsOf p001Ok p002Ok m102ValuesOk entrySize entryOk entriesOk m102Ok fieldsOk
+fields-ok-rules-out = ruled bools (λ (i : Kind × List ℕ). fieldsOk (i .0) (i .1)) (λ c p. p) _ refl
+
+-- a type, a time and a body; 21 January 2026, 09:30, is real, month 13 is not
+abbrev pub judge-wrong : List (Row (Kind × (ℕ × List ℕ)) ℕ)
+judge-wrong =
+    (P001, (20260121093000000, channelBody 13 0x59)) only 0  -- not refused
+    ∷ (P001, (20260121093000000, channelBody 12 0x59)) never 5  -- 5 where 6 is due
+    ∷ (P001, (20260121093000000, channelBody 12 0x59)) never 0  -- accepted
+    ∷ (P001, (20261301093000000, channelBody 13 0x59)) never 0  -- the time not judged
+    ∷ (P001, (20261301093000000, channelBody 13 0x59)) only 7
+    ∷ (P001, (20261301093000000, channelBody 12 0x59)) never 6  -- 6 answered before 7
+    ∷ []
+
+pub judge-rules-out : RulesOut (Kept _ judge-kinds.ps judge-kinds.r judge.Post) (λ c. (c .args .0, (c .args .1 .0, now (c .args .1 .1 .0)))) (λ c. verdictNumber (c .result)) judge-wrong
+unfolding numeral digitsOf p001Ok fieldsOk realTime realParts daysIn leap judgeOf
+judge-rules-out = ruled numbers (λ (i : Kind × (ℕ × List ℕ)). judgeOf (i .0) (i .1 .0) (i .1 .1)) (λ c p. p) _ refl
+
+-- the letters of a stream as one number, and a size
+abbrev pub entry-size-wrong : List (Row ℕ ℕ)
+entry-size-wrong =
+    0x4D44303031 only 10  -- not 19 for all, and not 11
+    ∷ 0x4D44303032 only 19
+    ∷ []
+
+pub entry-size-rules-out : RulesOut (Kept _ entry-size-kinds.ps entry-size-kinds.r entry-size.Post) (λ c. c .args .0) (λ c. c .result) entry-size-wrong
+unfolding entrySize
+entry-size-rules-out = ruled numbers entrySize (λ c p. p) _ refl

@@ -4,6 +4,8 @@ ghost use Rattle.rules.specs.Table.{kindPaper, typeOf, known, suits, mea
 ghost use Rattle.terms.specs.Verdicts.{verdictNumber};
 use terms::Refusal;
 use terms::Verdict;
+ghost use Prim.Native.Nat.{_+_, _*_, _≤_, _<_};
+ghost use Rattle.rules.specs.Fields.{s001Ok, s002Ok, p001Ok, p002Ok, m201Ok, pairOk, m102ValuesOk, entrySize, entryOk, entriesOk, m102Ok, fieldsOk, judgeOf};
 
 // The types of the table, under their MsgType, and one case for every other MsgType.
 pub enum Kind {
@@ -84,6 +86,176 @@ pub fn measure(kind: Kind, n: usize) -> Verdict
     }
     if !suits_length(kind, n) {
         return Verdict::Refused(Refusal::Length);
+    }
+    Verdict::Fine
+}
+
+fn s001_ok(b: &[u8]) -> bool
+    ensures { λ r. ⌜ r ≡ s001Ok (now (b .entry)) ⌝ }
+{
+    let heart_bt_int = octets::u16_at(b, 64);
+    0 < heart_bt_int
+}
+
+fn s002_ok(b: &[u8]) -> bool
+    ensures { λ r. ⌜ r ≡ s002Ok (now (b .entry)) ⌝ }
+{
+    let session_status = octets::u32_at(b, 0);
+    session_status <= 9999
+}
+
+fn p001_ok(b: &[u8]) -> bool
+    ensures { λ r. ⌜ r ≡ p001Ok (now (b .entry)) ⌝ }
+{
+    let security_type = octets::u8_at(b, 0);
+    let channel_no = octets::u16_at(b, 1);
+    let appl_last_seq_num = octets::u64_at(b, 3);
+    let end_of_channel = octets::u8_at(b, 11);
+    (security_type == 13)
+        & (channel_no < 10000)
+        & (appl_last_seq_num < 1000000000000000000)
+        & ((end_of_channel == 0x59) | (end_of_channel == 0x4E))
+}
+
+fn p002_ok(b: &[u8]) -> bool
+    ensures { λ r. ⌜ r ≡ p002Ok (now (b .entry)) ⌝ }
+{
+    let channel_no = octets::u16_at(b, 0);
+    let resend_type = octets::u8_at(b, 2);
+    let first = octets::u64_at(b, 3);
+    let last = octets::u64_at(b, 11);
+    let status = octets::u8_at(b, 19);
+    (channel_no < 10000)
+        & (resend_type == 1)
+        & (0 < first)
+        & (first < 1000000000000000000)
+        & (last < 1000000000000000000)
+        & ((status <= 5) | (status == 99))
+        & ((0 < status) | (last == 0) | (first <= last))
+}
+
+fn m201_ok(b: &[u8]) -> bool
+    ensures { λ r. ⌜ r ≡ m201Ok (now (b .entry)) ⌝ }
+{
+    let security_type = octets::u8_at(b, 0);
+    let channel_no = octets::u16_at(b, 1);
+    let appl_seq_num = octets::u64_at(b, 3);
+    let transact_time = octets::u32_at(b, 24);
+    let exec_type = octets::u8_at(b, 28);
+    let price = octets::u64_at(b, 29);
+    let order_qty = octets::u64_at(b, 37);
+    (security_type == 13)
+        & (channel_no < 10000)
+        & (0 < appl_seq_num)
+        & (appl_seq_num < 1000000000000000000)
+        & (transact_time < 1000000000)
+        & ((exec_type == 0x30) | (exec_type == 0x34) | (exec_type == 0x46))
+        & (price < 10000000000000)
+        & (order_qty < 1000000000000000)
+}
+
+// Whether a security type and a stream, its five letters as a number, go together in an M102.
+fn pair_ok(t: u8, s: u64) -> bool
+    ensures { λ r. ⌜ r ≡ pairOk t s ⌝ }
+{
+    ((t == 1) & (0x4D44303031 <= s) & (s <= 0x4D44303034))
+        | ((t == 2) & (s == 0x4D44333031))
+        | ((t == 3) & ((s == 0x4D44313031) | (s == 0x4D44313032)))
+        | ((t == 12) & (s == 0x4D44323031))
+        | ((t == 13) & (s == 0x4D44323130))
+        | ((t == 14) & (s == 0x4D44453031))
+}
+
+fn m102_values_ok(b: &[u8]) -> bool
+    ensures { λ r. ⌜ r ≡ m102ValuesOk (now (b .entry)) ⌝ }
+{
+    let trad_ses_mode = octets::u8_at(b, 1);
+    let trade_date = octets::u32_at(b, 2);
+    let last_update_time = octets::u32_at(b, 6);
+    let pre_close_px = octets::u64_at(b, 31);
+    let total_volume_traded = octets::u64_at(b, 39);
+    let num_trades = octets::u64_at(b, 47);
+    let total_value_traded = octets::u64_at(b, 55);
+    (1 <= trad_ses_mode)
+        & (trad_ses_mode <= 3)
+        & (trade_date < 100000000)
+        & (last_update_time < 1000000000)
+        & (pre_close_px < 10000000000000)
+        & (total_volume_traded < 10000000000000000)
+        & (num_trades < 10000000000000000)
+        & (total_value_traded < 10000000000000000)
+}
+
+// How many bytes an M102 entry has whose stream's five letters are this number.
+pub fn entry_size(s: u64) -> usize
+    ensures { λ r. ⌜ r ≡ entrySize s ⌝ }
+{
+    if s == 0x4D44303031 { 10 } else { 19 }
+}
+
+// The widths of the entry of w bytes at a place. The short one has a price alone.
+fn entry_ok(b: &[u8], w: usize, at: usize) -> bool
+    requires { ⌜ at < 4294967296 ⌝ }
+    ensures { λ r. ⌜ r ≡ entryOk w at (now (b .entry)) ⌝ }
+{
+    let price = octets::u64_at(b, at + 2);
+    let size = octets::u64_at(b, at + 10);
+    let position = octets::u8_at(b, at + 18);
+    (price < 10000000000000) & ((w == 10) | ((size < 1000000000000) & (position < 100)))
+}
+
+fn entries_ok(b: &[u8], n: usize, w: usize) -> bool
+    requires { ⌜ (n ≤ 65535) × (w ≤ 19) ⌝ }
+    ensures { λ r. ⌜ r ≡ entriesOk n w (now (b .entry)) ⌝ }
+{
+    let mut ok = true;
+    let mut i: usize = 0;
+    while i < n {
+        let fine = entry_ok(b, w, 73 + i * w);
+        ok = ok & fine;
+        i += 1;
+    }
+    ok
+}
+
+fn m102_ok(b: &[u8]) -> bool
+    ensures { λ r. ⌜ r ≡ m102Ok (now (b .entry)) ⌝ }
+{
+    let stream = octets::u40_at(b, 10);
+    let n = octets::u16_at(b, 71) as usize;
+    let w = entry_size(stream);
+    let pair = pair_ok(octets::u8_at(b, 0), stream);
+    let values = m102_values_ok(b);
+    let entries = entries_ok(b, n, w);
+    pair & values & (b.len() == 73 + n * w) & entries
+}
+
+// Whether a body keeps the field rules of its type; one of no type of the table does not.
+pub fn fields_ok(kind: Kind, b: &[u8]) -> bool
+    ensures { λ r. ⌜ r ≡ fieldsOk kind (now (b .entry)) ⌝ }
+{
+    match kind {
+        Kind::S001 => s001_ok(b),
+        Kind::S002 => s002_ok(b),
+        Kind::S003 => true,
+        Kind::P001 => p001_ok(b),
+        Kind::P002 => p002_ok(b),
+        Kind::M101 => true,
+        Kind::M102 => m102_ok(b),
+        Kind::M201 => m201_ok(b),
+        Kind::Unknown => false,
+    }
+}
+
+// What stands behind the checksum, in the order in which it answers: the time, 7; the field rules, 6.
+pub fn judge(kind: Kind, sending_time: u64, body: &[u8]) -> Verdict
+    ensures { λ r. ⌜ verdictNumber r ≡ judgeOf kind «sending_time» (now (body .entry)) ⌝ }
+{
+    if !calendar::is_real(sending_time) {
+        return Verdict::Refused(Refusal::Time);
+    }
+    if !fields_ok(kind, body) {
+        return Verdict::Refused(Refusal::Field);
     }
     Verdict::Fine
 }

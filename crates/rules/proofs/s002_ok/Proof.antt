@@ -1,8 +1,8 @@
 -- `s002_ok`: each field is the number that the definition reads, so the tests are the same. Assumes nothing.
 use Rattle.rules.specs.Fields.{s002Ok}
 use borrow.Author.Needs.{needs}
-use Rattle.fields.proofs.s002_ok.Statement.{statement}
-use Rattle.fields.proofs.s002_ok.Tie as tie
+use Rattle.rules.proofs.s002_ok.Statement.{statement}
+use Rattle.rules.proofs.s002_ok.Tie as tie
 
 u32-at-requires : tie.Need-u32-at-requires
 u32-at-requires c κs = search needs

@@ -1,8 +1,8 @@
 -- `s001_ok`: each field is the number that the definition reads, so the tests are the same. Assumes nothing.
 use Rattle.rules.specs.Fields.{s001Ok}
 use borrow.Author.Needs.{needs}
-use Rattle.fields.proofs.s001_ok.Statement.{statement}
-use Rattle.fields.proofs.s001_ok.Tie as tie
+use Rattle.rules.proofs.s001_ok.Statement.{statement}
+use Rattle.rules.proofs.s001_ok.Tie as tie
 
 u16-at-requires : tie.Need-u16-at-requires
 u16-at-requires c κs = search needs

@@ -1,12 +1,12 @@
 -- `judge`: each return cites the outcome for the tests that led there. Assumes nothing.
 use Rattle.rules.specs.Outcomes.{judge-time, judge-field, judge-fine}
 use Rattle.calendar.specs.Calendar.{realTime}
 use borrow.Author.Tests.{not-true, not-false}
 use mathlib.Core.Bool.{true}
 use mathlib.Core.Path.{_≡_, sym, _∙_}
 use borrow.Author.Needs.{needs}
-use Rattle.fields.proofs.judge.Statement.{statement}
-use Rattle.fields.proofs.judge.Tie as tie
+use Rattle.rules.proofs.judge.Statement.{statement}
+use Rattle.rules.proofs.judge.Tie as tie
 
 real : (c : tie.Else1) → realTime (c .before .before .before .args .sending-time) ≡ true
 real c = sym (c .before .is-real .ensures) ∙ not-false _ (c .if1 .left)

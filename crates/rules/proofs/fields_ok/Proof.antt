@@ -1,8 +1,8 @@
 -- `fields_ok`: each arm knows its type, and its rules are the callee's. Assumes nothing.
 use Rattle.rules.specs.Fields.{fieldsOk}
 use borrow.Author.Needs.{needs}
-use Rattle.fields.proofs.fields_ok.Statement.{statement}
-use Rattle.fields.proofs.fields_ok.Tie as tie
+use Rattle.rules.proofs.fields_ok.Statement.{statement}
+use Rattle.rules.proofs.fields_ok.Tie as tie
 
 enum-told : tie.Need-enum-told
 enum-told c = search needs

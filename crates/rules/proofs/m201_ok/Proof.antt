@@ -1,8 +1,8 @@
 -- `m201_ok`: each field is the number that the definition reads, so the tests are the same. Assumes nothing.
 use Rattle.rules.specs.Fields.{m201Ok}
 use borrow.Author.Needs.{needs}
-use Rattle.fields.proofs.m201_ok.Statement.{statement}
-use Rattle.fields.proofs.m201_ok.Tie as tie
+use Rattle.rules.proofs.m201_ok.Statement.{statement}
+use Rattle.rules.proofs.m201_ok.Tie as tie
 
 u8-at-requires : tie.Need-u8-at-requires
 u8-at-requires c κs = search needs

@@ -1,8 +1,8 @@
 -- `entry_ok`: each field is the number that the definition reads, so the tests are the same. Assumes nothing.
 use Rattle.rules.specs.Fields.{entryOk}
 use borrow.Author.Needs.{needs}
-use Rattle.fields.proofs.entry_ok.Statement.{statement}
-use Rattle.fields.proofs.entry_ok.Tie as tie
+use Rattle.rules.proofs.entry_ok.Statement.{statement}
+use Rattle.rules.proofs.entry_ok.Tie as tie
 
 add-u64-at : tie.Need-add-u64-at
 add-u64-at c = search needs

@@ -1,8 +1,8 @@
 -- `p002_ok`: each field is the number that the definition reads, so the tests are the same. Assumes nothing.
 use Rattle.rules.specs.Fields.{p002Ok}
 use borrow.Author.Needs.{needs}
-use Rattle.fields.proofs.p002_ok.Statement.{statement}
-use Rattle.fields.proofs.p002_ok.Tie as tie
+use Rattle.rules.proofs.p002_ok.Statement.{statement}
+use Rattle.rules.proofs.p002_ok.Tie as tie
 
 u16-at-requires : tie.Need-u16-at-requires
 u16-at-requires c κs = search needs

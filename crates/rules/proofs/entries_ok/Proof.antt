@@ -1,13 +1,13 @@
 -- `entries_ok`. The invariant: ok tells of the i entries passed. The measure is what is left of n. Assumes nothing.
 use native.Mathlib.Omega.{arith}
 use borrow.Author.Needs.{needs}
 use Rattle.rules.specs.Sizes.{entries-more, entry-small}
 use Rattle.rules.specs.Fields.{entriesOk}
 use native.Mathlib.Nat.{le-antisymm}
 use mathlib.Core.Path.{_≡_}
 use Prim.Native.Nat.{_≤_, _-_}
-use Rattle.fields.proofs.entries_ok.Statement.{statement}
-use Rattle.fields.proofs.entries_ok.Tie as tie
+use Rattle.rules.proofs.entries_ok.Statement.{statement}
+use Rattle.rules.proofs.entries_ok.Tie as tie
 
 abbrev Inv-loop : tie.InvT-loop
 Inv-loop b n w ok₀ i₀ ok i = (i ≤ n) × (ok ≡ entriesOk i w b)

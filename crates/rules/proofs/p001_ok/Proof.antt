@@ -1,8 +1,8 @@
 -- `p001_ok`: each field is the number that the definition reads, so the tests are the same. Assumes nothing.
 use Rattle.rules.specs.Fields.{p001Ok}
 use borrow.Author.Needs.{needs}
-use Rattle.fields.proofs.p001_ok.Statement.{statement}
-use Rattle.fields.proofs.p001_ok.Tie as tie
+use Rattle.rules.proofs.p001_ok.Statement.{statement}
+use Rattle.rules.proofs.p001_ok.Tie as tie
 
 u8-at-requires : tie.Need-u8-at-requires
 u8-at-requires c κs = search needs

@@ -1,8 +1,8 @@
 -- `entry_size` goes by the same test as its definition. Assumes nothing.
 use Rattle.rules.specs.Fields.{entrySize}
 use borrow.Author.Tests.{eq-eqb, ne-eqb}
-use Rattle.fields.proofs.entry_size.Statement.{statement}
-use Rattle.fields.proofs.entry_size.Tie as tie
+use Rattle.rules.proofs.entry_size.Statement.{statement}
+use Rattle.rules.proofs.entry_size.Tie as tie
 
 returns : tie.Need-returns
 unfolding entrySize

@@ -1,10 +1,10 @@
 -- `m102_ok`: the parts are those of the definition; the products stay small. Assumes nothing.
 use native.Mathlib.Omega.{arith}
 use Rattle.rules.specs.Sizes.{size-small, entries-small}
 use Rattle.rules.specs.Fields.{m102Ok}
 use borrow.Author.Needs.{needs}
-use Rattle.fields.proofs.m102_ok.Statement.{statement}
-use Rattle.fields.proofs.m102_ok.Tie as tie
+use Rattle.rules.proofs.m102_ok.Statement.{statement}
+use Rattle.rules.proofs.m102_ok.Tie as tie
 
 u40-at-requires : tie.Need-u40-at-requires
 u40-at-requires c κs = search needs
