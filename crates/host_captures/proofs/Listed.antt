@@ -27,10 +27,10 @@ use Rattle.walk_spec.specs.Walk.{walkOf, fitsIn, walkAnswer, walkBook, walkLeav
 use Rattle.walk_spec.specs.Literal.{Walk, literalWalk}
 use Rattle.walk_spec.specs.LiteralLaws.{literal-walk}
 use Rattle.walk_spec.proofs.Demand3.{walk-demand-3}
-use Rattle.lines.specs.Laws.{tableOf, length-table, listing-table}
-use Rattle.lines.specs.Listing.{listingOf}
-use Rattle.lines.specs.Fit.{walk-fits}
-use Rattle.lines.specs.Listed.{listedOf}
+use Rattle.listing_text.specs.Laws.{tableOf, length-table, listing-table}
+use Rattle.listing_text.specs.Whole.{listingOf}
+use Rattle.listing_text.specs.Fit.{walk-fits}
+use Rattle.listing_text.specs.Listed.{listedOf}
 use Rattle.host_words.specs.Told.{toldBy}
 use Rattle.host_words.specs.Words.{wordsOf}
 use Rattle.host_words.proofs.Back.{book-words, book-back}

@@ -28,8 +28,8 @@ use Rattle.walk_spec.specs.Walk as walks
 use Rattle.clean_spec.specs.Checks.{First, Differs, d-none, d-first, differs, check-clean}
 use Rattle.clean_spec.specs.Clean as cleans
 use Rattle.clean_spec.specs.Clean.{cleanOf, differOf, checkOf}
-use Rattle.lines.specs.Listed.{lastAt}
-use Rattle.lines.specs.Listing.{listingOf}
+use Rattle.listing_text.specs.Listed.{lastAt}
+use Rattle.listing_text.specs.Whole.{listingOf}
 use Rattle.host_words.specs.Told.{perhaps, toldBy, Tells}
 use Rattle.host_words.specs.Words.{bookIn}
 use Rattle.host_words.specs.Calls.{keptBy, callTold}

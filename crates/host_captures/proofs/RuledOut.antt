@@ -30,15 +30,15 @@ use Rattle.walk_laws.specs.Account as Account
 use Rattle.walk_laws.specs.Frames.{joined, eachOf}
 use Rattle.record.specs.Record.{firstHalf, secondHalf, recordOf, recordAt, blankOf}
 use Rattle.record.specs.Examples.{recordA, recordFF, recordB}
-use Rattle.report.specs.declared.Summary.{Summary}
-use Rattle.report.specs.Text.{column, typeColumn, firstColumns, lastColumns, lineOf, named, summaryOf}
+use Rattle.listing_text.specs.declared.Summary.{Summary}
+use Rattle.listing_text.specs.Text.{column, typeColumn, firstColumns, lastColumns, lineOf, named, summaryOf}
 use Rattle.reading.specs.Seen.{seenOf, saysOf}
 use Rattle.walk_spec.specs.Offers.{callsBy, answered, offerOf}
 use Rattle.walk_spec.specs.Walk as Walk
 use Rattle.walk_spec.specs.Walk.{madeOf, recordBy, bookBy, accepts, refuses, framesOf, refusedOf, walkAnswer, walkBook, walkLeaves}
 use Rattle.clean_spec.specs.Clean as Clean
 use Rattle.clean_spec.specs.Clean.{framesIn, cleanOf, foundBy, foundIn, cleanAnswer, cleanLeaves, differOf, checkOf}
-use Rattle.lines.specs.Listing.{recordsFrom, recordsIn, linesOf, listingOf}
+use Rattle.listing_text.specs.Whole.{recordsFrom, recordsIn, linesOf, listingOf}
 use Rattle.host_words.specs.Words.{wordsOf, pendingIn, ledgerIn}
 use Rattle.host_words.specs.Calls.{keptBy}
 use Rattle.host_words.specs.Told.{toldBy, Tells}

@@ -13,9 +13,9 @@ use Rattle.ledger_spec.specs.Words.{valueAt}
 use Rattle.ledger_spec.specs.Calls.{Missing}
 use Rattle.ledger.specs.State.{ledgerOf}
 use Rattle.ledger.specs.declared.Ledger.{Ledger}
-use Rattle.report.specs.declared.Summary.{Summary}
+use Rattle.listing_text.specs.declared.Summary.{Summary}
 use Rattle.walk_spec.specs.Walk.{walkAnswer, walkBook}
-use Rattle.lines.specs.Listing.{listingOf}
+use Rattle.listing_text.specs.Whole.{listingOf}
 use Rattle.clean_spec.specs.Clean.{checkOf}
 use Rattle.host_words.specs.Told.{perhaps, retold, Tells, tells-refused}
 use Rattle.host_words.specs.Words.{ledgerIn}

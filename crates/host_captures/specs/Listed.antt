@@ -5,11 +5,11 @@ use mathlib.Core.List.{List, [], _∷_}
 use lib.ListN.{length, getD, take}
 use Rattle.octets.specs.Octets.{laid}
 use Rattle.ledger.specs.State.{ledgerOf}
-use Rattle.report.specs.declared.Summary.{Summary}
+use Rattle.listing_text.specs.declared.Summary.{Summary}
 use Rattle.walk_spec.specs.Literal.{Walk}
-use Rattle.lines.specs.Laws.{tableOf}
-use Rattle.lines.specs.Listing.{listingOf}
-use Rattle.lines.specs.Listed.{lastAt}
+use Rattle.listing_text.specs.Laws.{tableOf}
+use Rattle.listing_text.specs.Whole.{listingOf}
+use Rattle.listing_text.specs.Listed.{lastAt}
 use Rattle.host_words.specs.Words.{wordsOf}
 
 -- the numbers of the last line: the walk's counts, and its ledger's floor, top and missing count

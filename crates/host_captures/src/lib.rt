@@ -14,7 +14,7 @@ use clean::Check;
 use ledger::Answer;
 use ledger::Ledger;
 use octets::Written;
-use report::Summary;
+use listing_text::Summary;
 
 // WHAT AN ANSWER COMES TO: three small functions as `host_ledger` and `host_frames` have them for themselves
 
@@ -109,7 +109,7 @@ pub extern "C" fn rk_listing(
         top,
         missing: counted.count,
     };
-    let laid = lines::put_listing(text, records, s);
+    let laid = listing_text::put_listing(text, records, s);
     told_bytes(laid, told)
 }
 

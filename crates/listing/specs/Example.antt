@@ -15,11 +15,11 @@ use Rattle.ledger_spec.specs.State.{nothing, rangeRules, mapRules, soundOf}
 use Rattle.ledger_spec.specs.Calls.{ownNumber, checkedOf, numberTo, raised, done, missingCount, valuesOf, answerTo, nextOf, fresh}
 use Rattle.record.specs.Record.{blankOf}
 use Rattle.record.specs.Examples.{recordA, recordFF, recordB}
-use Rattle.report.specs.Listing.{listing}
-use Rattle.report.specs.Text.{column, named, summaryOf}
+use Rattle.listing_text.specs.Listing.{listing}
+use Rattle.listing_text.specs.Text.{column, named, summaryOf}
 use Rattle.walk_spec.specs.Literal.{walkFrom, literalWalk}
-use Rattle.lines.specs.Listing.{linesOf}
-use Rattle.lines.specs.Listed.{listedOf}
+use Rattle.listing_text.specs.Whole.{linesOf}
+use Rattle.listing_text.specs.Listed.{listedOf}
 use Rattle.listing.specs.Output.{outputOf}
 
 unfoldable pub capture : List ℕ

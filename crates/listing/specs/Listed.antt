@@ -6,16 +6,16 @@ use native.Mathlib.Omega.{arith}
 use lib.ListN.{length, take, length-append}
 use Rattle.octets.specs.Octets.{Bytes}
 use Rattle.octets.specs.Overlays.{take-front, length-laid}
-use Rattle.report.specs.Lengths.{summary-most}
+use Rattle.listing_text.specs.Lengths.{summary-most}
 use Rattle.walk.specs.declared.Walked.{Walked}
 use Rattle.walk_spec.specs.WalkLaws.{records-few}
 use Rattle.walk_spec.specs.Literal.{Walk, literalWalk}
 use Rattle.walk_spec.specs.LiteralLaws.{literal-walk}
 use Rattle.walk.specs.Promises.{Listed}
-use Rattle.lines.specs.Listing.{listingOf}
-use Rattle.lines.specs.Laws.{tableOf, length-table, listing-table, LastFits, lines-most}
-use Rattle.lines.specs.Fit.{walk-fits}
-use Rattle.lines.specs.Listed.{lastAt, listedOf, walked-book}
+use Rattle.listing_text.specs.Whole.{listingOf}
+use Rattle.listing_text.specs.Laws.{tableOf, length-table, listing-table, LastFits, lines-most}
+use Rattle.listing_text.specs.Fit.{walk-fits}
+use Rattle.listing_text.specs.Listed.{lastAt, listedOf, walked-book}
 use Rattle.listing.specs.Output.{lastBy}
 
 module _ (s : List ℕ) where

@@ -5,9 +5,9 @@ use lib.Dec.{leb}
 use lib.ListN.{length}
 use Rattle.terms.specs.Paper.{pick}
 use Rattle.ledger.specs.State.{bookOf}
-use Rattle.report.specs.declared.Summary.{Summary}
+use Rattle.listing_text.specs.declared.Summary.{Summary}
 use Rattle.walk.specs.declared.Walked.{Walked}
-use Rattle.lines.specs.Listed.{lastAt, listedOf}
+use Rattle.listing_text.specs.Listed.{lastAt, listedOf}
 
 -- the last line's numbers, of what the code's walk hands back
 unfoldable pub lastBy : Walked → Summary

@@ -4,12 +4,12 @@ ghost use Prim.Native.Nat.{_+_, _*_, _/_, _≤_};
 ghost use lib.ListN.{length};
 ghost use Rattle.octets.specs.Octets.{Bytes};
 ghost use Rattle.record.specs.Stored.{Stored};
-ghost use Rattle.lines.specs.Listed.{listedOf};
+ghost use Rattle.listing_text.specs.Listed.{listedOf};
 ghost use Rattle.listing.specs.Output.{lastBy, outputOf};
 use libc::STDIN_FILENO;
 use libc::STDOUT_FILENO;
 use octets::Written;
-use report::Summary;
+use listing_text::Summary;
 use walk::Walked;
 
 // The largest capture that is taken. One byte more is read, which tells a capture that is too long.
@@ -45,7 +45,7 @@ fn list(capture: &[u8], records: &mut [u8], text: &mut [u8]) -> usize
 {
     let walked = walk::walk(capture, records);
     let n = 64 * walked.records;
-    match lines::put_listing(text, &records[..n], last_of(walked)) {
+    match listing_text::put_listing(text, &records[..n], last_of(walked)) {
         Written::Refused(_) => 0,
         Written::Bytes(e) => e,
     }

@@ -9,16 +9,16 @@ use native.Mathlib.Omega.{arith}
 use lib.ListN.{length, drop}
 use Rattle.octets.specs.Octets.{Bytes}
 use Rattle.ledger.specs.State.{bookOf, ledgerOf}
-use Rattle.report.specs.Text.{summaryOf}
+use Rattle.listing_text.specs.Text.{summaryOf}
 use Rattle.frame_spec.specs.Frame.{readOf}
 use Rattle.walk_spec.specs.Walk.{sights, tableOf}
 use Rattle.walk_spec.specs.Records.{Covers}
 use Rattle.walk_spec.specs.Literal.{Walk, literalWalk}
 use Rattle.walk_spec.specs.LiteralLaws.{literal-walk}
-use Rattle.lines.specs.Listing.{linesOf, listingOf}
-use Rattle.lines.specs.Laws.{listing-table}
-use Rattle.lines.specs.Fit.{walk-fits}
-use Rattle.lines.specs.Listed.{lastAt, listedOf, walked-book}
+use Rattle.listing_text.specs.Whole.{linesOf, listingOf}
+use Rattle.listing_text.specs.Laws.{listing-table}
+use Rattle.listing_text.specs.Fit.{walk-fits}
+use Rattle.listing_text.specs.Listed.{lastAt, listedOf, walked-book}
 use Rattle.stream_spec.specs.declared.Stream.{Stream}
 use Rattle.stream_spec.specs.declared.Fed.{Fed}
 use Rattle.terms.specs.declared.Verdict.the-variants.{Fine}

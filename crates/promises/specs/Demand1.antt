@@ -66,7 +66,7 @@ use Rattle.scrub.proofs.OneAnswer as scrub
 use Rattle.tick_map.proofs.OneAnswer as map
 use Rattle.ledger.proofs.OneAnswer as ledger
 use Rattle.record.proofs.OneAnswer as «record»
-use Rattle.report.proofs.OneAnswer as report
+use Rattle.listing_text.proofs.OneAnswer as report
 use Rattle.frame_view.proofs.OneAnswer as view
 use Rattle.reading.proofs.OneAnswer as seen
 use Rattle.offers.proofs.OneAnswer as offers
@@ -74,7 +74,7 @@ use Rattle.table.proofs.OneAnswer as table
 use Rattle.walk.proofs.OneAnswer as walk
 use Rattle.stream_spec.proofs.OneAnswer as flow
 use Rattle.stream.proofs.OneAnswer as stream
-use Rattle.lines.proofs.OneAnswer as lines
+use Rattle.listing_text.proofs.OneAnswer as lines
 use Rattle.clean.proofs.OneAnswer as clean
 use Rattle.host_words.proofs.OneAnswer as words
 use Rattle.host_frames.proofs.OneAnswer as host

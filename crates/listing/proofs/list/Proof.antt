@@ -8,13 +8,13 @@ use lib.ListN.{length, take}
 use lib.Seq.{length-take-le}
 use Rattle.octets.specs.Octets.{Bytes}
 use Rattle.octets.specs.Papers.{writtenPaper, roomFor, laidIfRoom}
-use Rattle.report.specs.Columns.{not-refused}
+use Rattle.listing_text.specs.Columns.{not-refused}
 use Rattle.walk_spec.specs.Literal.{literalWalk}
 use Rattle.walk.specs.Promises.{Listed, with-room}
-use Rattle.lines.specs.Answered.{answered}
-use Rattle.lines.specs.Laws.{LastFits}
-use Rattle.lines.specs.Listing.{listingOf}
-use Rattle.lines.specs.Listed.{listedOf}
+use Rattle.listing_text.specs.Answered.{answered}
+use Rattle.listing_text.specs.Laws.{LastFits}
+use Rattle.listing_text.specs.Whole.{listingOf}
+use Rattle.listing_text.specs.Listed.{listedOf}
 use Rattle.listing.specs.Listed.{walked-few, table-within, listing-is, listing-short}
 use borrow.Author.Needs.{needs}
 use Rattle.listing.proofs.list.Statement.{statement}

@@ -1,0 +1,75 @@
+-- `has_room`: the lines still to come fit the room left exactly where the listing fits the room. The measure counts them. Assumes nothing.
+use Prim.Native.Nat.{ℕ, _*_, _/_, _-_, _≤_}
+use mathlib.Core.Path.{_≡_, sym, ap, _∙_}
+use mathlib.Core.List.{List}
+use native.Mathlib.Omega.{arith}
+use lib.Dec.{leb}
+use lib.ListN.{length}
+use Rattle.record.specs.declared.Record.{Record}
+use Rattle.record.specs.Record.{recordAt}
+use Rattle.listing_text.specs.Text.{lineOf}
+use Rattle.listing_text.specs.Whole.{listingOf}
+use Rattle.listing_text.specs.Rest.{restOf, rest-first, rest-end, rest-lacks, rest-fits}
+use borrow.Author.Needs.{needs}
+use Rattle.listing_text.proofs.has_room.Statement.{statement}
+use Rattle.listing_text.proofs.has_room.Tie as tie
+
+abbrev Inv-loop : tie.InvT-loop
+Inv-loop room records s left₀ passed₀ left passed = (passed ≤ length records / 64) × (leb (length (restOf records s passed)) left ≡ leb (length (listingOf records s)) room)
+
+abbrev μ-loop : tie.MeasureT-loop
+μ-loop room records s left₀ passed₀ left passed = length records / 64 - passed
+
+loop-holds : tie.Need-loop-holds Inv-loop μ-loop
+loop-holds c = (search needs, ap (λ (x : List ℕ). leb (length x) (c .before .args .room)) (rest-first (c .before .args .records .now) (c .before .args .s)))
+
+mul-record-at : tie.Need-mul-record-at Inv-loop μ-loop
+mul-record-at c = omega arith
+
+record-at-requires : tie.Need-record-at-requires Inv-loop μ-loop
+record-at-requires c κs = search needs
+
+line-len-requires : tie.Need-line-len-requires Inv-loop μ-loop
+line-len-requires c κs = search needs
+
+-- the length that the code has of the next line
+long : (c : tie.After-line-len Inv-loop μ-loop)
+    → c .line-len .result ≡ length (lineOf (recordAt (64 * c .before .before .before .loop .passed) (c .before .before .before .before .before .args .records .now)))
+long c = c .line-len .ensures ∙ ap (λ (r : Record). length (lineOf r)) (c .before .record-at .ensures)
+
+returns : tie.Need-returns Inv-loop μ-loop
+returns c = sym (rest-lacks _ _ _ _ _ (search needs) (long (c .before)) (c .if1 .taken)) ∙ c .before .before .before .before .loop .inv .1
+
+add-passed : tie.Need-add-passed Inv-loop μ-loop
+add-passed c = omega arith
+
+loop-less : tie.Need-loop-less Inv-loop μ-loop
+loop-less c = omega arith
+
+loop-again : tie.Need-loop-again Inv-loop μ-loop
+loop-again c = (search needs, rest-fits _ _ _ _ _ (search needs) (long (c .before)) (c .if1 .left) ∙ c .before .before .before .before .loop .inv .1)
+
+last-len-requires : tie.Need-last-len-requires Inv-loop μ-loop
+last-len-requires c κs = search needs
+
+returns-2 : tie.Need-returns-2 Inv-loop μ-loop
+returns-2 c =
+    let l = c .before .before in
+    rw (c .last-len .ensures) (ap (λ (x : List ℕ). leb (length x) (l .loop .left)) (sym (rest-end _ _ (l .loop .passed) (search needs))) ∙ l .loop .inv .1)
+
+pub has-room-spec : {M : Type 1} → statement M
+has-room-spec =
+    tie.close
+    (tie.spec
+    Inv-loop
+    μ-loop
+    loop-holds
+    mul-record-at
+    record-at-requires
+    line-len-requires
+    returns
+    add-passed
+    loop-less
+    loop-again
+    last-len-requires
+    returns-2)

@@ -1,0 +1,10 @@
+pub mod Text
+pub mod Columns
+pub mod Listing
+pub mod Lengths
+pub mod Whole
+pub mod Laws
+pub mod Rest
+pub mod Answered
+pub mod Fit
+pub mod Listed

@@ -1,0 +1,216 @@
+// The text of the listing: a record's line, and the last line.
+// Every function takes all input. What is written is made aside first: without room nothing is written and the answer is 8.
+ghost use mathlib.Core.Path.{_≡_};
+ghost use Prim.Native.Nat.{_+_, _≤_, _*_};
+ghost use lib.ListN.{length, take};
+ghost use Rattle.octets.specs.Papers.{writtenPaper, roomFor, laidIfRoom};
+ghost use Rattle.record.specs.Stored.{Stored};
+ghost use Rattle.listing_text.specs.Text.{column, typeShown, typeColumn, firstColumns, lastColumns, lineOf, named, summaryOf};
+use octets::Written;
+use record::Record;
+use terms::TickNumber;
+ghost use lib.Dec.{leb};
+ghost use Rattle.listing_text.specs.Whole.{listingOf};
+use terms::Refusal;
+
+// What the listing says of a whole capture.
+pub struct Summary {
+    pub frames: u64,
+    pub refused: u64,
+    pub floor: TickNumber,
+    pub top: TickNumber,
+    pub missing: u64,
+}
+
+// The type of a refused reading: four spaces.
+const BLANK: u32 = 0x20202020;
+
+// What stands for it in a line.
+const DASHES: u32 = 0x2D2D2D2D;
+
+// Lays the first n bytes of src over out from at on.
+fn lay_front(out: &mut [u8], at: usize, src: &[u8], n: usize) -> Written
+    requires { ⌜ n ≤ length (now src) ⌝ }
+    ensures { λ w. ⌜ (writtenPaper w ≡ roomFor at n (length (now (out .entry)))) × (now (out .exit) ≡ laidIfRoom at (take n (now (src .entry))) (now (out .entry))) ⌝ }
+{
+    octets::lay(out, at, &src[..n])
+}
+
+// Lays a number and the byte behind it over d from at on, and gives the place behind both. No number has more than 20 digits.
+fn store_column(d: &mut [u8], at: usize, v: u64, behind: u8) -> usize
+    requires { ⌜ at + 21 ≤ length (now d) ⌝ }
+    ensures { λ e. ⌜ Stored at (column v behind) (now (d .entry)) (now (d .exit)) e × (e ≤ at + 21) ⌝ }
+{
+    match digits::put_decimal(d, at, v) {
+        Written::Refused(_) => at,
+        Written::Bytes(n) => {
+            let e = at + n;
+            d[e] = behind;
+            e + 1
+        }
+    }
+}
+
+// What a line shows of a type.
+fn shown(t: u32) -> u32
+    ensures { λ r. ⌜ r ≡ typeShown t ⌝ }
+{
+    if t == BLANK {
+        return DASHES;
+    }
+    t
+}
+
+// Lays a type and a space over d from at on, and gives the place behind them.
+fn store_type(d: &mut [u8], at: usize, t: u32) -> usize
+    requires { ⌜ at + 5 ≤ length (now d) ⌝ }
+    ensures { λ e. ⌜ Stored at (typeColumn t) (now (d .entry)) (now (d .exit)) e × (e ≤ at + 5) ⌝ }
+{
+    octets::put(d, at, 4, shown(t) as u64);
+    let e = at + 4;
+    d[e] = b' ';
+    e + 1
+}
+
+// Lays the first four columns over the front of d, and gives the place behind them.
+fn store_columns(d: &mut [u8], r: Record) -> usize
+    requires { ⌜ 160 ≤ length (now d) ⌝ }
+    ensures { λ e. ⌜ Stored 0 (firstColumns r) (now (d .entry)) (now (d .exit)) e × (e ≤ 68) ⌝ }
+{
+    let a = store_column(d, 0, r.place, b' ');
+    let b = store_type(d, a, r.msg_type);
+    let c = store_column(d, b, r.answer as u64, b' ');
+    store_column(d, c, r.seq.value(), b' ')
+}
+
+// Lays the other four over d from at on.
+fn store_last(d: &mut [u8], at: usize, r: Record) -> usize
+    requires { ⌜ (at ≤ 68) × (160 ≤ length (now d)) ⌝ }
+    ensures { λ e. ⌜ Stored at (lastColumns r) (now (d .entry)) (now (d .exit)) e ⌝ }
+{
+    let a = store_column(d, at, r.channel.value() as u64, b' ');
+    let b = store_column(d, a, r.tick.value(), b' ');
+    let c = store_column(d, b, r.floor.value(), b' ');
+    store_column(d, c, r.top.value(), b'\n')
+}
+
+// Lays the record's line, with its newline, over out from at on, and answers how many bytes it has.
+pub fn put_line(out: &mut [u8], at: usize, r: Record) -> Written
+    ensures { λ w. ⌜ (writtenPaper w ≡ roomFor at (length (lineOf r)) (length (now (out .entry)))) × (now (out .exit) ≡ laidIfRoom at (lineOf r) (now (out .entry))) ⌝ }
+{
+    let mut d: [u8; 160] = [0; 160];
+    let a = store_columns(&mut d, r);
+    let e = store_last(&mut d, a, r);
+    lay_front(out, at, &d, e)
+}
+
+// Lays a word, its number and the byte behind it over d from at on, and gives the place behind them.
+fn store_named(d: &mut [u8], at: usize, word: &[u8], v: u64, behind: u8) -> usize
+    requires { ⌜ at + (length (now word) + 21) ≤ length (now d) ⌝ }
+    ensures { λ e. ⌜ Stored at (named (now (word .entry)) v behind) (now (d .entry)) (now (d .exit)) e × (e ≤ at + (length (now (word .entry)) + 21)) ⌝ }
+{
+    octets::lay(d, at, word);
+    store_column(d, at + word.len(), v, behind)
+}
+
+// Lays the last line of the listing over the front of d.
+fn store_summary(d: &mut [u8], s: Summary) -> usize
+    requires { ⌜ 160 ≤ length (now d) ⌝ }
+    ensures { λ e. ⌜ Stored 0 (summaryOf s) (now (d .entry)) (now (d .exit)) e ⌝ }
+{
+    let a = store_named(d, 0, b"frames ", s.frames, b' ');
+    let b = store_named(d, a, b"refused ", s.refused, b' ');
+    let c = store_named(d, b, b"floor ", s.floor.value(), b' ');
+    let e = store_named(d, c, b"top ", s.top.value(), b' ');
+    store_named(d, e, b"missing ", s.missing, b'\n')
+}
+
+// Lays the listing's last line, with its newline, over out from at on, and answers how many bytes it has.
+pub fn put_summary(out: &mut [u8], at: usize, s: Summary) -> Written
+    ensures { λ w. ⌜ (writtenPaper w ≡ roomFor at (length (summaryOf s)) (length (now (out .entry)))) × (now (out .exit) ≡ laidIfRoom at (summaryOf s) (now (out .entry))) ⌝ }
+{
+    let mut d: [u8; 160] = [0; 160];
+    let n = store_summary(&mut d, s);
+    lay_front(out, at, &d, n)
+}
+
+// Lays a record's line over out from at on, and gives the place behind it.
+fn store_line(out: &mut [u8], at: usize, r: Record) -> usize
+    requires { ⌜ at + length (lineOf r) ≤ length (now out) ⌝ }
+    ensures { λ e. ⌜ Stored at (lineOf r) (now (out .entry)) (now (out .exit)) e ⌝ }
+{
+    match put_line(out, at, r) {
+        Written::Refused(_) => at,
+        Written::Bytes(n) => at + n,
+    }
+}
+
+// Lays the last line over out from at on, and gives the place behind it.
+fn store_last(out: &mut [u8], at: usize, s: Summary) -> usize
+    requires { ⌜ at + length (summaryOf s) ≤ length (now out) ⌝ }
+    ensures { λ e. ⌜ Stored at (summaryOf s) (now (out .entry)) (now (out .exit)) e ⌝ }
+{
+    match put_summary(out, at, s) {
+        Written::Refused(_) => at,
+        Written::Bytes(n) => at + n,
+    }
+}
+
+// How many bytes a record's line has. No line has more than 127.
+fn line_len(r: Record) -> usize
+    ensures { λ n. ⌜ n ≡ length (lineOf r) ⌝ }
+{
+    let mut d: [u8; 160] = [0; 160];
+    store_line(&mut d, 0, r)
+}
+
+// How many bytes the last line has. It never has more than 138.
+fn last_len(s: Summary) -> usize
+    ensures { λ n. ⌜ n ≡ length (summaryOf s) ⌝ }
+{
+    let mut d: [u8; 160] = [0; 160];
+    store_last(&mut d, 0, s)
+}
+
+// Whether so much room takes the whole listing. left is the room behind the lines passed.
+fn has_room(room: usize, records: &[u8], s: Summary) -> bool
+    ensures { λ r. ⌜ r ≡ leb (length (listingOf (now (records .entry)) s)) room ⌝ }
+{
+    let mut left = room;
+    let mut passed: usize = 0;
+    while passed < records.len() / 64 {
+        let n = line_len(record::record_at(records, 64 * passed));
+        if left < n {
+            return false;
+        }
+        left -= n;
+        passed += 1;
+    }
+    last_len(s) <= left
+}
+
+// Lays the listing over the front of out, and gives the place behind it.
+fn store(out: &mut [u8], records: &[u8], s: Summary) -> usize
+    requires { ⌜ length (listingOf (now records) s) ≤ length (now out) ⌝ }
+    ensures { λ e. ⌜ Stored 0 (listingOf (now (records .entry)) s) (now (out .entry)) (now (out .exit)) e ⌝ }
+{
+    let mut at: usize = 0;
+    let mut laid: usize = 0;
+    while laid < records.len() / 64 {
+        at = store_line(out, at, record::record_at(records, 64 * laid));
+        laid += 1;
+    }
+    store_last(out, at, s)
+}
+
+// Lays the lines of all whole records of `records` (64 bytes each; what is left over at its end is passed over) and then the last
+// line over the front of out, and answers how many bytes that took. 8, and nothing is written, where out is shorter.
+pub fn put_listing(out: &mut [u8], records: &[u8], s: Summary) -> Written
+    ensures { λ w. ⌜ (writtenPaper w ≡ roomFor 0 (length (listingOf (now (records .entry)) s)) (length (now (out .entry))))
+        × (now (out .exit) ≡ laidIfRoom 0 (listingOf (now (records .entry)) s) (now (out .entry))) ⌝ }
+{
+    if !has_room(out.len(), records, s) {
+        return Written::Refused(Refusal::Room);
+    }
+    Written::Bytes(store(out, records, s))
+}

@@ -1,4 +1,0 @@
-pub mod Text
-pub mod Columns
-pub mod Listing
-pub mod Lengths
