@@ -69,8 +69,8 @@ use Rattle.record.proofs.OneAnswer as «record»
 use Rattle.listing_text.proofs.OneAnswer as report
 use Rattle.frame_view.proofs.OneAnswer as view
 use Rattle.reading.proofs.OneAnswer as seen
-use Rattle.offers.proofs.OneAnswer as offers
-use Rattle.table.proofs.OneAnswer as table
+use Rattle.walk_step.proofs.OneAnswer as offers
+use Rattle.walk_step.proofs.OneAnswer as table
 use Rattle.walk.proofs.OneAnswer as walk
 use Rattle.stream_spec.proofs.OneAnswer as flow
 use Rattle.stream.proofs.OneAnswer as stream

@@ -102,8 +102,8 @@ fn run(
             continue;
         }
         let ledger = tally.ledger;
-        let after = offers::offer(ledger, seen);
-        table::note(out, count, table::made(base + p as u64, seen, after));
+        let after = walk_step::offer(ledger, seen);
+        walk_step::note(out, count, walk_step::made(base + p as u64, seen, after));
         p += stride(seen);
         seeking = answer != 0;
         count += 1;

@@ -17,7 +17,7 @@ use Rattle.walk_laws.specs.WaitLaws.{modeOf, notes, ranAt, ran-end, ran-more, r
 use Rattle.walk_laws.specs.Closing.{final}
 use Rattle.walk_laws.specs.Account.{Account, accountOf}
 use Rattle.reading.specs.declared.Seen.{Seen}
-use Rattle.offers.specs.declared.Offered.{Offered}
+use Rattle.walk_step.specs.declared.Offered.{Offered}
 use Rattle.reading.specs.Seen.{seenOf, saysOf}
 use Rattle.reading.specs.SeenLaws.{says-frame, says-more, says-bad, seen-fits}
 use Rattle.walk_spec.specs.Offers.{offerOf}

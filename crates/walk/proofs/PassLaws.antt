@@ -17,7 +17,7 @@ use Rattle.walk_laws.specs.Account as Account
 use Rattle.walk_laws.specs.Account.{Account, first, accountOf}
 use Rattle.walk_laws.specs.Literal.{fromOf, sightAt, from-end}
 use Rattle.reading.specs.declared.Seen.{Seen}
-use Rattle.offers.specs.declared.Offered.{Offered}
+use Rattle.walk_step.specs.declared.Offered.{Offered}
 use Rattle.walk.specs.declared.Passed.{Passed}
 use Rattle.reading.specs.Seen.{seenOf, saysOf}
 use Rattle.walk_spec.specs.Offers.{callsBy, offerOf}

@@ -69,8 +69,8 @@ fn pass(capture: &[u8], start: Ledger, out: &mut [u8]) -> Passed
     let mut ledger = start;
     while p < capture.len() {
         let seen = reading::see(capture, p);
-        let after = offers::offer(ledger, seen);
-        table::note(out, records, table::made(p as u64, seen, after));
+        let after = walk_step::offer(ledger, seen);
+        walk_step::note(out, records, walk_step::made(p as u64, seen, after));
         p = onward(capture, p, seen);
         records += 1;
         frames += accepted(seen.answer);

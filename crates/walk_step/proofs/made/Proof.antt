@@ -1,8 +1,8 @@
 -- `made`: each field is the one that the definition has. Assumes nothing.
 use mathlib.Core.Path.{refl}
 use Rattle.walk_spec.specs.Walk.{madeOf}
-use Rattle.table.proofs.made.Statement.{statement}
-use Rattle.table.proofs.made.Tie as tie
+use Rattle.walk_step.proofs.made.Statement.{statement}
+use Rattle.walk_step.proofs.made.Tie as tie
 
 returns : tie.Need-returns
 unfolding madeOf

@@ -6,8 +6,8 @@ use Rattle.tick_map.specs.Bits.{Words}
 use Rattle.ledger_spec.specs.Calls.{answerTo}
 use Rattle.ledger.proofs.Seam.{next-of}
 use Rattle.ledger.specs.Papers.{paperOf}
-use Rattle.offers.proofs.announced.Statement.{statement}
-use Rattle.offers.proofs.announced.Tie as tie
+use Rattle.walk_step.proofs.announced.Statement.{statement}
+use Rattle.walk_step.proofs.announced.Tie as tie
 
 words : (c : tie.Start) → Words (c .args .ledger .map .words)
 words c = record { four = search needs; low = λ i. search needs }

@@ -5,7 +5,7 @@ use Rattle.ledger_spec.specs.State.{Book}
 use Rattle.ledger.specs.State.{ledgerOf}
 use Rattle.ledger_spec.specs.Calls.{Call, numberTo, nextOf}
 use Rattle.reading.specs.declared.Seen.{Seen}
-use Rattle.offers.specs.declared.Offered.{Offered}
+use Rattle.walk_step.specs.declared.Offered.{Offered}
 use Rattle.walk_spec.specs.Offers.{callsBy, answered, offerOf}
 
 -- what the code gives where no call is made, and where one is

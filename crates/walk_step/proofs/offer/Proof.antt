@@ -5,9 +5,9 @@ use Rattle.rules.specs.Table.{kind-is}
 use Rattle.rules.specs.declared.Kind.{Kind}
 use Rattle.walk_spec.specs.Offers.{callsFor, callsBy}
 use Rattle.walk_spec.specs.OfferLaws.{calls-refused, calls-of}
-use Rattle.offers.specs.OfferedLaws.{offer-none, offer-one}
-use Rattle.offers.proofs.offer.Statement.{statement}
-use Rattle.offers.proofs.offer.Tie as tie
+use Rattle.walk_step.specs.OfferedLaws.{offer-none, offer-one}
+use Rattle.walk_step.proofs.offer.Statement.{statement}
+use Rattle.walk_step.proofs.offer.Tie as tie
 
 -- behind the test of the answer: it is 0; and an arm knows the type, and so the calls
 zero : (c : tie.After-kind-of) → c .before .before .before .before .before .args .seen .answer ≡ 0

@@ -3,8 +3,8 @@ use mathlib.Core.Path.{refl, sym}
 use borrow.Author.Needs.{needs}
 use Rattle.tick_map.specs.Bits.{Words}
 use Rattle.ledger.proofs.Seam.{ledger-of}
-use Rattle.offers.proofs.kept.Statement.{statement}
-use Rattle.offers.proofs.kept.Tie as tie
+use Rattle.walk_step.proofs.kept.Statement.{statement}
+use Rattle.walk_step.proofs.kept.Tie as tie
 
 words : (c : tie.Start) → Words (c .args .ledger .map .words)
 words c = record { four = search needs; low = λ i. search needs }

@@ -10,6 +10,9 @@ use rules::Kind;
 use reading::Seen;
 use terms::ChannelNumber;
 use terms::TickNumber;
+ghost use Rattle.walk_spec.specs.Walk.{madeOf};
+ghost use Rattle.walk_spec.specs.Tables.{notedAt};
+use record::Record;
 
 // What offering a reading to the ledger comes to: the record's answer, and the ledger after it.
 pub struct Offered {
@@ -82,5 +85,37 @@ pub fn offer(ledger: Ledger, seen: Seen) -> Offered
         Kind::M102 => kept(ledger, 0),
         Kind::M201 => ticked(ledger, channel, tick),
         Kind::Unknown => kept(ledger, 0),
+    }
+}
+
+// The record of a reading: what was seen, the answer, and the ledger's floor and top after the offer.
+pub fn made(place: u64, seen: Seen, after: Offered) -> Record
+    ensures { λ r. ⌜ r ≡ madeOf place seen (after .answer) (after .ledger .floor) (after .ledger .top) ⌝ }
+{
+    let ledger = after.ledger;
+    let floor = ledger.floor;
+    let top = ledger.top;
+    let seq = seen.seq;
+    let tick = seen.tick;
+    let channel = seen.channel;
+    Record {
+        place,
+        msg_type: seen.msg_type,
+        answer: after.answer,
+        seq,
+        tick,
+        channel,
+        body_len: seen.body_len,
+        floor,
+        top,
+    }
+}
+
+// Lays record k into the table of records, where it has room.
+pub fn note(out: &mut [u8], k: usize, r: Record)
+    ensures { λ _. ⌜ now (out .exit) ≡ notedAt k r (now (out .entry)) ⌝ }
+{
+    if k < out.len() / 64 {
+        record::put(out, 64 * k, r);
     }
 }

@@ -2,8 +2,8 @@
 use mathlib.Core.Path.{sym}
 use Rattle.walk_spec.specs.Tables.{noted-put, noted-full}
 use borrow.Author.Needs.{needs}
-use Rattle.table.proofs.note.Statement.{statement}
-use Rattle.table.proofs.note.Tie as tie
+use Rattle.walk_step.proofs.note.Statement.{statement}
+use Rattle.walk_step.proofs.note.Tie as tie
 
 mul-put : tie.Need-mul-put
 mul-put c = search needs

@@ -1,0 +1,87 @@
+-- Wrong answers that the promise of `offer` rules out, as a table of what is given and what is then wrong. Assumes nothing.
+use Prim.Native.Nat.{ℕ}
+use mathlib.Core.Path.{_≡_, refl, ap, ap₂}
+use mathlib.Core.List.{List, [], _∷_, _++_}
+use lib.Count.{trailingZeros}
+use Rattle.terms.specs.Counters.{sessionOf, tickOf, channelOf}
+use Rattle.terms.specs.RuledOut.{Row, _never_, _only_, Kept, RulesOut, ruled, numbers, lists, beside}
+use Rattle.rules.specs.Table.{kindOf}
+use Rattle.tick_map.specs.Bits.{valueOf, mapOf, run}
+use Rattle.tick_map.specs.Ring.{rotated}
+use Rattle.ledger_spec.specs.State.{Asked, nothing, range, Book, has, rangeRules, mapRules, soundOf}
+use Rattle.ledger_spec.specs.Calls.{ownNumber, checkedOf, numberTo, passes, taken, raised, done, nextOf}
+use Rattle.ledger.specs.State.{bookOf, ledgerOf}
+use Rattle.ledger.specs.declared.Ledger.{Ledger}
+use Rattle.reading.specs.declared.Seen.{Seen}
+use Rattle.walk_spec.specs.Offers.{callsBy, answered, offerOf}
+use Rattle.walk_step.proofs.offer.Reads as offer
+use Rattle.walk_step.proofs.offer.Kinds as offer-kinds
+use denote.Ref.{now}
+use lib.ListN.{replicate}
+use Rattle.octets.specs.Octets.{digitsOf, laid}
+use Rattle.record.specs.declared.Record.{Record}
+use Rattle.record.specs.Record.{firstHalf, secondHalf, recordOf}
+use Rattle.record.specs.Examples.{recordA}
+use Rattle.walk_spec.specs.Walk.{madeOf}
+use Rattle.walk_spec.specs.Tables.{notedAt}
+use Rattle.walk_step.proofs.made.Reads as made
+use Rattle.walk_step.proofs.made.Kinds as made-kinds
+use Rattle.walk_step.proofs.note.Reads as note
+use Rattle.walk_step.proofs.note.Kinds as note-kinds
+
+-- a ledger of channel 100 with nothing held; and what is seen of an accepted frame of this type and channel, with the number 1
+abbrev book : ℕ → ℕ → Book
+book floor top = record { channel = 100; floor = floor; top = top; bits = 0; pending = nothing }
+
+abbrev frame : ℕ → ℕ → Seen
+frame type channel = record { answer = 0; «msg_type» = type; seq = sessionOf 9; channel = channelOf channel; tick = tickOf 1; status = 0; «body_len» = 45; size = 73 }
+
+-- the number answered; and of the ledger then: floor, top, held numbers
+abbrev seen : Book → List ℕ
+seen b = b .floor ∷ b .top ∷ b .bits ∷ []
+
+abbrev shown : ℕ → Ledger → ℕ × List ℕ
+shown n l = (n, seen (bookOf l))
+
+abbrev pub offer-wrong : List (Row (Book × Seen) (ℕ × List ℕ))
+offer-wrong =
+    (book 0 0, frame 0x4D323031 100) only (0, 1 ∷ 1 ∷ 0 ∷ [])  -- an M201 is a tick
+    ∷ (book 0 0, frame 0x50303031 100) never (0, 1 ∷ 1 ∷ 0 ∷ [])  -- a P001 taken for a tick
+    ∷ (book 0 0, frame 0x50303031 100) only (0, 0 ∷ 1 ∷ 0 ∷ [])  -- it announces
+    ∷ (book 0 0, frame 0x50303032 100) only (0, 0 ∷ 0 ∷ 0 ∷ [])  -- a P002 is not offered
+    ∷ (book 0 0, frame 0x4D323031 101) only (18, 0 ∷ 0 ∷ 0 ∷ [])  -- another channel's tick is not taken
+    ∷ []
+
+pub offer-rules-out : RulesOut (Kept _ offer-kinds.ps offer-kinds.r offer.Post) (λ c. (bookOf (c .args .0), c .args .1 .0)) (λ c. shown (c .result .answer) (c .result .ledger)) offer-wrong
+unfolding kindOf valueOf mapOf rotated run trailingZeros has rangeRules mapRules soundOf ownNumber checkedOf numberTo passes taken raised done nextOf bookOf ledgerOf callsBy answered offerOf
+offer-rules-out = ruled (beside numbers lists) (λ (i : Book × Seen). shown (offerOf (i .0) (i .1) .number) (ledgerOf (offerOf (i .0) (i .1) .book))) (λ c p. ap₂ shown (p .0) (p .1)) _ refl
+
+-- MADE: a place, what is seen there, and of the ledger after it: the number answered, its floor and its top. The record's nine numbers.
+abbrev tick : Seen
+tick = record { answer = 0; «msg_type» = 0x4D323031; seq = sessionOf 2; channel = channelOf 100; tick = tickOf 3; status = 0; «body_len» = 45; size = 73 }
+
+abbrev shown : Record → List ℕ
+shown r = r .place ∷ r .«msg_type» ∷ r .answer ∷ r .seq .0 ∷ r .tick .0 ∷ r .channel .0 ∷ r .«body_len» ∷ r .floor .0 ∷ r .top .0 ∷ []
+
+abbrev pub made-wrong : List (Row (ℕ × (Seen × (ℕ × (ℕ × ℕ)))) (List ℕ))
+made-wrong =
+    (7, (tick, (12, (4, 5)))) never (7 ∷ 0x4D323031 ∷ 0 ∷ 2 ∷ 3 ∷ 100 ∷ 45 ∷ 4 ∷ 5 ∷ [])  -- the reading's answer for the ledger's
+    ∷ (7, (tick, (12, (4, 5)))) never (7 ∷ 0x4D323031 ∷ 12 ∷ 2 ∷ 3 ∷ 100 ∷ 45 ∷ 5 ∷ 5 ∷ [])  -- the top where the floor belongs
+    ∷ (7, (tick, (12, (4, 5)))) only (7 ∷ 0x4D323031 ∷ 12 ∷ 2 ∷ 3 ∷ 100 ∷ 45 ∷ 4 ∷ 5 ∷ [])
+    ∷ []
+
+pub made-rules-out : RulesOut (Kept _ made-kinds.ps made-kinds.r made.Post) (λ c. (c .args .0, (c .args .1 .0, (c .args .1 .1 .0 .answer, (c .args .1 .1 .0 .ledger .floor .0, c .args .1 .1 .0 .ledger .top .0))))) (λ c. shown (c .result)) made-wrong
+unfolding madeOf
+made-rules-out = ruled lists (λ (i : ℕ × (Seen × (ℕ × (ℕ × ℕ)))). shown (madeOf (i .0) (i .1 .0) (i .1 .1 .0) (tickOf (i .1 .1 .1 .0)) (tickOf (i .1 .1 .1 .1)))) (λ c p. ap shown p) _ refl
+
+-- NOTE: a buffer, a number and a record; the buffer then
+abbrev pub note-wrong : List (Row (List ℕ × (ℕ × Record)) (List ℕ))
+note-wrong =
+    (replicate 129 7, (1, recordA)) never (recordOf recordA ++ replicate 65 7)  -- every record laid over the first one
+    ∷ (replicate 129 7, (1, recordA)) only (replicate 64 7 ++ (recordOf recordA ++ (7 ∷ [])))
+    ∷ (replicate 127 7, (1, recordA)) only replicate 127 7  -- nothing where it has no room
+    ∷ []
+
+pub note-rules-out : RulesOut (Kept _ note-kinds.ps note-kinds.r note.Post) (λ c. (now (c .args .0), (c .args .1 .0, c .args .1 .1 .0))) (λ c. now (c .exit .0)) note-wrong
+unfolding digitsOf laid firstHalf secondHalf recordOf notedAt
+note-rules-out = ruled lists (λ (i : List ℕ × (ℕ × Record)). notedAt (i .1 .0) (i .1 .1) (i .0)) (λ c p. p) _ refl
