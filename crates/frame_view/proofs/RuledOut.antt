@@ -21,6 +21,7 @@ shown v = v .channel .0 ∷ v .tick .0 ∷ v .first .0 ∷ v .last .0 ∷ v .sta
 abbrev pub view-of-wrong : List (Row (Kind × List ℕ) (List ℕ))
 view-of-wrong =
     (P001, channelBody 13 0x4E) never (3 ∷ 100 ∷ 0 ∷ 0 ∷ 0 ∷ [])  -- channel and tick number swapped
+    ∷ (P001, channelBody 13 0x4E) only (100 ∷ 3 ∷ 0 ∷ 0 ∷ 0 ∷ [])
     ∷ (P002, resendBody 3 5 99 0x41) only (100 ∷ 3 ∷ 3 ∷ 5 ∷ 99 ∷ [])  -- nothing of RejectText
     ∷ (M201, tickBody (0x41 ∷ [])) only (100 ∷ 3 ∷ 0 ∷ 0 ∷ 0 ∷ [])  -- nothing of the tail
     ∷ (S001, logonBody 0x41 0x42 30) only (0 ∷ 0 ∷ 0 ∷ 0 ∷ 0 ∷ [])  -- nothing of a CompID

@@ -13,8 +13,8 @@ ghost use Rattle.host_captures.specs.Captures.{walkWords, listingTold, l
 use clean::Check;
 use ledger::Answer;
 use ledger::Ledger;
-use octets::Written;
 use listing_text::Summary;
+use octets::Written;
 
 // WHAT AN ANSWER COMES TO: three small functions as `host_ledger` and `host_frames` have them for themselves
 

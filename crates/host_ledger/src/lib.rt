@@ -11,9 +11,9 @@ use ledger::Ledger;
 use ledger::ReplyAnswer;
 use ledger::RequestAnswer;
 use ledger::TickAnswer;
-use tick_map::Map;
 use terms::ChannelNumber;
 use terms::TickNumber;
+use tick_map::Map;
 
 fn number_of(a: Answer) -> u32
     ensures { λ r. ⌜ r ≡ paperOf a .number ⌝ }
@@ -59,7 +59,10 @@ pub extern "C" fn rk_ledger_tick(
     ensures { λ r. ⌜ Tells (callTold (now (state .entry)) (Tick channel number)) (now (told .entry)) r (now (told .exit))
         × (now (state .exit) ≡ wordsAfter (now (state .entry)) (Tick channel number)) ⌝ }
 {
-    let ticked = host_words::ledger_in(state).tick(ChannelNumber::new(channel), TickNumber::new(number));
+    let ticked = host_words::ledger_in(state).tick(
+        ChannelNumber::new(channel),
+        TickNumber::new(number),
+    );
     let next = ticked.next;
     let answer = ticked.answer;
     match answer {

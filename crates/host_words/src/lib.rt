@@ -6,9 +6,9 @@ ghost use Rattle.terms.specs.Counters.{channelOf};
 ghost use Rattle.host_words.specs.Words.{firstAsked, lastAsked, wordsOf, pendingIn, ledgerIn};
 use ledger::Ledger;
 use ledger::Pending;
-use tick_map::Map;
 use terms::ChannelNumber;
 use terms::TickNumber;
+use tick_map::Map;
 
 // A channel above two bytes is none, and stands for one that breaks the state rules.
 fn channel_in(word: u64) -> ChannelNumber

@@ -13,10 +13,10 @@ ghost use Rattle.ledger_spec.specs.State.{range, largest, rangeRules, mapRules,
 ghost use Rattle.ledger.specs.State.{askedOf, bookOf, ledgerOf, topped, nextIn, laidFrom};
 ghost use Rattle.ledger_spec.specs.Calls.{Tick, Announce, Request, Reply, Missing, Held, replyStatus, startsAt, ownNumber, checkedOf, passes, taken, lastOf, reach, gaveUp, handed, replied, waiting, asked, answerTo, openNumber, openOf, fresh};
 ghost use Rattle.ledger.specs.Papers.{tickPaper, requestPaper, replyPaper, paperOf, countPaper, verdictNumber};
-use tick_map::Map;
 use terms::ChannelNumber;
 use terms::Refusal;
 use terms::TickNumber;
+use tick_map::Map;
 
 // The request that is pending: from its grant until a reply answered 0.
 pub enum Pending {

@@ -8,8 +8,8 @@ ghost use Rattle.listing_text.specs.Listed.{listedOf};
 ghost use Rattle.listing.specs.Output.{lastBy, outputOf};
 use libc::STDIN_FILENO;
 use libc::STDOUT_FILENO;
-use octets::Written;
 use listing_text::Summary;
+use octets::Written;
 use walk::Walked;
 
 // The largest capture that is taken. One byte more is read, which tells a capture that is too long.

@@ -95,6 +95,7 @@ abbrev pub sum-wrong : List (Row (List ℕ × (ℕ × ℕ)) ℕ)
 sum-wrong =
     (bytes, (1, 2)) never 0x9C  -- bytes before the place summed too
     ∷ (bytes, (1, 2)) never 0x68  -- the first byte summed over and over
+    ∷ (bytes, (1, 2)) only 0x8A
     ∷ (0xFF ∷ 0x02 ∷ [], (0, 2)) never 0x101  -- a sum that does not roll over
     ∷ []
 

@@ -58,29 +58,26 @@ use Rattle.octets.proofs.OneAnswer as octets
 use Rattle.calendar.proofs.OneAnswer as calendar
 use Rattle.digits.proofs.OneAnswer as digits
 use Rattle.rules.proofs.OneAnswer as rules
-use Rattle.rules.proofs.OneAnswer as fields
 use Rattle.frame.proofs.OneAnswer as frame
 use Rattle.entries.proofs.OneAnswer as entries
 use Rattle.private.proofs.OneAnswer as private
 use Rattle.scrub.proofs.OneAnswer as scrub
-use Rattle.tick_map.proofs.OneAnswer as map
+use Rattle.tick_map.proofs.OneAnswer as tick_map
 use Rattle.ledger.proofs.OneAnswer as ledger
 use Rattle.record.proofs.OneAnswer as «record»
-use Rattle.listing_text.proofs.OneAnswer as report
-use Rattle.frame_view.proofs.OneAnswer as view
-use Rattle.reading.proofs.OneAnswer as seen
-use Rattle.walk_step.proofs.OneAnswer as offers
-use Rattle.walk_step.proofs.OneAnswer as table
+use Rattle.listing_text.proofs.OneAnswer as listing_text
+use Rattle.frame_view.proofs.OneAnswer as frame_view
+use Rattle.reading.proofs.OneAnswer as reading
+use Rattle.walk_step.proofs.OneAnswer as walk_step
 use Rattle.walk.proofs.OneAnswer as walk
-use Rattle.stream_spec.proofs.OneAnswer as flow
+use Rattle.stream_spec.proofs.OneAnswer as stream_spec
 use Rattle.stream.proofs.OneAnswer as stream
-use Rattle.listing_text.proofs.OneAnswer as lines
 use Rattle.clean.proofs.OneAnswer as clean
-use Rattle.host_words.proofs.OneAnswer as words
-use Rattle.host_frames.proofs.OneAnswer as host
+use Rattle.host_words.proofs.OneAnswer as host_words
+use Rattle.host_frames.proofs.OneAnswer as host_frames
 use Rattle.host_ledger.proofs.OneAnswer as host_ledger
 use Rattle.host_captures.proofs.OneAnswer as host_captures
-use Rattle.host_stream.proofs.OneAnswer as follow
+use Rattle.host_stream.proofs.OneAnswer as host_stream
 use Rattle.host_step.proofs.OneAnswer as host_step
 use Rattle.market.proofs.OneAnswer as market
 use Rattle.market_columns.proofs.OneAnswer as market_columns
@@ -150,9 +147,9 @@ rules-answers =
 -- fields
 fields-answers : Named
 fields-answers =
-    let judge-one-answer = fields.judge-one-answer in
-    let fields-ok-one-answer = fields.fields-ok-one-answer in
-    let entry-size-one-answer = fields.entry-size-one-answer in
+    let judge-one-answer = rules.judge-one-answer in
+    let fields-ok-one-answer = rules.fields-ok-one-answer in
+    let entry-size-one-answer = rules.entry-size-one-answer in
     named
 
 -- frame
@@ -190,17 +187,17 @@ scrub-answers =
 -- map
 map-answers : Named
 map-answers =
-    let Map-new-one-answer = map.Map-new-one-answer in
-    let Map-held-one-answer = map.Map-held-one-answer in
-    let Map-holds-one-answer = map.Map-holds-one-answer in
-    let Map-with-one-answer = map.Map-with-one-answer in
-    let Map-empty-one-answer = map.Map-empty-one-answer in
-    let Map-first-from-one-answer = map.Map-first-from-one-answer in
-    let Map-run-from-one-answer = map.Map-run-from-one-answer in
-    let Map-held-from-one-answer = map.Map-held-from-one-answer in
-    let Map-cleared-one-answer = map.Map-cleared-one-answer in
-    let Map-only-one-answer = map.Map-only-one-answer in
-    let Map-lacking-one-answer = map.Map-lacking-one-answer in
+    let Map-new-one-answer = tick_map.Map-new-one-answer in
+    let Map-held-one-answer = tick_map.Map-held-one-answer in
+    let Map-holds-one-answer = tick_map.Map-holds-one-answer in
+    let Map-with-one-answer = tick_map.Map-with-one-answer in
+    let Map-empty-one-answer = tick_map.Map-empty-one-answer in
+    let Map-first-from-one-answer = tick_map.Map-first-from-one-answer in
+    let Map-run-from-one-answer = tick_map.Map-run-from-one-answer in
+    let Map-held-from-one-answer = tick_map.Map-held-from-one-answer in
+    let Map-cleared-one-answer = tick_map.Map-cleared-one-answer in
+    let Map-only-one-answer = tick_map.Map-only-one-answer in
+    let Map-lacking-one-answer = tick_map.Map-lacking-one-answer in
     named
 
 -- ledger
@@ -225,33 +222,33 @@ record-answers =
 -- report
 report-answers : Named
 report-answers =
-    let put-line-one-answer = report.put-line-one-answer in
-    let put-summary-one-answer = report.put-summary-one-answer in
+    let put-line-one-answer = listing_text.put-line-one-answer in
+    let put-summary-one-answer = listing_text.put-summary-one-answer in
     named
 
 -- view
 view-answers : Named
 view-answers =
-    let view-of-one-answer = view.view-of-one-answer in
+    let view-of-one-answer = frame_view.view-of-one-answer in
     named
 
 -- seen
 seen-answers : Named
 seen-answers =
-    let see-one-answer = seen.see-one-answer in
+    let see-one-answer = reading.see-one-answer in
     named
 
 -- offers
 offers-answers : Named
 offers-answers =
-    let offer-one-answer = offers.offer-one-answer in
+    let offer-one-answer = walk_step.offer-one-answer in
     named
 
 -- table
 table-answers : Named
 table-answers =
-    let made-one-answer = table.made-one-answer in
-    let note-one-answer = table.note-one-answer in
+    let made-one-answer = walk_step.made-one-answer in
+    let note-one-answer = walk_step.note-one-answer in
     named
 
 -- walk
@@ -263,7 +260,7 @@ walk-answers =
 -- flow
 flow-answers : Named
 flow-answers =
-    let Stream-opened-one-answer = flow.Stream-opened-one-answer in
+    let Stream-opened-one-answer = stream_spec.Stream-opened-one-answer in
     named
 
 -- stream
@@ -276,7 +273,7 @@ stream-answers =
 -- lines
 lines-answers : Named
 lines-answers =
-    let put-listing-one-answer = lines.put-listing-one-answer in
+    let put-listing-one-answer = listing_text.put-listing-one-answer in
     named
 
 -- clean
@@ -289,22 +286,22 @@ clean-answers =
 -- words
 words-answers : Named
 words-answers =
-    let ledger-in-one-answer = words.ledger-in-one-answer in
-    let state-of-one-answer = words.state-of-one-answer in
-    let first-asked-one-answer = words.first-asked-one-answer in
-    let last-asked-one-answer = words.last-asked-one-answer in
+    let ledger-in-one-answer = host_words.ledger-in-one-answer in
+    let state-of-one-answer = host_words.state-of-one-answer in
+    let first-asked-one-answer = host_words.first-asked-one-answer in
+    let last-asked-one-answer = host_words.last-asked-one-answer in
     named
 
 -- host
 host-answers : Named
 host-answers =
-    let rk-read-one-answer = host.rk-read-one-answer in
-    let rk-write-one-answer = host.rk-write-one-answer in
-    let rk-search-one-answer = host.rk-search-one-answer in
-    let rk-scrub-one-answer = host.rk-scrub-one-answer in
-    let rk-private-one-answer = host.rk-private-one-answer in
-    let rk-entries-one-answer = host.rk-entries-one-answer in
-    let rk-entry-one-answer = host.rk-entry-one-answer in
+    let rk-read-one-answer = host_frames.rk-read-one-answer in
+    let rk-write-one-answer = host_frames.rk-write-one-answer in
+    let rk-search-one-answer = host_frames.rk-search-one-answer in
+    let rk-scrub-one-answer = host_frames.rk-scrub-one-answer in
+    let rk-private-one-answer = host_frames.rk-private-one-answer in
+    let rk-entries-one-answer = host_frames.rk-entries-one-answer in
+    let rk-entry-one-answer = host_frames.rk-entry-one-answer in
     named
 
 -- host_ledger
@@ -330,9 +327,9 @@ host-captures-answers =
 -- follow
 follow-answers : Named
 follow-answers =
-    let rk-stream-open-one-answer = follow.rk-stream-open-one-answer in
-    let rk-stream-feed-one-answer = follow.rk-stream-feed-one-answer in
-    let rk-stream-close-one-answer = follow.rk-stream-close-one-answer in
+    let rk-stream-open-one-answer = host_stream.rk-stream-open-one-answer in
+    let rk-stream-feed-one-answer = host_stream.rk-stream-feed-one-answer in
+    let rk-stream-close-one-answer = host_stream.rk-stream-close-one-answer in
     named
 
 -- digits
@@ -537,15 +534,15 @@ record-buffers =
 
 report-buffers : Named
 report-buffers =
-    let put-line-one-buffer = report.put-line-one-buffer in
-    let put-line-refused-keeps = report.put-line-refused-keeps in
-    let put-summary-one-buffer = report.put-summary-one-buffer in
-    let put-summary-refused-keeps = report.put-summary-refused-keeps in
+    let put-line-one-buffer = listing_text.put-line-one-buffer in
+    let put-line-refused-keeps = listing_text.put-line-refused-keeps in
+    let put-summary-one-buffer = listing_text.put-summary-one-buffer in
+    let put-summary-refused-keeps = listing_text.put-summary-refused-keeps in
     named
 
 table-buffers : Named
 table-buffers =
-    let note-one-buffer = table.note-one-buffer in
+    let note-one-buffer = walk_step.note-one-buffer in
     named
 
 walk-buffers : Named
@@ -564,8 +561,8 @@ stream-buffers =
 
 lines-buffers : Named
 lines-buffers =
-    let put-listing-one-buffer = lines.put-listing-one-buffer in
-    let put-listing-refused-keeps = lines.put-listing-refused-keeps in
+    let put-listing-one-buffer = listing_text.put-listing-one-buffer in
+    let put-listing-refused-keeps = listing_text.put-listing-refused-keeps in
     named
 
 clean-buffers : Named
@@ -577,20 +574,20 @@ clean-buffers =
 -- of all that a function of host, host_ledger and host_captures is lent: told row, words and buffer
 host-buffers : Named
 host-buffers =
-    let rk-read-one-buffer = host.rk-read-one-buffer in
-    let rk-read-refused-keeps = host.rk-read-refused-keeps in
-    let rk-write-one-buffer = host.rk-write-one-buffer in
-    let rk-write-refused-keeps = host.rk-write-refused-keeps in
-    let rk-search-one-buffer = host.rk-search-one-buffer in
-    let rk-search-refused-keeps = host.rk-search-refused-keeps in
-    let rk-scrub-one-buffer = host.rk-scrub-one-buffer in
-    let rk-scrub-refused-keeps = host.rk-scrub-refused-keeps in
-    let rk-private-one-buffer = host.rk-private-one-buffer in
-    let rk-private-refused-keeps = host.rk-private-refused-keeps in
-    let rk-entries-one-buffer = host.rk-entries-one-buffer in
-    let rk-entries-refused-keeps = host.rk-entries-refused-keeps in
-    let rk-entry-one-buffer = host.rk-entry-one-buffer in
-    let rk-entry-refused-keeps = host.rk-entry-refused-keeps in
+    let rk-read-one-buffer = host_frames.rk-read-one-buffer in
+    let rk-read-refused-keeps = host_frames.rk-read-refused-keeps in
+    let rk-write-one-buffer = host_frames.rk-write-one-buffer in
+    let rk-write-refused-keeps = host_frames.rk-write-refused-keeps in
+    let rk-search-one-buffer = host_frames.rk-search-one-buffer in
+    let rk-search-refused-keeps = host_frames.rk-search-refused-keeps in
+    let rk-scrub-one-buffer = host_frames.rk-scrub-one-buffer in
+    let rk-scrub-refused-keeps = host_frames.rk-scrub-refused-keeps in
+    let rk-private-one-buffer = host_frames.rk-private-one-buffer in
+    let rk-private-refused-keeps = host_frames.rk-private-refused-keeps in
+    let rk-entries-one-buffer = host_frames.rk-entries-one-buffer in
+    let rk-entries-refused-keeps = host_frames.rk-entries-refused-keeps in
+    let rk-entry-one-buffer = host_frames.rk-entry-one-buffer in
+    let rk-entry-refused-keeps = host_frames.rk-entry-refused-keeps in
     named
 
 host-ledger-buffers : Named
@@ -623,12 +620,12 @@ host-captures-buffers =
 
 follow-buffers : Named
 follow-buffers =
-    let rk-stream-open-one-buffer = follow.rk-stream-open-one-buffer in
-    let rk-stream-open-refused-keeps = follow.rk-stream-open-refused-keeps in
-    let rk-stream-feed-one-buffer = follow.rk-stream-feed-one-buffer in
-    let rk-stream-feed-refused-keeps = follow.rk-stream-feed-refused-keeps in
-    let rk-stream-close-one-buffer = follow.rk-stream-close-one-buffer in
-    let rk-stream-close-refused-keeps = follow.rk-stream-close-refused-keeps in
+    let rk-stream-open-one-buffer = host_stream.rk-stream-open-one-buffer in
+    let rk-stream-open-refused-keeps = host_stream.rk-stream-open-refused-keeps in
+    let rk-stream-feed-one-buffer = host_stream.rk-stream-feed-one-buffer in
+    let rk-stream-feed-refused-keeps = host_stream.rk-stream-feed-refused-keeps in
+    let rk-stream-close-one-buffer = host_stream.rk-stream-close-one-buffer in
+    let rk-stream-close-refused-keeps = host_stream.rk-stream-close-refused-keeps in
     named
 
 -- host_step

@@ -7,6 +7,7 @@ pub mod RealTimes
 pub mod Demand3
 pub mod Cuttings
 pub mod Marked
+pub mod NamedWrong
 pub mod Parts
 pub mod Pieces
 pub mod SameMap

@@ -5,20 +5,21 @@ use mathlib.Core.Path.{_≡_}
 use mathlib.Core.Logic.{_⊎_}
 use mathlib.Core.List.{List}
 use lib.ListN.{length}
+use Rattle.terms.specs.Letters.{spelled}
 use Rattle.rules.specs.Widths.{field, entryField, fixed}
 use Rattle.rules.specs.declared.Kind.{Kind}
 use Rattle.rules.specs.declared.Kind.the-variants.{S001, S002, S003, P001, P002, M101, M102, M201, Unknown}
 
 -- MsgType, four letters as one number
 abbrev pub TypeRule : Kind → ℕ → Type 0
-TypeRule S001 t = t ≡ 0x53303031
-TypeRule S002 t = t ≡ 0x53303032
-TypeRule S003 t = t ≡ 0x53303033
-TypeRule P001 t = t ≡ 0x50303031
-TypeRule P002 t = t ≡ 0x50303032
-TypeRule M101 t = t ≡ 0x4D313031
-TypeRule M102 t = t ≡ 0x4D313032
-TypeRule M201 t = t ≡ 0x4D323031
+TypeRule S001 t = t ≡ spelled "S001"
+TypeRule S002 t = t ≡ spelled "S002"
+TypeRule S003 t = t ≡ spelled "S003"
+TypeRule P001 t = t ≡ spelled "P001"
+TypeRule P002 t = t ≡ spelled "P002"
+TypeRule M101 t = t ≡ spelled "M101"
+TypeRule M102 t = t ≡ spelled "M102"
+TypeRule M201 t = t ≡ spelled "M201"
 TypeRule Unknown t = ⊥
 
 -- Length
@@ -46,7 +47,7 @@ pub record P001Rules (b : List ℕ) : Type 0 where
   pub security-type : field P001 0 b ≡ 13
   pub channel-no : field P001 1 b < 10 ^ 4
   pub appl-last-seq-num : field P001 2 b < 10 ^ 18
-  pub end-of-channel : (field P001 3 b ≡ 0x59) ⊎ (field P001 3 b ≡ 0x4E)
+  pub end-of-channel : (field P001 3 b ≡ spelled "Y") ⊎ (field P001 3 b ≡ spelled "N")
 
 -- "P002: ResendType 1, ApplBegSeqNum above 0, ResendStatus 0 (a request), 1 to 5 or 99.
 -- In a request ApplEndSeqNum is 0 or not below ApplBegSeqNum." ChannelNO 4 digits; both resend numbers at most 18.
@@ -62,24 +63,24 @@ pub record P002Rules (b : List ℕ) : Type 0 where
 -- "SecurityType and stream pair as 1 with MD001 to MD004, 2 with MD301, 3 with MD101 or MD102, 12 with MD201,
 -- 13 with MD210, 14 with MDE01." A stream is its five letters as one number.
 pub data Pair (t s : ℕ) : Type 0 where
-  pair-1 : t ≡ 1 → 0x4D44303031 ≤ s → s ≤ 0x4D44303034 → Pair t s
-  pair-2 : t ≡ 2 → s ≡ 0x4D44333031 → Pair t s
-  pair-3-MD101 : t ≡ 3 → s ≡ 0x4D44313031 → Pair t s
-  pair-3-MD102 : t ≡ 3 → s ≡ 0x4D44313032 → Pair t s
-  pair-12 : t ≡ 12 → s ≡ 0x4D44323031 → Pair t s
-  pair-13 : t ≡ 13 → s ≡ 0x4D44323130 → Pair t s
-  pair-14 : t ≡ 14 → s ≡ 0x4D44453031 → Pair t s
+  pair-1 : t ≡ 1 → spelled "MD001" ≤ s → s ≤ spelled "MD004" → Pair t s
+  pair-2 : t ≡ 2 → s ≡ spelled "MD301" → Pair t s
+  pair-3-MD101 : t ≡ 3 → s ≡ spelled "MD101" → Pair t s
+  pair-3-MD102 : t ≡ 3 → s ≡ spelled "MD102" → Pair t s
+  pair-12 : t ≡ 12 → s ≡ spelled "MD201" → Pair t s
+  pair-13 : t ≡ 13 → s ≡ spelled "MD210" → Pair t s
+  pair-14 : t ≡ 14 → s ≡ spelled "MDE01" → Pair t s
 
 -- "An M102 entry is type 2, price 8 for stream MD001 (10 bytes), else type 2, price 8, size 8, position 1 (19 bytes)."
 -- Entry price 13 digits, entry size 12, position 2. "Entry types are not judged."
 pub data EntrySize (s w : ℕ) : Type 0 where
-  short : s ≡ 0x4D44303031 → w ≡ 10 → EntrySize s w
-  long : (s ≡ 0x4D44303031 → ⊥) → w ≡ 19 → EntrySize s w
+  short : s ≡ spelled "MD001" → w ≡ 10 → EntrySize s w
+  long : (s ≡ spelled "MD001" → ⊥) → w ≡ 19 → EntrySize s w
 
 pub record EntryRules (s at : ℕ) (b : List ℕ) : Type 0 where
   pub price : entryField 1 at b < 10 ^ 13
-  pub size : (s ≡ 0x4D44303031 → ⊥) → entryField 2 at b < 10 ^ 12
-  pub position : (s ≡ 0x4D44303031 → ⊥) → entryField 3 at b < 10 ^ 2
+  pub size : (s ≡ spelled "MD001" → ⊥) → entryField 2 at b < 10 ^ 12
+  pub position : (s ≡ spelled "MD001" → ⊥) → entryField 3 at b < 10 ^ 2
 
 -- "M102: TradSesMode 1 to 3; [..] The body is 73 bytes plus NoMDEntries whole entries."
 -- TradeDate 8 digits, LastUpdateTime 9, PreClosePx 13, the three totals 16. `w` is the size of an entry.
@@ -105,7 +106,7 @@ pub record M201Rules (b : List ℕ) : Type 0 where
   pub appl-seq-num : 0 < field M201 2 b
   pub appl-seq-digits : field M201 2 b < 10 ^ 18
   pub transact-time : field M201 5 b < 10 ^ 9
-  pub exec-type : ((field M201 6 b ≡ 0x30) ⊎ (field M201 6 b ≡ 0x34)) ⊎ (field M201 6 b ≡ 0x46)
+  pub exec-type : ((field M201 6 b ≡ spelled "0") ⊎ (field M201 6 b ≡ spelled "4")) ⊎ (field M201 6 b ≡ spelled "F")
   pub price : field M201 7 b < 10 ^ 13
   pub order-qty : field M201 8 b < 10 ^ 15
 

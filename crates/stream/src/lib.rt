@@ -12,12 +12,12 @@ ghost use Rattle.stream_spec.specs.Run.{waitsAt, passedOver, strideOf, accounte
 ghost use Rattle.stream_spec.specs.Calls.{Feed, Close, givenOf, answerFor, nextFor, leavesFor, answerTo, nextOf, leaves, fedPaper, refusedBy};
 ghost use Rattle.stream.specs.Pieces.{Piece};
 ghost use Rattle.stream.specs.Pushed.{pushedOf};
-use stream_spec::Fed;
-use stream_spec::Stream;
-use stream_spec::Tally;
 use ledger::Answer;
 use ledger::Ledger;
 use reading::Seen;
+use stream_spec::Fed;
+use stream_spec::Stream;
+use stream_spec::Tally;
 use terms::Refusal;
 use terms::Verdict;
 

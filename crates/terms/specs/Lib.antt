@@ -2,6 +2,7 @@ pub mod Paper
 pub mod Cases
 pub mod Checks
 pub mod Says
+pub mod Letters
 pub mod Counters
 pub mod Refusals
 pub mod Verdicts
