@@ -11,7 +11,7 @@ use Rattle.octets.specs.Octets.{numeral, digitsOf, sum8, sumOf}
 use Rattle.calendar.specs.Calendar.{leap, daysIn, realParts, realTime}
 use Rattle.rules.specs.Table.{kindOf, suits, measureOf}
 use Rattle.rules.specs.Fields.{p001Ok, fieldsOk, judgeOf}
-use Rattle.rules.specs.Bodies.{logonBody, resendBody, tickBody}
+use Rattle.rules.specs.Bodies.{logonBody, resendBody, tickOn, tickBody, orderTail}
 use Rattle.frame_spec.specs.Frame.{bodyLength, checked, readOf}
 use Rattle.frame_spec.specs.Write.{message, frameOf}
 
@@ -101,3 +101,10 @@ resend status text = framed 0x50303032 (resendBody 3 5 status text)
 
 abbrev pub tick : List ℕ → List ℕ
 tick tail = framed 0x4D323031 (tickBody tail)
+
+-- M201 of a stream and ExecType; of MD211 and 0 with the fields of an order
+abbrev pub tickOf : ℕ → ℕ → List ℕ → List ℕ
+tickOf stream exec tail = framed 0x4D323031 (tickOn stream exec tail)
+
+abbrev pub order : ℕ → ℕ → ℕ → ℕ → ℕ → List ℕ
+order side quote member trader investor = tickOf 0x4D44323131 0x30 (orderTail side quote member trader investor)

@@ -19,7 +19,7 @@ use Rattle.rules.specs.declared.Kind.{Kind}
 use Rattle.rules.specs.declared.Kind.the-variants.{S001, S002, S003, P001, P002, M101, M102, M201, Unknown}
 use Rattle.rules.specs.Rules.{short, long}
 use Rattle.rules.specs.Meaning.{size-one}
-use Rattle.rules.specs.Table.{kindOf, suits}
+use Rattle.rules.specs.Table.{kindOf, suits, measureOf}
 use Rattle.frame_spec.specs.Frame.{bodyLength, body, readOf}
 use Rattle.frame_spec.specs.GivenRead.{read-given}
 use Rattle.frame_spec.specs.GivenWrite.{write-given}
@@ -38,6 +38,7 @@ use Rattle.entries.specs.Places.{stands-says}
 use Rattle.entries.specs.Reader.{stepOf}
 use Rattle.private.specs.Laws.{scrub-number, answer-refused}
 use Rattle.private.specs.Private.{privateOf, spanAt}
+use Rattle.private.specs.Cover.{Covers, spans-cover}
 use Rattle.private.specs.Scrub.{scrubAnswer}
 use Rattle.walk_spec.specs.Literal.{typeIn}
 use Rattle.host_words.specs.Told.{toldBy, Tells, seen}
@@ -214,11 +215,20 @@ rk-search-finds κs a x s p = host-found (now (a .0)) (a .1 .0) p
 
 -- ======== Private spans, and entries
 
--- place, length and filling byte of span number i
+-- 0 exactly where reading's checks of type and length pass, and then place, length and filling byte of span number i; else the number of the check
 pub rk-private-span : (κs : Lfts 2) (a : Dens κs private-kinds.ps) (x : resT private-kinds.r κs .Denot) (s : AtExit (endedOf 2 private-kinds.ps private-kinds.r) κs) → private.Post κs a x s
-    → let span = spanAt (a .1 .1 .0) (privateOf (kindOf (a .0)) (now (a .1 .0))) in (x ≡ 0) × (now (s .1 .1 .1 .0) ≡ span .place ∷ span .len ∷ span .fill ∷ [])
+    → let span = spanAt (a .1 .1 .0) (privateOf (kindOf (a .0)) (now (a .1 .0))) in
+    (x ≡ measureOf (kindOf (a .0)) (length (now (a .1 .0)))) × (x ≡ 0 → now (s .1 .1 .1 .0) ≡ span .place ∷ span .len ∷ span .fill ∷ [])
 unfolding privateTold toldBy
-rk-private-span κs a x s p = (p .answered, p .told)
+rk-private-span κs a x s p = (p .answered, λ (z : x ≡ 0). p .told ∙ rw (sym (p .answered) ∙ z))
+
+-- so each span that is told lies within the body
+pub rk-private-within : (κs : Lfts 2) (a : Dens κs private-kinds.ps) (x : resT private-kinds.r κs .Denot) (s : AtExit (endedOf 2 private-kinds.ps private-kinds.r) κs) → private.Post κs a x s
+    → x ≡ 0 → Covers (kindOf (a .0)) (now (a .1 .0)) × (getD (now (s .1 .1 .1 .0)) 0 0 + getD (now (s .1 .1 .1 .0)) 1 0 ≤ length (now (a .1 .0)))
+rk-private-within κs a x s p z =
+    let r = rk-private-span κs a x s p in
+    let covers = spans-cover (kindOf (a .0)) (now (a .1 .0)) (fits _ _ (sym (r .0) ∙ z) .suit) in
+    (covers, rw (r .1 z) (covers .within (a .1 .1 .0)))
 
 pub rk-entries-opens : (κs : Lfts 2) (a : Dens κs entries-kinds.ps) (x : resT entries-kinds.r κs .Denot) (s : AtExit (endedOf 2 entries-kinds.ps entries-kinds.r) κs) → entries.Post κs a x s
     → HostOpened (now (a .0)) x (now (s .1 .0))

@@ -1,4 +1,4 @@
--- rk_private never refuses, and nothing private is told by rk_read: from the promises that the checker makes of the `ensures`. Assumes nothing.
+-- Nothing private is told by rk_read: from the promises that the checker makes of the `ensures`. Assumes nothing.
 use mathlib.Core.Path.{_≡_, sym, ap, _∙_}
 use contract.Lifetimes.{Lfts}
 use borrow.Fn.Kinds.{Dens, endedOf, resT}
@@ -8,18 +8,10 @@ use lib.ListN.{drop}
 use Rattle.terms.specs.Paper.{Paper}
 use Rattle.private.specs.Laws.{Alike}
 use Rattle.host_words.specs.Told.{toldBy}
-use Rattle.host_frames.specs.Frames.{readTold, privateTold}
+use Rattle.host_frames.specs.Frames.{readTold}
 use Rattle.host_frames.specs.Private.{told-alike}
 use Rattle.host_frames.proofs.rk_read.Reads as read
 use Rattle.host_frames.proofs.rk_read.Kinds as read-kinds
-use Rattle.host_frames.proofs.rk_private.Reads as private
-use Rattle.host_frames.proofs.rk_private.Kinds as private-kinds
-
--- ======== A function that never refuses: it answers 0 to all input
-
-pub rk-private-answers-0 : (κs : Lfts 2) (a : Dens κs private-kinds.ps) (x : resT private-kinds.r κs .Denot) (s : AtExit (endedOf 2 private-kinds.ps private-kinds.r) κs) → private.Post κs a x s → x ≡ 0
-unfolding privateTold
-rk-private-answers-0 κs a x s p = p .answered
 
 -- ======== Nothing private is told: of frames that agree in all but private fields and CheckSum, rk_read tells the same
 

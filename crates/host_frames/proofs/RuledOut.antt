@@ -10,14 +10,15 @@ use Rattle.terms.specs.RuledOut.{Row, _never_, _only_, Kept, RulesOut, ruled, n
 use Rattle.octets.specs.Octets.{numeral, digitsOf, laid, sum8, sumOf}
 use Rattle.calendar.specs.Calendar.{leap, daysIn, realParts, realTime}
 use Rattle.rules.specs.Table.{kindOf, suits, measureOf}
-use Rattle.rules.specs.Fields.{p001Ok, p002Ok, m102ValuesOk, entrySize, entryOk, entriesOk, m102Ok, fieldsOk, judgeOf}
-use Rattle.rules.specs.Bodies.{resendBody, snapshotBody}
+use Rattle.rules.specs.Fields.{layoutOf, suitsTail, tailOk, p001Ok, p002Ok, m102ValuesOk, entrySize, entryOk, entriesOk, m102Ok, fieldsOk, judgeOf}
+use Rattle.rules.specs.Bodies.{resendBody, snapshotBody, tickOn}
 use Rattle.frame_spec.specs.Frame.{checked, readOf, bodyRead}
 use Rattle.frame_spec.specs.Write.{Message, message, plainOf, frameOf, writeOf, leftOf}
 use Rattle.frame_spec.specs.Search.{firstOf, searchOf}
 use Rattle.frame_spec.specs.Examples.{startOfA, frameA, frameB, A, resend}
 use Rattle.frame_view.specs.View.{viewOf}
 use Rattle.entries.specs.Reader.{openOf, placed, stands, entryAt, stepOf, placeAfter}
+use Rattle.private.specs.Private.{tailOf}
 use Rattle.private.specs.Scrub.{painted, summed, scrubAnswer, scrubbed}
 use Rattle.host_words.specs.Told.{toldBy, Tells}
 use Rattle.host_frames.specs.Frames.{readTold, searchTold, privateTold, entriesTold, entryNumbers, entryTold}
@@ -82,10 +83,13 @@ rk-private-wrong =
     ∷ (0x50303032, (resendBody 3 5 1 0x41, (0, 7 ∷ 7 ∷ 7 ∷ []))) never told 0 (32 ∷ 20 ∷ 0x20 ∷ [])  -- place and length swapped
     ∷ (0x4D323031, (replicate 50 0, (0, 7 ∷ 7 ∷ 7 ∷ []))) never told 0 (45 ∷ 4 ∷ 0x20 ∷ [])  -- the last byte of a tail missed
     ∷ (0x4D323031, (replicate 50 0, (0, 7 ∷ 7 ∷ 7 ∷ []))) only told 0 (45 ∷ 5 ∷ 0x20 ∷ [])
+    ∷ (0x4D323031, (tickOn 0x4D44323131 0x30 (replicate 139 0x41), (1, 7 ∷ 7 ∷ 7 ∷ []))) only told 0 (76 ∷ 12 ∷ 0x20 ∷ [])  -- TraderCode of an order
+    ∷ (0x53303031, (replicate 10 0, (1, 7 ∷ 7 ∷ 7 ∷ []))) only told 4 (7 ∷ 7 ∷ 7 ∷ [])  -- a span that lies outside the body
+    ∷ (0x58393939, ([], (0, 7 ∷ 7 ∷ 7 ∷ []))) only told 2 (7 ∷ 7 ∷ 7 ∷ [])  -- a type of no table said to have nothing private
     ∷ []
 
 pub rk-private-rules-out : RulesOut (Kept _ rk-private-kinds.ps rk-private-kinds.r rk-private.Post) (λ c. (c .args .0, (now (c .args .1 .0), (c .args .1 .1 .0, now (c .args .1 .1 .1 .0))))) (λ c. told (c .result) (now (c .exit .1 .1 .1 .0))) rk-private-wrong
-unfolding kindOf toldBy privateTold
+unfolding numeral digitsOf kindOf suits measureOf layoutOf suitsTail tailOk tailOf toldBy privateTold
 rk-private-rules-out = ruled (beside numbers lists) (λ (i : ℕ × (List ℕ × (ℕ × List ℕ))). tells (privateTold (i .0) (i .1 .0) (i .1 .1 .0)) (i .1 .1 .1)) (λ c p. said p) _ refl
 
 -- ENTRIES: a snapshot of stream MD001 with this SecurityType, and two entries of 10 bytes, of types 5 and 6 and prices 7 and 8

@@ -5,7 +5,7 @@ use mathlib.Core.List.{List, [], _∷_, _++_}
 use lib.Dec.{eqb}
 use lib.ListN.{length}
 use Rattle.terms.specs.Paper.{Paper, answer, pick}
-use Rattle.rules.specs.Table.{kindOf}
+use Rattle.rules.specs.Table.{kindOf, measureOf}
 use Rattle.frame_spec.specs.Frame.{msgType, readOf, bodyRead}
 use Rattle.frame_spec.specs.Search.{searchOf}
 use Rattle.frame_view.specs.declared.View.{View}
@@ -33,8 +33,9 @@ searchTold s from = retold perhaps (searchOf s from)
 abbrev pub spanNumbers : Span → List ℕ
 spanNumbers p = p .place ∷ p .len ∷ p .fill ∷ []
 
+-- reading's checks 2, 3 and 4 of the type and the length
 unfoldable pub privateTold : ℕ → List ℕ → ℕ → Paper
-privateTold type body i = answer 0 (spanNumbers (spanAt i (privateOf (kindOf type) body)))
+privateTold type body i = answer (measureOf (kindOf type) (length body)) (spanNumbers (spanAt i (privateOf (kindOf type) body)))
 
 -- the first entry stands at 73
 unfoldable pub entriesTold : List ℕ → Paper

@@ -112,15 +112,21 @@ pub extern "C" fn rk_scrub(frame: &mut [u8], told: &mut u64) -> u32
     told_bytes(scrubbed, told)
 }
 
-// Private span number i of a body of that type, counted from 0. Told: where it starts in the body, how many bytes it has, and
-// the byte that replaces each; from the last on, an empty one.
+// Private span number i of a body of that type, counted from 0; or 2, 3, 4 where no frame of that type has such a body. Told: where
+// it starts in the body, how many bytes it has, and the byte that replaces each; from the last on, an empty one.
 #[no_mangle]
 pub extern "C" fn rk_private(msg_type: u32, body: &[u8], i: usize, told: &mut [u64; 3]) -> u32
     ensures { λ r. ⌜ Tells (privateTold «msg_type» (now (body .entry)) i) (now (told .entry)) r (now (told .exit)) ⌝ }
 {
-    let s = private::private_span(rules::kind_of(msg_type), body, i);
-    *told = [s.place as u64, s.len as u64, s.fill as u64];
-    0
+    let kind = rules::kind_of(msg_type);
+    match rules::measure(kind, body.len()) {
+        Verdict::Refused(why) => why.number(),
+        Verdict::Fine => {
+            let s = private::private_span(kind, body, i);
+            *told = [s.place as u64, s.len as u64, s.fill as u64];
+            0
+        }
+    }
 }
 
 // Whether an M102 body may be walked. Told: the place of its first entry.

@@ -239,7 +239,7 @@ module _ (s : List ℕ) (z : readOf s .number ≡ 0) where
   same-clean =
       ap (λ (ps : List Span). painted ps (body (scrubbed s))) same-spans
       ∙ ap (painted (spansOf s)) same-body
-      ∙ sym (painted-same 0x20 (spansOf s) (body s) (cleanBody s) spans-within (private-filled (kindOf (msgType s)) (body s)) agrees)
+      ∙ sym (painted-same (spansOf s) (body s) (cleanBody s) spans-within agrees)
       ∙ sym same-body
 
   -- scrubbing again changes nothing
@@ -279,7 +279,7 @@ module _ (s t : List ℕ) (a : Alike s t) where
 
   alike-body : readOf s .number ≡ 0 → cleanBody s ≡ cleanBody t
   alike-body z =
-      painted-same 0x20 (spansOf s) (body s) (body t) (spans-within s z) (private-filled (kindOf (msgType s)) (body s)) (a .bodies)
+      painted-same (spansOf s) (body s) (body t) (spans-within s z) (a .bodies)
       ∙ ap (λ (ps : List Span). painted ps (body t)) alike-spans
 
 -- two buffers whose frames read and are alike scrub to the same frame bytes

@@ -3,6 +3,7 @@ pub mod Scrub
 pub mod Within
 pub mod Paint
 pub mod PrivateLaws
+pub mod Cover
 pub mod Spans
 pub mod Laws
 pub mod Into

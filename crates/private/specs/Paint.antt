@@ -154,12 +154,20 @@ clear-outside (p ∷ ps) at w i c l h =
 pub number-same : (ps : List Span) (a b : List ℕ) → Agree ps a b → (w at : ℕ) → Clear ps at w → numeral 256 w at a ≡ numeral 256 w at b
 number-same ps a b g w at c = numeral-same 256 w at a b (λ i l. g .outside (at + i) (clear-outside ps at w i c l))
 
--- lists that agree outside the spans are painted alike
-pub painted-same : (f : ℕ) (ps : List Span) (a b : List ℕ) → Within (length a) ps → Filled f ps → Agree ps a b → painted ps a ≡ painted ps b
-painted-same f ps a b w g e =
-    let v : Within (length b) ps = rw (← e .long) w in
-    ext-getD 0 (painted ps a) (painted ps b) (length-painted ps a w ∙ e .long ∙ sym (length-painted ps b v))
-    (λ i l.
-    ⊎-elim (λ (h : Inside ps i). painted-inside f ps a w g i h ∙ sym (painted-inside f ps b v g i h))
-    (λ (n : Inside ps i → ⊥). painted-outside ps a w i n ∙ e .outside i n ∙ sym (painted-outside ps b v i n))
-    (inside-or-not ps i))
+-- what agrees outside a span and the others agrees outside the others once that span is painted in both
+over-agrees : (p : Span) (ps : List Span) (a b : List ℕ) → p .place + p .len ≤ length a → p .place + p .len ≤ length b → Agree (p ∷ ps) a b → Agree ps (over p a) (over p b)
+over-agrees p ps a b l k e =
+    record {
+      long = length-over p a l ∙ e .long ∙ sym (length-over p b k);
+      outside = λ i out.
+          ⊎-elim (λ (h : (p .place ≤ i) × (i < p .place + p .len)). over-inside p a l i (h .0) (h .1) ∙ sym (over-inside p b k i (h .0) (h .1)))
+          (λ (n : (p .place ≤ i) × (i < p .place + p .len) → ⊥). over-outside p a l i n ∙ e .outside i (λ (h : Inside (p ∷ ps) i). ⊎-elim n out h) ∙ sym (over-outside p b k i n))
+          (in-or-out p i);
+    }
+
+-- lists that agree outside the spans are painted alike, whatever the fills
+pub painted-same : (ps : List Span) (a b : List ℕ) → Within (length a) ps → Agree ps a b → painted ps a ≡ painted ps b
+unfolding painted
+painted-same [] a b w e = ext-getD 0 a b (e .long) (λ i l. e .outside i (λ h. h))
+painted-same (p ∷ ps) a b w e =
+    painted-same ps (over p a) (over p b) (rw (length-over p a (w .0)) (w .1)) (over-agrees p ps a b (w .0) (rw (← e .long) (w .0)) e)

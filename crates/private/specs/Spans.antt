@@ -1,5 +1,5 @@
 -- Span number i of short rows, and all spans painted within a buffer.
-use Prim.Native.Nat.{ℕ, _+_, _≤_}
+use Prim.Native.Nat.{ℕ, zero, suc, _+_, _-_, _≤_}
 use mathlib.Core.Path.{_≡_, sym, ap, _∙_}
 use mathlib.Core.Bool.{true}
 use mathlib.Core.List.{List, _∷_}
@@ -25,6 +25,12 @@ span-past i ps h = sym (List·getD-eq-default ps (spaces 0 0) h)
 
 pub span-first : (i : ℕ) (p : Span) (ps : List Span) → i ≡ 0 → p ≡ spanAt i (p ∷ ps)
 span-first i p ps e = rw e
+
+-- behind the first two
+pub span-third : (i : ℕ) (p q : Span) (ps : List Span) → 2 ≤ i → spanAt (i - 2) ps ≡ spanAt i (p ∷ q ∷ ps)
+span-third zero p q ps h = absurd (omega arith)
+span-third (suc zero) p q ps h = absurd (omega arith)
+span-third (suc (suc i)) p q ps h = let e : suc (suc i) - 2 ≡ i = omega arith in rw e
 
 pub span-second : (i : ℕ) (p q : Span) (ps : List Span) → i ≡ 1 → q ≡ spanAt i (p ∷ q ∷ ps)
 span-second i p q ps e = rw e

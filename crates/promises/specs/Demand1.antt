@@ -142,6 +142,8 @@ rules-answers =
     let kind-of-one-answer = rules.kind-of-one-answer in
     let is-known-one-answer = rules.is-known-one-answer in
     let measure-one-answer = rules.measure-one-answer in
+    let layout-of-one-answer = rules.layout-of-one-answer in
+    let suits-tail-one-answer = rules.suits-tail-one-answer in
     named
 
 -- fields

@@ -4,6 +4,7 @@ pub mod HostNumbers
 pub mod Demand2
 pub mod HostFrames
 pub mod RealTimes
+pub mod Tails
 pub mod Demand3
 pub mod Cuttings
 pub mod Marked

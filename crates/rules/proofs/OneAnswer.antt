@@ -9,6 +9,10 @@ use Rattle.rules.proofs.is_known.Reads as is-known
 use Rattle.rules.proofs.is_known.Kinds as is-known-kinds
 use Rattle.rules.proofs.measure.Reads as measure
 use Rattle.rules.proofs.measure.Kinds as measure-kinds
+use Rattle.rules.proofs.layout_of.Reads as layout-of
+use Rattle.rules.proofs.layout_of.Kinds as layout-of-kinds
+use Rattle.rules.proofs.suits_tail.Reads as suits-tail
+use Rattle.rules.proofs.suits_tail.Kinds as suits-tail-kinds
 use Rattle.rules.proofs.fields_ok.Reads as fields-ok
 use Rattle.rules.proofs.fields_ok.Kinds as fields-ok-kinds
 use Rattle.rules.proofs.entry_size.Reads as entry-size
@@ -24,6 +28,12 @@ is-known-one-answer κs a x y s t p q = p ∙ sym q
 
 pub measure-one-answer : OneAnswer _ measure-kinds.ps measure-kinds.r measure.Post
 measure-one-answer κs a x y s t p q = verdict-one x y (p ∙ sym q)
+
+pub layout-of-one-answer : OneAnswer _ layout-of-kinds.ps layout-of-kinds.r layout-of.Post
+layout-of-one-answer κs a x y s t p q = p ∙ sym q
+
+pub suits-tail-one-answer : OneAnswer _ suits-tail-kinds.ps suits-tail-kinds.r suits-tail.Post
+suits-tail-one-answer κs a x y s t p q = p ∙ sym q
 
 pub judge-one-answer : OneAnswer _ judge-kinds.ps judge-kinds.r judge.Post
 judge-one-answer κs a x y s t p q = verdict-one x y (p ∙ sym q)

@@ -1,12 +1,15 @@
 -- For each public function: wrong answers that its promise rules out, as tables of what is given and what is then wrong. Assumes nothing.
 use Prim.Native.Nat.{ℕ}
-use mathlib.Core.Path.{refl}
+use mathlib.Core.Path.{refl, ap}
 use mathlib.Core.Bool.{Bool, true, false}
 use mathlib.Core.List.{List, [], _∷_}
 use Rattle.terms.specs.Paper.{Paper, answer, refusal}
 use Rattle.terms.specs.RuledOut.{Row, _never_, _only_, Kept, RulesOut, ruled, numbers, bools, papers}
 use Rattle.rules.specs.declared.Kind.{Kind}
 use Rattle.rules.specs.declared.Kind.the-variants.{S003, M101, M102, M201, Unknown, S001, P001, P002}
+use Rattle.rules.specs.declared.Layout.{Layout}
+use Rattle.rules.specs.declared.Layout.the-variants.{Order, Trade, Other}
+use Rattle.rules.specs.Fields.{layoutOf, suitsTail, s001Ok, p001Ok, p002Ok, tailOk, m201Ok, m102ValuesOk, entrySize, entryOk, entriesOk, m102Ok, fieldsOk, judgeOf}
 use Rattle.rules.specs.Table.{kindPaper, kindOf, typeOf, known, suits, measureOf}
 use Rattle.terms.specs.Verdicts.{verdictNumber}
 use Rattle.rules.proofs.kind_of.Reads as kind-of
@@ -15,11 +18,15 @@ use Rattle.rules.proofs.is_known.Reads as is-known
 use Rattle.rules.proofs.is_known.Kinds as is-known-kinds
 use Rattle.rules.proofs.measure.Reads as measure
 use Rattle.rules.proofs.measure.Kinds as measure-kinds
+use Rattle.rules.proofs.layout_of.Reads as layout-of
+use Rattle.rules.proofs.layout_of.Kinds as layout-of-kinds
+use Rattle.rules.proofs.suits_tail.Reads as suits-tail
+use Rattle.rules.proofs.suits_tail.Kinds as suits-tail-kinds
 use denote.Ref.{now}
+use lib.ListN.{replicate}
 use Rattle.octets.specs.Octets.{numeral, digitsOf}
 use Rattle.calendar.specs.Calendar.{leap, daysIn, realParts, realTime}
-use Rattle.rules.specs.Bodies.{channelBody, resendBody, snapshotBody}
-use Rattle.rules.specs.Fields.{s001Ok, p001Ok, p002Ok, m102ValuesOk, entrySize, entryOk, entriesOk, m102Ok, fieldsOk, judgeOf}
+use Rattle.rules.specs.Bodies.{channelBody, resendBody, snapshotBody, tickOn}
 use Rattle.rules.proofs.fields_ok.Reads as fields-ok
 use Rattle.rules.proofs.fields_ok.Kinds as fields-ok-kinds
 use Rattle.rules.proofs.entry_size.Reads as entry-size
@@ -62,6 +69,44 @@ pub measure-rules-out : RulesOut (Kept _ measure-kinds.ps measure-kinds.r measur
 unfolding suits measureOf
 measure-rules-out = ruled numbers (λ (i : Kind × ℕ). measureOf (i .0) (i .1)) (λ c p. p) _ refl
 
+-- a stream, five letters as one number, and ExecType; 1 an order, 2 a trade, 0 neither
+abbrev shownLayout : Layout → ℕ
+shownLayout Order = 1
+shownLayout Trade = 2
+shownLayout Other = 0
+
+abbrev pub layout-of-wrong : List (Row (ℕ × ℕ) ℕ)
+layout-of-wrong =
+    (0x4D44323131, 0x30) only 1  -- MD211 with 0 not named
+    ∷ (0x4D44323131, 0x34) only 1  -- ExecType 4 not taken for an order
+    ∷ (0x4D44323136, 0x30) only 1  -- MD216 left out
+    ∷ (0x4D44323137, 0x46) only 2  -- MD217 with F not named
+    ∷ (0x4D44323137, 0x30) never 1  -- MD217 with 0 taken as an order
+    ∷ (0x4D44323131, 0x46) only 0  -- MD211 with F taken as a trade
+    ∷ (0x4D44323130, 0x30) only 0  -- MD210 taken as named
+    ∷ (0x4D44323138, 0x46) only 0  -- MD218 taken as named
+    ∷ (0x6D64323131, 0x30) only 0  -- md211 taken as named
+    ∷ []
+
+pub layout-of-rules-out : RulesOut (Kept _ layout-of-kinds.ps layout-of-kinds.r layout-of.Post) (λ c. (c .args .0, c .args .1 .0)) (λ c. shownLayout (c .result)) layout-of-wrong
+unfolding layoutOf
+layout-of-rules-out = ruled numbers (λ (i : ℕ × ℕ). shownLayout (layoutOf (i .0) (i .1))) (λ c p. ap shownLayout p) _ refl
+
+-- a layout, and the length of a body
+abbrev pub suits-tail-wrong : List (Row (Layout × ℕ) Bool)
+suits-tail-wrong =
+    (Order, 184) only true
+    ∷ (Order, 183) never true  -- a tail of 138 bytes taken for an order's
+    ∷ (Order, 185) never true  -- one of 140
+    ∷ (Trade, 98) only true
+    ∷ (Trade, 99) never true  -- a tail of 54 bytes taken for a trade's
+    ∷ (Other, 46) only true  -- any other tail has any length
+    ∷ []
+
+pub suits-tail-rules-out : RulesOut (Kept _ suits-tail-kinds.ps suits-tail-kinds.r suits-tail.Post) (λ c. (c .args .0, c .args .1 .0)) (λ c. c .result) suits-tail-wrong
+unfolding suitsTail
+suits-tail-rules-out = ruled bools (λ (i : Layout × ℕ). suitsTail (i .0) (i .1)) (λ c p. p) _ refl
+
 -- a type and a body
 abbrev pub fields-ok-wrong : List (Row (Kind × List ℕ) Bool)
 fields-ok-wrong =
@@ -73,10 +118,15 @@ fields-ok-wrong =
     ∷ (M102, snapshotBody 1 0x4D44303031 1 2) only true
     ∷ (M102, snapshotBody 1 0x4D44303031 1 10000000000000) never true  -- the second entry not judged: its price has 14 digits
     ∷ (M102, snapshotBody 1 0x4D44333031 1 2) never true  -- SecurityType 1 with MD301
+    ∷ (M201, tickOn 0x4D44323131 0x30 (replicate 139 0)) only true
+    ∷ (M201, tickOn 0x4D44323131 0x30 (replicate 138 0)) never true  -- a tail of 138 bytes read as an order
+    ∷ (M201, tickOn 0x4D44323137 0x46 (replicate 53 0)) only true
+    ∷ (M201, tickOn 0x4D44323137 0x46 (replicate 54 0)) never true  -- a tail of 54 bytes read as a trade
+    ∷ (M201, tickOn 0x4D44323137 0x30 (replicate 54 0)) only true  -- a stream not named: any tail
     ∷ []
 
 pub fields-ok-rules-out : RulesOut (Kept _ fields-ok-kinds.ps fields-ok-kinds.r fields-ok.Post) (λ c. (c .args .0, now (c .args .1 .0))) (λ c. c .result) fields-ok-wrong
-unfolding numeral digitsOf p001Ok p002Ok m102ValuesOk entrySize entryOk entriesOk m102Ok fieldsOk
+unfolding numeral digitsOf p001Ok p002Ok layoutOf suitsTail tailOk m201Ok m102ValuesOk entrySize entryOk entriesOk m102Ok fieldsOk
 fields-ok-rules-out = ruled bools (λ (i : Kind × List ℕ). fieldsOk (i .0) (i .1)) (λ c p. p) _ refl
 
 -- a type, a time and a body; 21 January 2026, 09:30, is real, month 13 is not
@@ -88,10 +138,12 @@ judge-wrong =
     ∷ (P001, (20261301093000000, channelBody 13 0x59)) never 0  -- the time not judged
     ∷ (P001, (20261301093000000, channelBody 13 0x59)) only 7
     ∷ (P001, (20261301093000000, channelBody 12 0x59)) never 6  -- 6 answered before 7
+    ∷ (M201, (20260121093000000, tickOn 0x4D44323131 0x30 [])) never 4  -- a tail length answered 4
+    ∷ (M201, (20260121093000000, tickOn 0x4D44323131 0x30 [])) only 6
     ∷ []
 
 pub judge-rules-out : RulesOut (Kept _ judge-kinds.ps judge-kinds.r judge.Post) (λ c. (c .args .0, (c .args .1 .0, now (c .args .1 .1 .0)))) (λ c. verdictNumber (c .result)) judge-wrong
-unfolding numeral digitsOf p001Ok fieldsOk realTime realParts daysIn leap judgeOf
+unfolding numeral digitsOf p001Ok layoutOf suitsTail tailOk m201Ok fieldsOk realTime realParts daysIn leap judgeOf
 judge-rules-out = ruled numbers (λ (i : Kind × (ℕ × List ℕ)). judgeOf (i .0) (i .1 .0) (i .1 .1)) (λ c p. p) _ refl
 
 -- the letters of a stream as one number, and a size

@@ -9,6 +9,8 @@ use Rattle.octets.specs.Octets.{be}
 use Rattle.calendar.specs.Calendar.{realTime}
 use Rattle.rules.specs.declared.Kind.{Kind}
 use Rattle.rules.specs.declared.Kind.the-variants.{S001, S002, S003, P001, P002, M101, M102, M201, Unknown}
+use Rattle.rules.specs.declared.Layout.{Layout}
+use Rattle.rules.specs.declared.Layout.the-variants.{Order, Trade, Other}
 
 -- at most n decimal digits
 abbrev pub digits : ℕ → ℕ → Bool
@@ -29,12 +31,36 @@ p002Ok b =
     && (leb (be 1 19 b) 5 || eqb (be 1 19 b) 99))
     && ((ltb 0 (be 1 19 b) || eqb (be 8 11 b) 0) || leb (be 8 3 b) (be 8 11 b))
 
+-- the layout of an M201's extension, by its stream and its ExecType
+abbrev pub ordersOk : ℕ → ℕ → Bool
+ordersOk s e = (leb 0x4D44323131 s && leb s 0x4D44323136) && (eqb e 0x30 || eqb e 0x34)
+
+abbrev pub tradesOk : ℕ → ℕ → Bool
+tradesOk s e = eqb s 0x4D44323137 && eqb e 0x46
+
+unfoldable pub layoutOf : ℕ → ℕ → Layout
+layoutOf s e = pick (ordersOk s e) Order (pick (tradesOk s e) Trade Other)
+
+-- whether a body of n bytes suits it
+unfoldable pub suitsTail : Layout → ℕ → Bool
+suitsTail Order n = eqb n 184
+suitsTail Trade n = eqb n 98
+suitsTail Other n = true
+
+-- the layout that an M201 body names, and whether the body has its length
+abbrev pub namedIn : List ℕ → Layout
+namedIn b = layoutOf (be 5 11 b) (be 1 28 b)
+
+unfoldable pub tailOk : List ℕ → Bool
+tailOk b = suitsTail (namedIn b) (length b)
+
 unfoldable pub m201Ok : List ℕ → Bool
 m201Ok b =
-    ((((((eqb (be 1 0 b) 13 && digits 4 (be 2 1 b)) && ltb 0 (be 8 3 b)) && digits 18 (be 8 3 b)) && digits 9 (be 4 24 b))
+    (((((((eqb (be 1 0 b) 13 && digits 4 (be 2 1 b)) && ltb 0 (be 8 3 b)) && digits 18 (be 8 3 b)) && digits 9 (be 4 24 b))
     && ((eqb (be 1 28 b) 0x30 || eqb (be 1 28 b) 0x34) || eqb (be 1 28 b) 0x46))
     && digits 13 (be 8 29 b))
-    && digits 15 (be 8 37 b)
+    && digits 15 (be 8 37 b))
+    && tailOk b
 
 -- a security type and a stream
 abbrev pub pairOk : ℕ → ℕ → Bool

@@ -15,9 +15,19 @@ use Rattle.terms.specs.Cases.{two, same, clash}
 use Rattle.rules.specs.declared.Kind.{Kind}
 use Rattle.rules.specs.declared.Kind.the-variants.{S001, S002, S003, P001, P002, M101, M102, M201, Unknown}
 use Rattle.rules.specs.Table.{kindOf, known, suits}
-use Rattle.rules.specs.Fields.{s001Ok, s002Ok, p001Ok, p002Ok, m201Ok, pairOk, m102ValuesOk, entrySize, entryOk, entriesOk, m102Ok, fieldsOk}
-use Rattle.rules.specs.Rules.{TypeRule, LengthRule, S001Rules, S002Rules, P001Rules, P002Rules, Pair, pair-1, pair-2, pair-3-MD101, pair-3-MD102, pair-12, pair-13, pair-14, EntrySize, short, long, EntryRules, M102Rules, M201Rules, FieldRules}
+use Rattle.rules.specs.declared.Layout.{Layout}
+use Rattle.rules.specs.declared.Layout.the-variants.{Order, Trade, Other}
+use Rattle.rules.specs.Fields.{s001Ok, s002Ok, p001Ok, p002Ok, ordersOk, tradesOk, layoutOf, suitsTail, namedIn, tailOk, m201Ok, pairOk, m102ValuesOk, entrySize, entryOk, entriesOk, m102Ok, fieldsOk}
+use Rattle.rules.specs.Rules.{TypeRule, LengthRule, S001Rules, S002Rules, P001Rules, P002Rules, Pair, pair-1, pair-2, pair-3-MD101, pair-3-MD102, pair-12, pair-13, pair-14, EntrySize, short, long, EntryRules, M102Rules, Orders, order-0, order-4, Trades, trade-F, LayoutRule, is-order, is-trade, is-other, TailRule, M201Rules, FieldRules}
 use Rattle.terms.specs.Says.{Says, says-lt, says-le, says-eq, says-and, says-or, says-as}
+
+-- NOT SO: a test fails exactly where its fact does not hold
+
+pub denied : {b : Bool} {P : Type 0} → Says b P → (P → ⊥) → b ≡ false
+denied {b} s n = ⊎-elim (λ (t : b ≡ true). absurd (n (s .0 t))) (λ (f : b ≡ false). f) (two b)
+
+pub unsaid : {b : Bool} {P : Type 0} → Says b P → b ≡ false → P → ⊥
+unsaid s f p = clash (s .1 p) f
 
 -- LENGTHS
 
@@ -90,10 +100,69 @@ p002-says b =
       request-from (be 1 19 b) (be 8 3 b) (be 8 11 b) (r .request),
     ))
 
+-- THE EXTENSION of an M201
+
+orders-say : (s e : ℕ) → Says (ordersOk s e) (Orders s e)
+orders-say s e =
+    says-as (says-and (says-and (says-le 0x4D44323131 s) (says-le s 0x4D44323136)) (says-or (says-eq e 0x30) (says-eq e 0x34)))
+    (λ h. ⊎-elim (λ (q : e ≡ 0x30). order-0 (h .0 .0) (h .0 .1) q) (λ (q : e ≡ 0x34). order-4 (h .0 .0) (h .0 .1) q) (h .1))
+    (orders-from s e)
+  where
+    orders-from : (s e : ℕ) → Orders s e → ((0x4D44323131 ≤ s) × (s ≤ 0x4D44323136)) × ((e ≡ 0x30) ⊎ (e ≡ 0x34))
+    orders-from s e (order-0 a z q) = ((a, z), inl q)
+    orders-from s e (order-4 a z q) = ((a, z), inr q)
+
+trades-say : (s e : ℕ) → Says (tradesOk s e) (Trades s e)
+trades-say s e = says-as (says-and (says-eq s 0x4D44323137) (says-eq e 0x46)) (λ h. trade-F (h .0) (h .1)) (trades-from s e)
+  where
+    trades-from : (s e : ℕ) → Trades s e → (s ≡ 0x4D44323137) × (e ≡ 0x46)
+    trades-from s e (trade-F a q) = (a, q)
+
+-- each stream and ExecType have their layout, and only one
+pub layout-is : (s e : ℕ) → LayoutRule s e (layoutOf s e)
+unfolding layoutOf
+layout-is s e =
+    ⊎-elim (λ (o : ordersOk s e ≡ true). rw o (is-order (orders-say s e .0 o)))
+    (λ (o : ordersOk s e ≡ false).
+    ⊎-elim (λ (t : tradesOk s e ≡ true). rw (o, t) (is-trade (trades-say s e .0 t)))
+    (λ (t : tradesOk s e ≡ false). rw (o, t) (is-other (unsaid (orders-say s e) o) (unsaid (trades-say s e) t)))
+    (two (tradesOk s e)))
+    (two (ordersOk s e))
+
+apart : (s e : ℕ) → Orders s e → Trades s e → ⊥
+apart s e (order-0 a z q) (trade-F t u) = omega arith
+apart s e (order-4 a z q) (trade-F t u) = omega arith
+
+pub layout-one : (s e : ℕ) (l m : Layout) → LayoutRule s e l → LayoutRule s e m → l ≡ m
+layout-one s e l m (is-order o) (is-order p) = refl
+layout-one s e l m (is-order o) (is-trade t) = absurd (apart s e o t)
+layout-one s e l m (is-order o) (is-other n k) = absurd (n o)
+layout-one s e l m (is-trade t) (is-order o) = absurd (apart s e o t)
+layout-one s e l m (is-trade t) (is-trade u) = refl
+layout-one s e l m (is-trade t) (is-other n k) = absurd (k t)
+layout-one s e l m (is-other n k) (is-order o) = absurd (n o)
+layout-one s e l m (is-other n k) (is-trade t) = absurd (k t)
+layout-one s e l m (is-other n k) (is-other p q) = refl
+
+pub suits-tail-says : (l : Layout) (n : ℕ) → Says (suitsTail l n) (TailRule l n)
+unfolding suitsTail
+suits-tail-says Order n = says-eq n 184
+suits-tail-says Trade n = says-eq n 98
+suits-tail-says Other n = (λ h. refl, λ h. refl)
+
+pub tail-says : (b : List ℕ) → Says (tailOk b) ((l : Layout) → LayoutRule (be 5 11 b) (be 1 28 b) l → TailRule l (length b))
+unfolding tailOk
+tail-says b =
+    let named = layout-is (be 5 11 b) (be 1 28 b) in
+    says-as (suits-tail-says (namedIn b) (length b))
+    (λ h l r. rw (layout-one (be 5 11 b) (be 1 28 b) l (namedIn b) r named) h)
+    (λ f. f (namedIn b) named)
+
 m201-says : (b : List ℕ) → Says (m201Ok b) (M201Rules b)
 unfolding m201Ok
 m201-says b =
     says-as
+    (says-and
     (says-and
     (says-and
     (says-and
@@ -103,19 +172,21 @@ m201-says b =
     (says-or (says-or (says-eq (be 1 28 b) 0x30) (says-eq (be 1 28 b) 0x34)) (says-eq (be 1 28 b) 0x46)))
     (says-lt (be 8 29 b) (10 ^ 13)))
     (says-lt (be 8 37 b) (10 ^ 15)))
+    (tail-says b))
     (λ h.
     record {
-      security-type = h .0 .0 .0 .0 .0 .0 .0;
-      channel-no = h .0 .0 .0 .0 .0 .0 .1;
-      appl-seq-num = h .0 .0 .0 .0 .0 .1;
-      appl-seq-digits = h .0 .0 .0 .0 .1;
-      transact-time = h .0 .0 .0 .1;
-      exec-type = h .0 .0 .1;
-      price = h .0 .1;
-      order-qty = h .1;
+      security-type = h .0 .0 .0 .0 .0 .0 .0 .0;
+      channel-no = h .0 .0 .0 .0 .0 .0 .0 .1;
+      appl-seq-num = h .0 .0 .0 .0 .0 .0 .1;
+      appl-seq-digits = h .0 .0 .0 .0 .0 .1;
+      transact-time = h .0 .0 .0 .0 .1;
+      exec-type = h .0 .0 .0 .1;
+      price = h .0 .0 .1;
+      order-qty = h .0 .1;
+      tail = h .1;
     })
     (λ r.
-    (((((((r .security-type, r .channel-no), r .appl-seq-num), r .appl-seq-digits), r .transact-time), r .exec-type), r .price), r .order-qty))
+    ((((((((r .security-type, r .channel-no), r .appl-seq-num), r .appl-seq-digits), r .transact-time), r .exec-type), r .price), r .order-qty), r .tail))
 
 -- M102
 
@@ -322,11 +393,3 @@ rowed t =
 -- a type is in the table exactly where some row has it
 pub type-says : (t : ℕ) → Says (known (kindOf t)) ((k : Kind) × TypeRule k t)
 type-says t = (λ h. (kindOf t, rowed t h), λ q. rw (type-is (q .0) t (q .1)) (type-known (q .0) t (q .1)))
-
--- NOT SO: a test fails exactly where its fact does not hold
-
-pub denied : {b : Bool} {P : Type 0} → Says b P → (P → ⊥) → b ≡ false
-denied {b} s n = ⊎-elim (λ (t : b ≡ true). absurd (n (s .0 t))) (λ (f : b ≡ false). f) (two b)
-
-pub unsaid : {b : Bool} {P : Type 0} → Says b P → b ≡ false → P → ⊥
-unsaid s f p = clash (s .1 p) f

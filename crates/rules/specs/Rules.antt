@@ -6,7 +6,9 @@ use mathlib.Core.Logic.{_⊎_}
 use mathlib.Core.List.{List}
 use lib.ListN.{length}
 use Rattle.terms.specs.Letters.{spelled}
-use Rattle.rules.specs.Widths.{field, entryField, fixed}
+use Rattle.rules.specs.Widths.{field, entryField, fixed, orderWidths, tradeWidths, whole}
+use Rattle.rules.specs.declared.Layout.{Layout}
+use Rattle.rules.specs.declared.Layout.the-variants.{Order, Trade, Other}
 use Rattle.rules.specs.declared.Kind.{Kind}
 use Rattle.rules.specs.declared.Kind.the-variants.{S001, S002, S003, P001, P002, M101, M102, M201, Unknown}
 
@@ -98,8 +100,28 @@ pub record M102Rules (w : ℕ) (b : List ℕ) : Type 0 where
   pub whole-entries : length b ≡ fixed M102 + field M102 12 b * w
   pub entries : (i : ℕ) → i < field M102 12 b → EntryRules (field M102 4 b) (fixed M102 + i * w) b
 
+-- Document 02, CR 2: "for each stream that they name; ExecType 0 and 4 choose the order layout, F the trade layout". 000, 2.5.1, names MD211 to
+-- MD216 for orders and MD217 for trades. "A stream and layout that 000 doesn't pair count as a stream not named."
+pub data Orders (s e : ℕ) : Type 0 where
+  order-0 : spelled "MD211" ≤ s → s ≤ spelled "MD216" → e ≡ spelled "0" → Orders s e
+  order-4 : spelled "MD211" ≤ s → s ≤ spelled "MD216" → e ≡ spelled "4" → Orders s e
+
+pub data Trades (s e : ℕ) : Type 0 where
+  trade-F : s ≡ spelled "MD217" → e ≡ spelled "F" → Trades s e
+
+pub data LayoutRule (s e : ℕ) : Layout → Type 0 where
+  is-order : Orders s e → LayoutRule s e Order
+  is-trade : Trades s e → LayoutRule s e Trade
+  is-other : (Orders s e → ⊥) → (Trades s e → ⊥) → LayoutRule s e Other
+
+-- the length of an M201 body whose extension is laid out so
+abbrev pub TailRule : Layout → ℕ → Type 0
+TailRule Order n = n ≡ fixed M201 + whole orderWidths  -- 45 + 139
+TailRule Trade n = n ≡ fixed M201 + whole tradeWidths  -- 45 + 53
+TailRule Other n = n ≡ n  -- any
+
 -- "M201: SecurityType 13, ExecType 0, 4 or F, ApplSeqNum above 0. The stream is not judged."
--- ChannelNO 4 digits, ApplSeqNum at most 18, TransactTime 9, Price 13, OrderQty 15.
+-- ChannelNO 4 digits, ApplSeqNum at most 18, TransactTime 9, Price 13, OrderQty 15. Document 02, CR 2: "a tail length that doesn't suit its layout is 6".
 pub record M201Rules (b : List ℕ) : Type 0 where
   pub security-type : field M201 0 b ≡ 13
   pub channel-no : field M201 1 b < 10 ^ 4
@@ -109,6 +131,7 @@ pub record M201Rules (b : List ℕ) : Type 0 where
   pub exec-type : ((field M201 6 b ≡ spelled "0") ⊎ (field M201 6 b ≡ spelled "4")) ⊎ (field M201 6 b ≡ spelled "F")
   pub price : field M201 7 b < 10 ^ 13
   pub order-qty : field M201 8 b < 10 ^ 15
+  pub tail : (l : Layout) → LayoutRule (field M201 3 b) (field M201 6 b) l → TailRule l (length b)
 
 -- "none" for S003; M101 is "carried as bytes, not judged"
 pub record NoRules : Type 0 where

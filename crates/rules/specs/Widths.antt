@@ -23,6 +23,28 @@ widths Unknown = []
 abbrev pub entryWidths : List ℕ
 entryWidths = 2 ∷ 8 ∷ 8 ∷ 1 ∷ []
 
+-- THE EXTENSION OF AN M201, by 000: what stands behind the 45 fixed bytes
+
+-- what a field holds: letters, or a number
+pub data Holds : Type 0 where
+  text : Holds
+  number : Holds
+
+-- 2.5.4.1, an order: Side, QuoteID, MemberID, TraderCode, FullAmountTrade, SettlType, ContractMultiplier, ExpirationDays, TotalValueTraded, BasketID,
+-- InvestorName, BidTransType, BidExecInstType, ExpireDate, SecondaryOrderID, MinQty
+abbrev pub orderWidths : List ℕ
+orderWidths = 1 ∷ 18 ∷ 12 ∷ 12 ∷ 1 ∷ 1 ∷ 4 ∷ 2 ∷ 8 ∷ 16 ∷ 32 ∷ 1 ∷ 1 ∷ 4 ∷ 18 ∷ 8 ∷ []
+
+abbrev pub orderHolds : List Holds
+orderHolds = text ∷ text ∷ text ∷ text ∷ number ∷ number ∷ number ∷ number ∷ number ∷ text ∷ text ∷ number ∷ number ∷ number ∷ text ∷ number ∷ []
+
+-- 2.5.4.2, a trade: BidApplSeqNum, OfferApplSeqNum, TotalValueTraded, TradeMethod, MarginPrice
+abbrev pub tradeWidths : List ℕ
+tradeWidths = 18 ∷ 18 ∷ 8 ∷ 1 ∷ 8 ∷ []
+
+abbrev pub tradeHolds : List Holds
+tradeHolds = text ∷ text ∷ number ∷ number ∷ number ∷ []
+
 -- the sum of the first i widths
 abbrev pub before : ℕ → List ℕ → ℕ
 before zero ws = 0
@@ -54,3 +76,10 @@ lengths-are = refl
 -- and the two sizes of an entry: with a price alone, and whole
 pub entry-sizes-are : before 2 entryWidths ∷ before 4 entryWidths ∷ [] ≡ 10 ∷ 19 ∷ []
 entry-sizes-are = refl
+
+-- and of the two extensions
+abbrev pub whole : List ℕ → ℕ
+whole ws = before (length ws) ws
+
+pub extension-lengths-are : whole orderWidths ∷ whole tradeWidths ∷ [] ≡ 139 ∷ 53 ∷ []
+extension-lengths-are = refl

@@ -2,10 +2,10 @@
 ghost use mathlib.Core.Path.{_≡_};
 ghost use Rattle.rules.specs.Table.{kindPaper, typeOf, known, suits, measureOf};
 ghost use Rattle.terms.specs.Verdicts.{verdictNumber};
+ghost use Rattle.rules.specs.Fields.{layoutOf, suitsTail, s001Ok, s002Ok, p001Ok, p002Ok, tailOk, m201Ok, pairOk, m102ValuesOk, entrySize, entryOk, entriesOk, m102Ok, fieldsOk, judgeOf};
 use terms::Refusal;
 use terms::Verdict;
 ghost use Prim.Native.Nat.{_+_, _*_, _≤_, _<_};
-ghost use Rattle.rules.specs.Fields.{s001Ok, s002Ok, p001Ok, p002Ok, m201Ok, pairOk, m102ValuesOk, entrySize, entryOk, entriesOk, m102Ok, fieldsOk, judgeOf};
 
 // The types of the table, under their MsgType, and one case for every other MsgType.
 pub enum Kind {
@@ -18,6 +18,13 @@ pub enum Kind {
     M102,
     M201,
     Unknown,
+}
+
+// How the extension of an M201 is laid out: as an order, as a trade, or as no table tells.
+pub enum Layout {
+    Order,
+    Trade,
+    Other,
 }
 
 // The type whose four letters a number holds, high byte first. The third letter of each is 0: in noise that one test mostly tells.
@@ -90,6 +97,30 @@ pub fn measure(kind: Kind, n: usize) -> Verdict
     Verdict::Fine
 }
 
+// The layout of an M201's extension, by its stream, the five letters as a number, and its ExecType.
+pub fn layout_of(stream: u64, exec: u8) -> Layout
+    ensures { λ r. ⌜ r ≡ layoutOf stream exec ⌝ }
+{
+    if (0x4D44323131 <= stream) & (stream <= 0x4D44323136) & ((exec == 0x30) | (exec == 0x34)) {
+        return Layout::Order;
+    }
+    if (stream == 0x4D44323137) & (exec == 0x46) {
+        return Layout::Trade;
+    }
+    Layout::Other
+}
+
+// Whether an M201 body of n bytes suits the layout of its extension: 45 bytes and 139 for an order, 45 and 53 for a trade.
+pub fn suits_tail(layout: Layout, n: usize) -> bool
+    ensures { λ r. ⌜ r ≡ suitsTail layout n ⌝ }
+{
+    match layout {
+        Layout::Order => n == 184,
+        Layout::Trade => n == 98,
+        Layout::Other => true,
+    }
+}
+
 fn s001_ok(b: &[u8]) -> bool
     ensures { λ r. ⌜ r ≡ s001Ok (now (b .entry)) ⌝ }
 {
@@ -134,6 +165,14 @@ fn p002_ok(b: &[u8]) -> bool
         & ((0 < status) | (last == 0) | (first <= last))
 }
 
+// Whether an M201 body has the length of the layout that its stream and ExecType name.
+fn tail_ok(b: &[u8]) -> bool
+    ensures { λ r. ⌜ r ≡ tailOk (now (b .entry)) ⌝ }
+{
+    let layout = layout_of(octets::u40_at(b, 11), octets::u8_at(b, 28));
+    suits_tail(layout, b.len())
+}
+
 fn m201_ok(b: &[u8]) -> bool
     ensures { λ r. ⌜ r ≡ m201Ok (now (b .entry)) ⌝ }
 {
@@ -144,6 +183,7 @@ fn m201_ok(b: &[u8]) -> bool
     let exec_type = octets::u8_at(b, 28);
     let price = octets::u64_at(b, 29);
     let order_qty = octets::u64_at(b, 37);
+    let tail = tail_ok(b);
     (security_type == 13)
         & (channel_no < 10000)
         & (0 < appl_seq_num)
@@ -152,6 +192,7 @@ fn m201_ok(b: &[u8]) -> bool
         & ((exec_type == 0x30) | (exec_type == 0x34) | (exec_type == 0x46))
         & (price < 10000000000000)
         & (order_qty < 1000000000000000)
+        & tail
 }
 
 // Whether a security type and a stream, its five letters as a number, go together in an M102.

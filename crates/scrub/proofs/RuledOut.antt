@@ -10,10 +10,11 @@ use Rattle.octets.specs.Octets.{numeral, digitsOf, laid, sum8, sumOf}
 use Rattle.octets.specs.Papers.{writtenPaper, roomFor, laidIfRoom}
 use Rattle.calendar.specs.Calendar.{leap, daysIn, realParts, realTime}
 use Rattle.rules.specs.Table.{kindOf, suits, measureOf}
-use Rattle.rules.specs.Fields.{s001Ok, p002Ok, m201Ok, fieldsOk, judgeOf}
+use Rattle.rules.specs.Fields.{s001Ok, p002Ok, layoutOf, suitsTail, tailOk, m201Ok, fieldsOk, judgeOf}
 use Rattle.frame_spec.specs.Frame.{checked, readOf}
 use Rattle.frame_spec.specs.Write.{plainOf, frameOf}
-use Rattle.frame_spec.specs.Examples.{startOfA, frameA, ending, logon, resend, tick}
+use Rattle.frame_spec.specs.Examples.{startOfA, frameA, ending, logon, resend, tick, tickOf, order}
+use Rattle.private.specs.Private.{tailOf}
 use Rattle.private.specs.Scrub.{painted, summed, scrubAnswer, scrubbed}
 use Rattle.private.specs.Into.{intoAnswer, intoLeaves}
 use Rattle.scrub.proofs.scrub_into.Reads as scrub-into
@@ -40,12 +41,21 @@ scrub-wrong =
     ∷ resend 1 0x41 only frame 80 (resend 1 0x20)
     ∷ tick (0x41 ∷ 0x42 ∷ 0x43 ∷ []) never frame 76 (tick (0x20 ∷ 0x20 ∷ 0x43 ∷ []))  -- the last byte of a tail missed
     ∷ tick (0x41 ∷ 0x42 ∷ 0x43 ∷ []) only frame 76 (tick (0x20 ∷ 0x20 ∷ 0x20 ∷ []))
+    ∷ order 0x31 0x51 0x41 0x42 0x43 never frame 212 (order 0x31 0x51 0x20 0x42 0x20)  -- TraderCode left
+    ∷ order 0x31 0x51 0x41 0x42 0x43 never frame 212 (order 0x31 0x20 0x20 0x20 0x20)  -- QuoteID painted
+    ∷ order 0x31 0x51 0x41 0x42 0x43 never frame 212 (order 0x20 0x51 0x20 0x20 0x20)  -- Side painted
+    ∷ order 0x31 0x51 0x41 0x42 0x43 never frame 212 (tickOf 0x4D44323131 0x30 (replicate 139 0x20))  -- the whole tail of an order painted
+    ∷ order 0x31 0x51 0x41 0x42 0x43 never frame 212 (order 0x31 0x51 0x41 0x42 0x43)  -- nothing of an order painted
+    ∷ order 0x31 0x51 0x41 0x42 0x43 never frame 212 (order 0x31 0x51 0 0 0)  -- private text filled with 0
+    ∷ order 0x31 0x51 0x41 0x42 0x43 only frame 212 (order 0x31 0x51 0x20 0x20 0x20)
+    ∷ tickOf 0x4D44323137 0x46 (replicate 53 0x41) only frame 126 (tickOf 0x4D44323137 0x46 (replicate 53 0x41))  -- a trade painted
+    ∷ tickOf 0x4D44323137 0x30 (0x41 ∷ 0x42 ∷ []) only frame 75 (tickOf 0x4D44323137 0x30 (0x20 ∷ 0x20 ∷ []))  -- an unnamed tail left as sent
     ∷ ending 1 0x8E only left (refusal 5) (ending 1 0x8E)  -- scrubbed by its header's word, without reading: the sum's first three bytes not compared
     ∷ (0xFF ∷ tick (0x41 ∷ [])) only left (refusal 2) (0xFF ∷ tick (0x41 ∷ []))  -- a frame that is refused at the front is not scrubbed a byte later
     ∷ []
 
 pub scrub-rules-out : RulesOut (Kept _ scrub-kinds.ps scrub-kinds.r scrub.Post) (λ c. now (c .args .0)) (λ c. left (writtenPaper (c .result)) (now (c .exit .0))) scrub-wrong
-unfolding frameA startOfA plainOf frameOf scrubAnswer scrubbed painted summed checked readOf numeral digitsOf laid sum8 sumOf kindOf suits measureOf s001Ok p002Ok m201Ok fieldsOk realTime realParts daysIn leap judgeOf
+unfolding frameA startOfA plainOf frameOf scrubAnswer scrubbed painted summed checked readOf numeral digitsOf laid sum8 sumOf kindOf suits measureOf s001Ok p002Ok layoutOf suitsTail tailOk tailOf m201Ok fieldsOk realTime realParts daysIn leap judgeOf
 scrub-rules-out = ruled lefts (λ (s : List ℕ). left (scrubAnswer s) (scrubbed s)) (λ c p. left-is p) _ refl
 
 -- SCRUB_INTO: bytes, a place, a lent buffer and a place in it

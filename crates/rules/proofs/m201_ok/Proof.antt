@@ -25,9 +25,22 @@ u64-at-requires-2 c κs = search needs
 u64-at-requires-3 : tie.Need-u64-at-requires-3
 u64-at-requires-3 c κs = search needs
 
+tail-ok-requires : tie.Need-tail-ok-requires
+tail-ok-requires c κs = search needs
+
 returns : tie.Need-returns
 unfolding m201Ok
-returns c = rw (c .before .before .before .before .before .before .u8-at .ensures, c .before .before .before .before .before .u16-at .ensures, c .before .before .before .before .u64-at .ensures, c .before .before .before .u32-at .ensures, c .before .before .u8-at2 .ensures, c .before .u64-at2 .ensures, c .u64-at3 .ensures)
+returns c =
+    rw (
+      c .before .before .before .before .before .before .before .u8-at .ensures,
+      c .before .before .before .before .before .before .u16-at .ensures,
+      c .before .before .before .before .before .u64-at .ensures,
+      c .before .before .before .before .u32-at .ensures,
+      c .before .before .before .u8-at2 .ensures,
+      c .before .before .u64-at2 .ensures,
+      c .before .u64-at3 .ensures,
+      c .tail-ok .ensures,
+    )
 
 pub m201-ok-spec : {M : Type 1} → statement M
 m201-ok-spec =
@@ -40,4 +53,5 @@ m201-ok-spec =
     u8-at-requires-2
     u64-at-requires-2
     u64-at-requires-3
+    tail-ok-requires
     returns)
