@@ -321,7 +321,9 @@ fn reply(input: &str, state: plain::Ledger) {
     let theirs = b.reply(100, 1, 4).expect("a pending request");
     let numbers = |set: [u64; 4]| {
         let held = move |n: &u64| set[(n / 64 % 4) as usize] >> (n % 64) & 1 == 1;
-        (theirs.0..theirs.0 + 256).filter(held).map(host::TickNumber::new)
+        (theirs.0..theirs.0 + 256)
+            .filter(held)
+            .map(host::TickNumber::new)
     };
     assert!(settled.given_up().eq(numbers(theirs.1)));
     assert!(settled.passed().eq(numbers(theirs.2)));

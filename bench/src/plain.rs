@@ -372,7 +372,11 @@ impl Ledger {
             return Err(16);
         }
         let first = self.floor + 1;
-        let wide = if status == 4 { last.saturating_sub(self.floor) } else { 0 };
+        let wide = if status == 4 {
+            last.saturating_sub(self.floor)
+        } else {
+            0
+        };
         let count = wide + self.stretch(first + wide, u64::MAX);
         let given_up = Ledger::only(self.map.map(|w| !w), first, wide);
         let passed = Ledger::only(self.map, first, count);

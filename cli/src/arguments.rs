@@ -7,9 +7,9 @@ use crate::Trouble;
 
 pub const HELP: &str = "\
 usage: rietknoest list [--follow] [FILE]
-       rietknoest scrub IN -o OUT [--whole]
-       rietknoest check FILE
-       rietknoest explain FILE PLACE
+       rietknoest scrub [--step] IN -o OUT [--whole]
+       rietknoest check [--step] FILE
+       rietknoest explain [--step] FILE PLACE
        rietknoest --help | --version
 
 list     prints a line for each reading of a capture: place, type (---- where
@@ -25,6 +25,9 @@ check    says whether a capture is clean: whether scrubbing it would change no
          frame that came out of private bytes (docs/PRIVATE.md).
 explain  says in words what reading at a place of a capture answers, and why.
          It shows no private field.
+
+With --step the capture is of the STEP line: each place is tried in turn, IN is
+read whole, and explain shows the values of numbers, flags and times alone.
 
 - is standard input, or standard output for OUT. IN is never overwritten.
 
@@ -44,13 +47,16 @@ pub enum Command {
         from: OsString,
         to: OsString,
         whole: bool,
+        step: bool,
     },
     Check {
         file: OsString,
+        step: bool,
     },
     Explain {
         file: OsString,
         place: usize,
+        step: bool,
     },
 }
 
@@ -72,6 +78,7 @@ fn command(name: &str, mut words: impl Iterator<Item = OsString>) -> Result<Comm
     let mut to = None;
     let mut whole = false;
     let mut follow = false;
+    let mut step = false;
     let mut options = true;
     while let Some(word) = words.next() {
         match word.to_str() {
@@ -79,6 +86,7 @@ fn command(name: &str, mut words: impl Iterator<Item = OsString>) -> Result<Comm
             Some("--help") if options => return Ok(Command::Help),
             Some("--whole") if options && name == "scrub" => whole = true,
             Some("--follow") if options && name == "list" => follow = true,
+            Some("--step") if options && name != "list" => step = true,
             Some("-o") if options && name == "scrub" => match words.next() {
                 Some(out) if to.is_none() => to = Some(out),
                 Some(_) => return wrong("scrub: -o is given twice"),
@@ -92,7 +100,7 @@ fn command(name: &str, mut words: impl Iterator<Item = OsString>) -> Result<Comm
     }
     let files: Result<[OsString; 1], _> = match name {
         "list" if files.is_empty() => Ok([OsString::from("-")]),
-        "explain" => return explain(files),
+        "explain" => return explain(files, step),
         _ => files.try_into(),
     };
     let Ok([file]) = files else {
@@ -100,25 +108,26 @@ fn command(name: &str, mut words: impl Iterator<Item = OsString>) -> Result<Comm
     };
     match (name, to) {
         ("list", _) => Ok(Command::List { file, follow }),
-        ("check", _) => Ok(Command::Check { file }),
+        ("check", _) => Ok(Command::Check { file, step }),
         (_, Some(to)) => Ok(Command::Scrub {
             from: file,
             to,
             whole,
+            step,
         }),
         (_, None) => wrong("scrub: -o OUT is missing"),
     }
 }
 
 /// The file and the place. A number too large for a place is beyond the end of every file.
-fn explain(words: Vec<OsString>) -> Result<Command, Trouble> {
+fn explain(words: Vec<OsString>, step: bool) -> Result<Command, Trouble> {
     let Ok([file, place]) = <[OsString; 2]>::try_from(words) else {
         return wrong("explain: it takes a file and a place");
     };
     match place.to_str() {
         Some(digits) if !digits.is_empty() && digits.bytes().all(|b| b.is_ascii_digit()) => {
             let place = digits.parse().unwrap_or(usize::MAX);
-            Ok(Command::Explain { file, place })
+            Ok(Command::Explain { file, place, step })
         }
         _ => wrong(format!("explain: {}: no place", shown(&place))),
     }

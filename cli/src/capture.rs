@@ -9,7 +9,7 @@ use std::os::unix::fs::MetadataExt;
 
 use rietknoest_host::{records_room, Stream, Walked, KEPT, RECORD};
 
-use crate::Trouble;
+use crate::{step, Trouble};
 
 /// A file's name for display: bytes that are no text are replaced, control characters escaped.
 pub fn shown(name: &OsStr) -> String {
@@ -104,8 +104,13 @@ impl Source {
         let mut bytes = vec![0; KEPT + PIECE];
         let mut records = vec![0; records_room(bytes.len())];
         let mut waiting = 0;
+        let mut first = true;
         loop {
             let read = self.piece(&mut bytes[waiting..][..PIECE])?;
+            if first {
+                step::hint(&self.name, &bytes[..read]);
+                first = false;
+            }
             let end = waiting + read;
             let fed = if read == 0 {
                 stream.close(&mut records)

@@ -5,12 +5,13 @@ use std::ffi::OsStr;
 use rietknoest_host::{first_unclean, private_spans, read, Frame, HEADER};
 
 use crate::capture::Capture;
-use crate::{names, print, Status, Trouble};
+use crate::{names, print, step, Status, Trouble};
 
 /// Amiss if cleaning the capture would change a byte. Prints the first such place, and what is
 /// there.
 pub fn check(file: &OsStr) -> Result<Status, Trouble> {
     let capture = Capture::read(file)?;
+    step::hint(&capture.name, &capture.bytes);
     let Some(place) = first_unclean(&capture.bytes) else {
         print(format!("{}: clean\n", capture.name))?;
         return Ok(Status::Well);

@@ -6,13 +6,14 @@ use std::fmt::Write;
 use rietknoest_host::{private_spans, read, Frame, HEADER};
 
 use crate::capture::{Capture, Walk};
-use crate::{count, names, print, Status, Trouble};
+use crate::{count, names, print, step, Status, Trouble};
 
 /// Amiss if reading refuses. A frame's fields are printed only where the walk reads it: a frame
 /// that reads inside another may be in private bytes. Of a refused frame only the answer's number,
 /// name and rule are printed.
 pub fn explain(file: &OsStr, place: usize) -> Result<Status, Trouble> {
     let capture = Capture::read(file)?;
+    step::hint(&capture.name, &capture.bytes);
     let end = capture.bytes.len();
     if place > end {
         let what = format!("the place is beyond the end, {end}");

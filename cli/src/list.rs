@@ -5,10 +5,11 @@ use std::ffi::OsStr;
 use rietknoest_host::{listing, text_room, Walked};
 
 use crate::capture::{Capture, Source};
-use crate::{print, put, Status, Trouble};
+use crate::{print, put, step, Status, Trouble};
 
 pub fn list(file: &OsStr) -> Result<Status, Trouble> {
     let capture = Capture::read(file)?;
+    step::hint(&capture.name, &capture.bytes);
     let walk = capture.walk()?;
     let mut text = capture.room(text_room(walk.walked.records))?;
     let (text, status) = lines(&capture.name, &walk.records, &walk.walked, &mut text)?;

@@ -11,6 +11,7 @@ mod explain;
 mod list;
 mod names;
 mod scrub;
+mod step;
 mod target;
 
 use std::env;
@@ -88,9 +89,19 @@ fn run(command: Command) -> Result<Status, Trouble> {
         }
         Command::List { file, follow } if follow => list::follow(&file),
         Command::List { file, .. } => list::list(&file),
-        Command::Scrub { from, to, whole } => scrub::scrub(&from, &to, whole),
-        Command::Check { file } => check::check(&file),
-        Command::Explain { file, place } => explain::explain(&file, place),
+        Command::Scrub {
+            from,
+            to,
+            whole,
+            step,
+        } if step => step::scrub(&from, &to, whole),
+        Command::Scrub {
+            from, to, whole, ..
+        } => scrub::scrub(&from, &to, whole),
+        Command::Check { file, step } if step => step::check(&file),
+        Command::Check { file, .. } => check::check(&file),
+        Command::Explain { file, place, step } if step => step::explain(&file, place),
+        Command::Explain { file, place, .. } => explain::explain(&file, place),
     }
 }
 

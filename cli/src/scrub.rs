@@ -6,7 +6,7 @@ use rietknoest_host::{clean, Cleaned, RECORD};
 
 use crate::capture::{is_refused, Source};
 use crate::target::Target;
-use crate::{count, say, Status, Trouble};
+use crate::{count, say, step, Status, Trouble};
 
 /// Amiss if a byte of the capture was left out, since something was refused there. With `whole`
 /// nothing is written then.
@@ -47,6 +47,7 @@ pub fn scrub(from: &OsStr, to: &OsStr, whole: bool) -> Result<Status, Trouble> {
 /// many bytes were not.
 fn scrub_whole(source: Source, target: Target) -> Result<(Cleaned, u64), Trouble> {
     let capture = source.whole()?;
+    step::hint(&capture.name, &capture.bytes);
     // memory of our own: it briefly holds each frame unscrubbed
     let mut cleaned = capture.room(capture.bytes.len())?;
     let done = clean(&capture.bytes, &mut cleaned)

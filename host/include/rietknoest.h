@@ -59,6 +59,10 @@ enum rk_answer {
     RK_CHANNEL = 18, /* call names another channel */
     RK_CLOSED = 19,  /* the stream is closed already */
     RK_ENTRIES = 20, /* body below 73 bytes, no entry at this place, or it passes the body's end */
+    RK_BEGIN = 23,   /* STEP: not the begin string */
+    RK_BODY_LENGTH = 24, /* STEP: no body length of one to nine digits stands second */
+    RK_MSG_TYPE = 25,    /* STEP: none of the seven types */
+    RK_FIELDS = 26,  /* STEP: a field malformed, empty, repeated, missing, or not of the type */
     RK_PLACES = 29   /* a place in the stream would not fit 64 bits */
 };
 
@@ -305,6 +309,42 @@ uint32_t rk_stream_feed(uint64_t words[6], rk_ledger *ledger, uint8_t kept[8191]
  * Returns 0, 8, 13, 19. 0 writes the first 64 * told->records bytes of records, and words, *ledger,
  * kept and *told. */
 uint32_t rk_stream_close(uint64_t words[6], rk_ledger *ledger, uint8_t kept[8191], uint8_t *records, size_t records_len, rk_fed *told);
+
+/* STEP FRAMES */
+
+typedef struct {
+    uint64_t kind;       /* the letter of 35: A 5 0 1 2 3 4 */
+    uint64_t fields;     /* where the fields behind 35 start, counted from the frame's start */
+    uint64_t fields_len; /* their bytes: tag, '=', value and SOH of each, one behind the other */
+    uint64_t len;        /* of the frame, at most 8,192 */
+} rk_step_frame;
+RK_SIZE(rk_step_frame, 4);
+
+typedef struct {
+    uint64_t tag;
+    uint64_t value; /* where its value starts among the fields */
+    uint64_t value_len;
+    uint64_t behind; /* the place behind the field, for the next one */
+} rk_step_field_at;
+RK_SIZE(rk_step_field_at, 4);
+
+/* Reads the STEP frame at a place; what follows the frame does not matter.
+ * Returns 0, 1, 3, 5, 7, 23 to 26; a place beyond the end is 1. 0 writes *told. */
+uint32_t rk_step_read(const uint8_t *bytes, size_t len, size_t place, rk_step_frame *told);
+
+/* The field at a place among fields.
+ * Returns 0, or 26 if there is none. 0 writes *told. */
+uint32_t rk_step_field(const uint8_t *fields, size_t len, size_t place, rk_step_field_at *told);
+
+/* Writes a frame at the front of out: a type, and its fields as they are to stand.
+ * Returns 0, 3, 7, 8, 25, 26. 0 writes the first *told bytes of out, and *told. */
+uint32_t rk_step_write(uint8_t kind, const uint8_t *fields, size_t fields_len, uint8_t *out, size_t out_len, uint64_t *told);
+
+/* Scrubs the STEP frame at the front of a buffer: the values of 49, 56, 553, 554 and 58 become
+ * spaces.
+ * Returns 0, 1, 3, 5, 7, 23 to 26. 0 writes these values, the three digits of the checksum, and
+ * *told: the length of the frame. */
+uint32_t rk_step_scrub(uint8_t *frame, size_t len, uint64_t *told);
 
 #undef RK_SIZE
 

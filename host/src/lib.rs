@@ -13,6 +13,7 @@ mod ledger;
 mod numbers;
 #[allow(unsafe_code)]
 mod raw;
+pub mod step;
 mod stream;
 
 pub use captures::{

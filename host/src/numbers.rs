@@ -65,6 +65,10 @@ refusals! {
     Channel = 18, "channel", "the call names another channel";
     Closed = 19, "closed", "the stream is closed already";
     Entries = 20, "entries", "the body has no whole entry at this place";
+    Begin = 23, "begin", "the begin string is not 8=FIXT.1.1";
+    BodyLength = 24, "body_length", "no body length of one to nine digits stands second";
+    MsgType = 25, "msg_type", "the type is none of A 5 0 1 2 3 4";
+    Fields = 26, "fields", "a field is malformed, empty, repeated, missing, or not of the type";
     Places = 29, "places", "a place in the stream would not fit 64 bits";
 }
 

@@ -70,6 +70,26 @@ pub struct Counts {
     pub refused: u64,
 }
 
+/// A STEP frame: its type, the place of its fields behind the frame's start, their length, the frame's length.
+#[derive(Default)]
+#[repr(C)]
+pub struct StepFrame {
+    pub kind: u64,
+    pub fields: u64,
+    pub fields_len: u64,
+    pub len: u64,
+}
+
+/// A field: its tag, the place and the length of its value, the place behind it.
+#[derive(Default)]
+#[repr(C)]
+pub struct StepField {
+    pub tag: u64,
+    pub value: u64,
+    pub value_len: u64,
+    pub behind: u64,
+}
+
 #[rustfmt::skip]
 extern "C" {
     fn rk_read(bytes: *const u8, len: usize, place: usize, told: *mut Frame) -> u32;
@@ -92,6 +112,10 @@ extern "C" {
     fn rk_stream_open(words: *mut [u64; 6], ledger: *mut Ledger, kept: *mut [u8; KEPT]) -> u32;
     fn rk_stream_feed(words: *mut [u64; 6], ledger: *mut Ledger, kept: *mut [u8; KEPT], cut: *const u8, cut_len: usize, records: *mut u8, records_len: usize, told: *mut Fed) -> u32;
     fn rk_stream_close(words: *mut [u64; 6], ledger: *mut Ledger, kept: *mut [u8; KEPT], records: *mut u8, records_len: usize, told: *mut Fed) -> u32;
+    fn rk_step_read(bytes: *const u8, len: usize, place: usize, told: *mut StepFrame) -> u32;
+    fn rk_step_field(fields: *const u8, len: usize, place: usize, told: *mut StepField) -> u32;
+    fn rk_step_write(kind: u8, fields: *const u8, fields_len: usize, out: *mut u8, out_len: usize, told: *mut u64) -> u32;
+    fn rk_step_scrub(frame: *mut u8, len: usize, told: *mut u64) -> u32;
 }
 
 // FRAMES
@@ -269,4 +293,32 @@ pub fn stream_close(
     // anything in them; `records` is passed with its own length; `told` is a row of five. All are
     // `&mut`: none overlaps another.
     unsafe { rk_stream_close(words, ledger, kept, written, room, told) }
+}
+
+// STEP FRAMES
+
+pub fn step_read(bytes: &[u8], place: usize, told: &mut StepFrame) -> u32 {
+    // SAFETY: `bytes` is passed with its own length and only read; any place is allowed, also
+    // beyond the end; `told` is a row of four.
+    unsafe { rk_step_read(bytes.as_ptr(), bytes.len(), place, told) }
+}
+
+pub fn step_field(fields: &[u8], place: usize, told: &mut StepField) -> u32 {
+    // SAFETY: `fields` is passed with its own length and only read; any place is allowed, also
+    // beyond the end; `told` is a row of four.
+    unsafe { rk_step_field(fields.as_ptr(), fields.len(), place, told) }
+}
+
+pub fn step_write(kind: u8, fields: &[u8], out: &mut [u8], told: &mut u64) -> u32 {
+    let (read, len) = (fields.as_ptr(), fields.len());
+    let (written, room) = (out.as_mut_ptr(), out.len());
+    // SAFETY: `fields` is passed with its own length and only read, `out` with its own length;
+    // `told` is one number. `fields` and `told` are not in `out`: nothing else borrows that.
+    unsafe { rk_step_write(kind, read, len, written, room, told) }
+}
+
+pub fn step_scrub(frame: &mut [u8], told: &mut u64) -> u32 {
+    // SAFETY: `frame` is passed with its own length; `told` is one number, not in `frame`, which
+    // nothing else borrows.
+    unsafe { rk_step_scrub(frame.as_mut_ptr(), frame.len(), told) }
 }

@@ -40,11 +40,12 @@ fn run(command: &mut Command, input: &[u8]) -> Vec<u8> {
 }
 
 /// The crates of which the library is made, and how many functions each has for others.
-const EXPORTS: [(&str, usize); 4] = [
+const EXPORTS: [(&str, usize); 5] = [
     ("host", 7),
     ("host_ledger", 6),
     ("host_captures", 4),
     ("follow", 3),
+    ("host_step", 4),
 ];
 
 /// Compiles a program against the header and the library.

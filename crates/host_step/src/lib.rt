@@ -1,5 +1,6 @@
-// What C and Rust may call on STEP frames. Each function answers a number of documents 01 and 02, 0 where all is well, and tells the rest
-// through what it is lent: a fixed row of numbers (host/include/rietknoest.h). A refusal writes nothing there, nor into a buffer.
+// What C and Rust may call on STEP frames. Each function answers a number of documents 01 and 02, 0
+// where all is well, and tells the rest through what it is lent: a fixed row of numbers
+// (host/include/rietknoest.h). A refusal writes nothing there, nor into a buffer.
 ghost use mathlib.Core.Path.{_≡_};
 ghost use mathlib.Core.List.{[], _∷_};
 ghost use lib.ListN.{length, drop};
@@ -31,7 +32,8 @@ fn number(why: StepRefusal) -> u32
     }
 }
 
-// Reads the frame at a place. Told: its type, the place of the fields behind the frame's start, their length, the frame's length.
+// Reads the frame at a place. Told: its type, the place of the fields behind the frame's start,
+// their length, the frame's length.
 #[no_mangle]
 pub extern "C" fn rk_step_read(bytes: &[u8], place: usize, told: &mut [u64; 4]) -> u32
     ensures { λ r. ⌜ Tells (stepReadOf (drop place (now (bytes .entry)))) (now (told .entry)) r (now (told .exit)) ⌝ }
@@ -50,7 +52,8 @@ pub extern "C" fn rk_step_read(bytes: &[u8], place: usize, told: &mut [u64; 4]) 
     }
 }
 
-// The field at a place among fields. Told: its tag, the place and the length of its value, the place behind it; 26 where none stands there.
+// The field at a place among fields. Told: its tag, the place and the length of its value, the
+// place behind it; 26 where none stands there.
 #[no_mangle]
 pub extern "C" fn rk_step_field(fields: &[u8], place: usize, told: &mut [u64; 4]) -> u32
     ensures { λ r. ⌜ Tells (fieldAt place (now (fields .entry))) (now (told .entry)) r (now (told .exit)) ⌝ }
@@ -82,7 +85,8 @@ fn told_bytes(w: StepWritten, told: &mut u64) -> u32
     }
 }
 
-// Writes a message at the front of out: a type and its fields, `tag=value` SOH one behind the other. Told: how many bytes.
+// Writes a message at the front of out: a type and its fields, `tag=value` SOH one behind the
+// other. Told: how many bytes.
 #[no_mangle]
 pub extern "C" fn rk_step_write(kind: u8, fields: &[u8], out: &mut [u8], told: &mut u64) -> u32
     ensures { λ r. ⌜ Tells (stepWriteOf kind (now (fields .entry)) (length (now (out .entry)))) (now (told .entry) ∷ []) r (now (told .exit) ∷ [])

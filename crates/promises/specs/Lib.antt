@@ -5,6 +5,7 @@ pub mod Demand2
 pub mod HostFrames
 pub mod RealTimes
 pub mod Tails
+pub mod OneSum
 pub mod Demand3
 pub mod Cuttings
 pub mod Marked

@@ -45,7 +45,8 @@ field-told NoField = refl
 pub field-one : (x y : Field) → fieldPaper x ≡ fieldPaper y → x ≡ y
 field-one x y e = sym (field-told x) ∙ ap (λ (p : Paper). toldField (p .values)) e ∙ field-told y
 
--- the piece at the front of t, which stands behind the place at, is a field, and the row is that of its tag and value
+-- the piece at the front of t, which stands behind the place at, is a field, and the row is that of
+-- its tag and value
 pub record Fitting (at : ℕ) (t : List ℕ) (row next : ℕ) : Type 0 where
   pub found : untilOf SOH t < length t
   pub is : isField (piece t) ≡ true

@@ -41,8 +41,8 @@ enum Head {
     Refused(StepRefusal),
 }
 
-// What reading finds: the type, the place of the fields behind the frame's start and their length, and the length of the frame.
-// A refusal carries nothing of the bytes.
+// What reading finds: the type, the place of the fields behind the frame's start and their length,
+// and the length of the frame. A refusal carries nothing of the bytes.
 pub enum Read {
     Frame {
         kind: u8,
@@ -59,7 +59,8 @@ pub enum StepWritten {
     Refused(StepRefusal),
 }
 
-// What stands at a place among the fields of a message: a field with its tag, the place and the length of its value and the place behind it; or none.
+// What stands at a place among the fields of a message: a field with its tag, the place and the
+// length of its value and the place behind it; or none.
 pub enum Field {
     At {
         tag: u64,
@@ -91,7 +92,8 @@ fn until(s: &[u8], from: usize, to: usize, b: u8) -> usize
     i
 }
 
-// The field at a place of the fields of a message. A tag ends at the first `=`; a place at or beyond the end has none.
+// The field at a place of the fields of a message. A tag ends at the first `=`; a place at or
+// beyond the end has none.
 pub fn field_at(fields: &[u8], place: usize) -> Field
     ensures { λ r. ⌜ fieldPaper r ≡ fieldAt place (now (fields .entry)) ⌝ }
 {
@@ -158,7 +160,8 @@ fn is_complete(kind: u8, seen: u32) -> bool
     seen & need == need
 }
 
-// The checks 7 and 26 in one pass: whether the fields are those of a type, each good, none twice and none missing.
+// The checks 7 and 26 in one pass: whether the fields are those of a type, each good, none twice
+// and none missing.
 fn is_fine(kind: u8, fields: &[u8]) -> bool
     ensures { λ r. ⌜ r ≡ fineOf kind (now (fields .entry)) ⌝ }
 {
@@ -212,7 +215,8 @@ fn is_unreal(fields: &[u8]) -> bool
     false
 }
 
-// All that is said of the fields of a message: 7, then 26. Where all is well one pass is enough; else it asks which of the two.
+// All that is said of the fields of a message: 7, then 26. Where all is well one pass is enough;
+// else it asks which of the two.
 fn judge(kind: u8, fields: &[u8]) -> Check
     ensures { λ r. ⌜ checkNumber r ≡ judgeOf kind (now (fields .entry)) ⌝ }
 {
@@ -279,7 +283,8 @@ fn type_at(bytes: &[u8], at: usize) -> Check
     }
 }
 
-// The checks 3 and 25 of a frame at a place whose body starts `start` bytes behind it and has len bytes.
+// The checks 3 and 25 of a frame at a place whose body starts `start` bytes behind it and has len
+// bytes.
 fn measured(bytes: &[u8], at: usize, start: usize, len: u64) -> Head
     requires { ⌜ (at + start ≤ length (now bytes)) × (start ≤ 23) × (start ≡ bodyStart (drop at (now bytes))) × (len ≡ bodyLength (drop at (now bytes))) ⌝ }
     ensures { λ r. ⌜ HeadSays r (orElse (longCheck (drop at (now (bytes .entry)))) (typeCheck (drop at (now (bytes .entry))))) (drop at (now (bytes .entry))) ⌝ }
@@ -475,7 +480,8 @@ fn store(kind: u8, fields: &[u8], out: &mut [u8])
     octets::lay(out, end, &trailer);
 }
 
-// Writes a message as a frame at the front of a lent buffer, and answers the frame's length. A refusal leaves every byte.
+// Writes a message as a frame at the front of a lent buffer, and answers the frame's length. A
+// refusal leaves every byte.
 pub fn write(kind: u8, fields: &[u8], out: &mut [u8]) -> StepWritten
     ensures { λ r. ⌜ (stepWrittenPaper r ≡ stepWriteOf kind (now (fields .entry)) (length (now (out .entry)))) × (now (out .exit) ≡ stepLeftOf kind (now (fields .entry)) (now (out .entry))) ⌝ }
 {

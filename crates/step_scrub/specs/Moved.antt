@@ -1,4 +1,5 @@
--- The sum after some bytes changed, from the sum before: they are taken off, and what stands there now is added.
+-- The sum after some bytes changed, from the sum before: they are taken off, and what stands there
+-- now is added.
 use Prim.Native.Nat.{ℕ, _+_, _-_, _%_, _<_, _≤_}
 use mathlib.Core.Path.{_≡_, refl, sym, ap, _∙_}
 use mathlib.Core.List.{List, [], _∷_, _++_}

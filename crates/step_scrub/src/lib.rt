@@ -22,8 +22,8 @@ fn is_private(tag: u64) -> bool
     (tag == 49) | (tag == 56) | (tag == 553) | (tag == 554) | (tag == 58)
 }
 
-// Paints the n bytes from a on with spaces, if they are the value of a private tag, and gives the sum after it: each byte
-// painted over is taken off, and a space added.
+// Paints the n bytes from a on with spaces, if they are the value of a private tag, and gives the
+// sum after it: each byte painted over is taken off, and a space added.
 fn paint_value(buf: &mut [u8], tag: u64, a: usize, n: usize, sum: u8) -> u8
     requires { ⌜ a + n ≤ length (now buf) ⌝ }
     ensures { λ r. ⌜ (now (buf .exit) ≡ pick (isPrivate tag) (laid a (replicate n 32) (now (buf .entry))) (now (buf .entry))) × (r ≡ sumMoved sum (now (buf .entry)) (now (buf .exit))) ⌝ }
@@ -90,7 +90,8 @@ fn store_sum(buf: &mut [u8], n: usize, sum: u8)
     digits::put_digits(buf, n + 3, 3, sum as u64);
 }
 
-// Paints the private values of the frame at the front of a lent buffer, and answers the frame's length. A refusal leaves every byte.
+// Paints the private values of the frame at the front of a lent buffer, and answers the frame's
+// length. A refusal leaves every byte.
 pub fn scrub(buf: &mut [u8]) -> StepWritten
     ensures { λ r. ⌜ (stepWrittenPaper r ≡ stepScrubOf (now (buf .entry))) × (now (buf .exit) ≡ stepScrubLeft (now (buf .entry))) ⌝ }
 {

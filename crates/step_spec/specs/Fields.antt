@@ -10,7 +10,8 @@ use Rattle.step_tags.specs.Table.{rowOf, has, needs}
 use Rattle.step_tags.specs.Forms.{some, formOk, isUnreal}
 use Rattle.step_spec.specs.Pieces.{SOH, equals, untilOf, pieces, closed}
 
--- a piece is a field if digits with no needless zero stand before its first `=`: they say the tag, and all behind it is the value
+-- a piece is a field if digits with no needless zero stand before its first `=`: they say the tag,
+-- and all behind it is the value
 unfoldable pub isField : List ℕ → Bool
 isField p = ltb (untilOf equals p) (length p) && some (decimalAt 0 (untilOf equals p) p .values)
 
@@ -32,7 +33,8 @@ allBelow (suc n) f = allBelow n f && f n
 unfoldable pub complete : ℕ → List Bool → Bool
 complete type seen = allBelow 27 (λ (i : ℕ). not (needs type i) || getD seen i false)
 
--- the pieces fit, none of a row that is seen already, and all that the type needs are there in the end
+-- the pieces fit, none of a row that is seen already, and all that the type needs are there in the
+-- end
 unfoldable pub passes : ℕ → List Bool → List (List ℕ) → Bool
 passes type seen [] = complete type seen
 passes type seen (p ∷ ps) = (fits type p && not (getD seen (rowOf (tagOf p)) false)) && passes type (set seen (rowOf (tagOf p)) true) ps
@@ -59,7 +61,8 @@ unrealIn (p ∷ ps) = pick (begins52 p) (isUnreal (drop 3 p)) (unrealIn ps)
 unfoldable pub judgeOf : ℕ → List ℕ → ℕ
 judgeOf type s = pick (unrealIn (pieces s)) 7 (pick (soundOf type s) 0 26)
 
--- the field at the front of t, which is what stands behind a place: its tag, the place and the length of its value, the next place
+-- the field at the front of t, which is what stands behind a place: its tag, the place and the
+-- length of its value, the next place
 unfoldable pub fieldFront : ℕ → List ℕ → Paper
 fieldFront at t =
     pick (ltb (untilOf SOH t) (length t) && isField (take (untilOf SOH t) t))

@@ -1,5 +1,5 @@
--- `read-given`: reading gives a number exactly if its condition holds. For any bytes the condition of the number given holds (`told`),
--- and each condition leads to its number (`from`).
+-- `read-given`: reading gives a number exactly if its condition holds. For any bytes the condition
+-- of the number given holds (`told`), and each condition leads to its number (`from`).
 use Prim.Native.Nat.{ℕ, zero, suc, _+_, _-_, _<_, _≤_}
 use mathlib.Core.Path.{_≡_, refl, sym, ap, _∙_}
 use mathlib.Core.Bool.{Bool, true, false, not, _&&_}

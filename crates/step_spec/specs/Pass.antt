@@ -1,4 +1,5 @@
--- One pass over the fields serves 7 and 26: it fails where a field does not fit, stands twice, lacks, or is a time that is not real.
+-- One pass over the fields serves 7 and 26: it fails where a field does not fit, stands twice,
+-- lacks, or is a time that is not real.
 use Prim.Native.Nat.{ℕ, zero, suc, _+_, _^_, _<_, _≤_}
 use mathlib.Core.Path.{_≡_, refl, sym, ap, _∙_}
 use mathlib.Core.Bool.{Bool, true, false, not, _&&_, _||_}

@@ -1,4 +1,5 @@
--- For each public function: wrong answers that its promise rules out, as tables of what is given and what is then wrong. Assumes nothing.
+-- For each public function: wrong answers that its promise rules out, as tables of what is given
+-- and what is then wrong. Assumes nothing.
 use Prim.Native.Nat.{ℕ}
 use mathlib.Core.Path.{_≡_, refl}
 use mathlib.Core.Bool.{Bool, true, false}
@@ -37,7 +38,8 @@ pub is-type-rules-out : RulesOut (Kept _ is-type-kinds.ps is-type-kinds.r is-typ
 unfolding among
 is-type-rules-out = ruled bools (λ (t : ℕ). among t types) (λ c p. p) _ refl
 
--- ROWS_OF, NEEDED_BY: a type. Row 8 is HeartBtInt, row 2 MsgSeqNum, rows 25 and 26 those of a sequence reset
+-- ROWS_OF, NEEDED_BY: a type. Row 8 is HeartBtInt, row 2 MsgSeqNum, rows 25 and 26 those of a
+-- sequence reset
 abbrev pub rows-of-wrong : List (Row ℕ ℕ)
 rows-of-wrong =
     48 only 0x2007F

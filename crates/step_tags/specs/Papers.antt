@@ -1,4 +1,5 @@
--- A field's rule as numbers: its row, the letter of its form, its greatest width. A tag of no row has the row behind the last.
+-- A field's rule as numbers: its row, the letter of its form, its greatest width. A tag of no row
+-- has the row behind the last.
 use Prim.Native.Nat.{ℕ}
 use mathlib.Core.List.{[], _∷_}
 use Rattle.terms.specs.Paper.{Paper, answer}

@@ -1,4 +1,5 @@
--- Checks in a row. A check is a number: 0 where it passes, 1 where more bytes must come before it is decided, else its refusal.
+-- Checks in a row. A check is a number: 0 where it passes, 1 where more bytes must come before it
+-- is decided, else its refusal.
 use Prim.Native.Nat.{ℕ}
 use mathlib.Core.Path.{_≡_, sym, ap, _∙_}
 use mathlib.Core.Logic.{⊎-elim}

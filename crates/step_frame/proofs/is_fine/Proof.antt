@@ -1,5 +1,5 @@
--- `is_fine`. The invariant: what is left is fine with the rows seen so far exactly if all is, and they are 27 bits. The measure is what is left.
--- Assumes nothing.
+-- `is_fine`. The invariant: what is left is fine with the rows seen so far exactly if all is, and
+-- they are 27 bits. The measure is what is left. Assumes nothing.
 use Rattle.step_spec.specs.Pieces.{SOH, untilOf}
 use Prim.Native.Nat.{ℕ, suc, _+_, _-_, _^_, _<_, _≤_}
 use lib.Seq.{drop-drop}

@@ -1,4 +1,5 @@
--- `is_unreal`. The invariant: the first piece that begins `52=` is the first one of what is left. The measure is what is left. Assumes nothing.
+-- `is_unreal`. The invariant: the first piece that begins `52=` is the first one of what is left.
+-- The measure is what is left. Assumes nothing.
 use Rattle.step_spec.specs.FieldLaws.{unreal-here, unreal-next, unreal-end, unreal-none}
 use borrow.Author.Tests.{ltb-true}
 use Prim.Native.Nat.{ℕ}

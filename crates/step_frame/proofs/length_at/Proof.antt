@@ -1,4 +1,5 @@
--- `length_at`: the window of ten bytes is a part of the bytes; each return is one outcome of its check. Assumes nothing.
+-- `length_at`: the window of ten bytes is a part of the bytes; each return is one outcome of its
+-- check. Assumes nothing.
 use Rattle.step_spec.specs.FrontLaws.{run-le}
 use Rattle.step_spec.specs.HeadLaws.{window-part, window-length, window-byte, window-number, length-empty, length-many, length-zero, length-more, length-open, length-none, length-good}
 use Rattle.step_spec.specs.Frame.{bodyStart, bodyLength, window, digitRun, lengthCheck}

@@ -1,4 +1,5 @@
--- `until`. The invariant: b stands nowhere before i, so that the first one from i on is the first. The measure is what is left. Assumes nothing.
+-- `until`. The invariant: b stands nowhere before i, so that the first one from i on is the first.
+-- The measure is what is left. Assumes nothing.
 use Rattle.step_spec.specs.PieceLaws.{part, until-stop, until-next, until-past}
 use Rattle.step_spec.specs.Pieces.{untilOf}
 use lib.ListN.{length}

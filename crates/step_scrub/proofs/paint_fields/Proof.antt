@@ -1,5 +1,5 @@
--- `paint_fields`. The invariant: what is left is fields, painted behind what stands it makes up the whole, and the sum is moved
--- by what was painted. The measure is what is left. Assumes nothing.
+-- `paint_fields`. The invariant: what is left is fields, painted behind what stands it makes up the
+-- whole, and the sum is moved by what was painted. The measure is what is left. Assumes nothing.
 use Rattle.step_scrub.specs.Moved.{sumMoved, moved-same, moved-on}
 use Rattle.step_scrub.specs.Turns.{closed-found, field-here, fields-cut, painted-done, turn-drop, turn-take, turn-length}
 use Rattle.step_scrub.specs.Scrubbed.{painted, allFields}

@@ -1,4 +1,5 @@
--- `scrub`: a refusal is reading's; else the fields are painted as a part, and the sum moved. Assumes nothing.
+-- `scrub`: a refusal is reading's; else the fields are painted as a part, and the sum moved.
+-- Assumes nothing.
 use Rattle.step_spec.specs.Frame.{stepReadOf}
 use Rattle.step_scrub.specs.ScrubLaws.{Told, told, end-is, part-is, end-in, sum-there, closed-fields, all-fields, same-long, painting, renewing, scrub-off, scrub-on}
 use Rattle.step_scrub.specs.Scrubbed.{painted}

@@ -1,4 +1,5 @@
--- `needed_by`: in an arm the type is known, and the table computes; what is no type has no row. Assumes nothing.
+-- `needed_by`: in an arm the type is known, and the table computes; what is no type has no row.
+-- Assumes nothing.
 use mathlib.Core.Path.{sym}
 use borrow.Author.Tests.{ne-eqb}
 use Rattle.step_tags.specs.Masks.{maskOf}

@@ -1,4 +1,5 @@
--- `rule_of`: in an arm the tag is known, and the table computes; in the last it is none of the 27. Assumes nothing.
+-- `rule_of`: in an arm the tag is known, and the table computes; in the last it is none of the 27.
+-- Assumes nothing.
 use mathlib.Core.Path.{_≡_}
 use borrow.Author.Tests.{ne-eqb}
 use Rattle.step_tags.specs.Table.{rowOf, rowIn, rowAt, rows}
