@@ -16,3 +16,4 @@ pub mod Walk
 pub mod Given
 pub mod Lowest
 pub mod Renamed
+pub mod Samples
