@@ -85,6 +85,7 @@ use Rattle.market_values.proofs.OneAnswer as market_values
 use Rattle.step_frame.proofs.OneAnswer as step_frame
 use Rattle.step_scrub.proofs.OneAnswer as step_scrub
 use Rattle.step_tags.proofs.OneAnswer as step_tags
+use Rattle.host_market.proofs.OneAnswer as host_market
 
 -- "EVERY PUBLIC ENTRY POINT TAKES ALL INPUT": of each public function, the theorem that its promise fixes the answer for all input.
 -- (tools/promises compares these lists with the public functions.)
@@ -400,6 +401,14 @@ step-tags-answers =
     let fit-one-answer = step_tags.fit-one-answer in
     named
 
+-- host_market
+host-market-answers : Named
+host-market-answers =
+    let rk-market-check-one-answer = host_market.rk-market-check-one-answer in
+    let rk-market-values-one-answer = host_market.rk-market-values-one-answer in
+    let rk-market-write-one-answer = host_market.rk-market-write-one-answer in
+    named
+
 -- "AND REFUSES WHAT IT CAN'T USE WITH A NUMBER FROM DOCUMENT 01"
 
 -- the numbers of document 01's table, 1 to 6, 8 to 18 and 20, and of the requests: 7 (CR 6), 19 and 29 (CR 1)
@@ -671,6 +680,15 @@ step-scrub-buffers : Named
 step-scrub-buffers =
     let scrub-one-buffer = step_scrub.scrub-one-buffer in
     let scrub-refused-keeps = step_scrub.scrub-refused-keeps in
+    named
+
+-- host_market
+host-market-buffers : Named
+host-market-buffers =
+    let rk-market-values-one-buffer = host_market.rk-market-values-one-buffer in
+    let rk-market-values-refused-keeps = host_market.rk-market-values-refused-keeps in
+    let rk-market-write-one-buffer = host_market.rk-market-write-one-buffer in
+    let rk-market-write-refused-keeps = host_market.rk-market-write-refused-keeps in
     named
 
 -- "ONLY A TICK NUMBER TOO FAR AHEAD CHANGES THE LEDGER, AND ONLY ITS KNOWN TOP."
