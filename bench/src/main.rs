@@ -7,7 +7,9 @@
 
 mod made;
 mod plain;
+mod plain_step;
 mod shift;
+mod step;
 
 use made::Dice;
 use rietknoest_host as host;
@@ -575,6 +577,7 @@ fn main() {
     println!("|---|---|---|---|---|---|");
     sum_and_fill();
     replies();
+    step::rows();
     captures("64 KiB", KIB_64);
     if !small {
         captures("100 MB", 100 * MB);
