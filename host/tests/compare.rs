@@ -199,6 +199,11 @@ impl Answers for Library {
         })
     }
 
+    fn missing(&self, words: &Words, channel: Channel, a: Tick, b: Tick) -> Answer<u64> {
+        let ledger = Ledger::of_words(*words);
+        plain(ledger.missing_between(channel_of(channel), tick_of(a), tick_of(b)))
+    }
+
     fn walk(&self, capture: &[u8], records: &mut [u8]) -> Answer<Walked> {
         let walked = plain(host::walk(capture, records))?;
         let most = host::records_room(capture.len());

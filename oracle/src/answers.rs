@@ -124,6 +124,7 @@ pub trait Answers {
         status: u8,
     ) -> Answer<Settled>;
     fn told(&self, ledger: &Words) -> Answer<Told>;
+    fn missing(&self, ledger: &Words, channel: Channel, a: Tick, b: Tick) -> Answer<u64>;
 
     fn walk(&self, capture: &[u8], records: &mut [u8]) -> Answer<Walked>;
     fn listing(&self, records: &[u8], walked: &Walked, text: &mut [u8]) -> Answer<usize>;
@@ -292,6 +293,10 @@ impl Answers for Oracle {
             first: ledger[7],
             last: ledger[8],
         })
+    }
+
+    fn missing(&self, ledger: &Words, channel: Channel, a: Tick, b: Tick) -> Answer<u64> {
+        plain(Ledger::of_words(*ledger).missing_between(channel, a, b).1)
     }
 
     fn walk(&self, capture: &[u8], records: &mut [u8]) -> Answer<Walked> {

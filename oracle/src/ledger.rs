@@ -12,6 +12,9 @@ pub const PLACES: u64 = 256;
 /// "broken off .. at 200 numbers"
 pub const MOST_ASKED: u64 = 200;
 
+/// A span of fewer numbers is counted number by number.
+const SHORT: u64 = 1_000;
+
 /// "the pending request": no request is a case of its own (0.9).
 #[derive(Clone, Copy, Debug, PartialEq, Eq)]
 pub enum Pending {
@@ -339,11 +342,74 @@ impl Ledger {
         (self, Ok(self.top.0 - self.floor.0 - held))
     }
 
+    /// CR 8: how many numbers from a to b are missing, both ends counted; "an
+    /// empty span (b below a) answers 0". Checks 13, 18, then 10 on a and b both
+    /// (8.1).
+    pub fn missing_between(self, channel: Channel, a: Tick, b: Tick) -> (Ledger, Result<u64, No>) {
+        if let Err(no) = self.check(channel) {
+            return (self, Err(no));
+        }
+        // 10: "an a or b that is 0 or too long"
+        if [a.0, b.0].iter().any(|n| *n == 0 || *n > MOST) {
+            return (self, Err(No::Number));
+        }
+        let short = b.0 < a.0 || b.0 - a.0 < SHORT;
+        let count = if short {
+            self.counted(a.0, b.0)
+        } else {
+            self.reckoned(a.0, b.0)
+        };
+        (self, Ok(count))
+    }
+
+    /// "the count made number by number": those up to the top that are neither
+    /// received nor given up.
+    fn counted(self, a: u64, b: u64) -> u64 {
+        let missing = |n: &u64| *n <= self.top.0 && !self.settled(*n);
+        (a..=b).filter(missing).count() as u64
+    }
+
+    /// The same, for a span that is too long for it: all numbers of it above the
+    /// floor and up to the top, but for the held ones among them.
+    fn reckoned(self, a: u64, b: u64) -> u64 {
+        let (low, high) = (a.max(self.floor.0 + 1), b.min(self.top.0));
+        if high < low {
+            return 0;
+        }
+        let numbers = (self.floor.0 + 1..).zip(self.held);
+        let held = numbers.filter(|(n, held)| *held && (low..=high).contains(n));
+        high - low + 1 - held.count() as u64
+    }
+
     /// How many numbers above the floor are held. Checks 13 likewise (0.10).
     pub fn held(self) -> (Ledger, Result<u64, No>) {
         if !self.sound() {
             return (self, Err(No::State));
         }
         (self, Ok(self.held.iter().filter(|h| **h).count() as u64))
+    }
+}
+
+#[cfg(test)]
+mod tests {
+    use super::*;
+    use crate::made::{any_words, Dice};
+
+    /// Both counts of a span are the same.
+    #[test]
+    fn counted_and_reckoned() {
+        let mut more = 0;
+        for case in 0..20_000 {
+            let d = &mut Dice::new(8, case);
+            let ledger = Ledger::of_words(any_words(d));
+            if ledger.sound() {
+                let a = (ledger.floor.0 + d.below(300)).saturating_sub(20).max(1);
+                let b = a + d.below(300);
+                let count = ledger.counted(a, b);
+                assert_eq!(count, ledger.reckoned(a, b));
+                more += u64::from(count > 0);
+            }
+        }
+        assert!(more > 1_000, "{more}");
     }
 }

@@ -119,6 +119,12 @@ fn ledger<A: Answers>(run: &mut Run<A>, d: &mut Dice) {
             }
         };
         run.told(&words);
+        let [_, floor, top, ..] = words;
+        let near = floor.saturating_add(d.below(300));
+        let edge = d.edge();
+        let ends = [near, top, 1, floor, edge];
+        let (a, b) = (d.of(&ends), near.saturating_add(d.below(400)));
+        run.missing(&words, channel, a, d.of(&[b, b, top, a, edge]));
         if answer == 13 {
             words = made::any_words(d);
         }

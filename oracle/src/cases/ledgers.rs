@@ -201,6 +201,7 @@ pub fn ledgers<A: Answers>(run: &mut Run<A>) {
     passing(run);
     turning(run);
     giving_up(run);
+    spans(run);
     runs(run);
 }
 
@@ -451,6 +452,50 @@ fn giving_up<A: Answers>(run: &mut Run<A>) {
         let state = state(10, 20, &[12, 15], (11, 14));
         let calls = [reply(11, status), Told, REQUEST];
         run.on(&format!("status {status} gives up nothing"), state, &calls);
+    }
+}
+
+/// How many are missing from a to b (CR 8), with a and b at and beside every
+/// bound, over held numbers and over the edges of words and of the map.
+fn spans<A: Answers>(run: &mut Run<A>) {
+    let broken = broken();
+    let turned = turned();
+    let turned = turned
+        .iter()
+        .map(|(_, state)| ("a map that goes round", *state));
+    let states = sound().into_iter().chain(turned).chain(broken);
+    for (name, state) in states {
+        run.case(&format!("missing between, where: {name}"));
+        run.more(&joined(&state));
+        let [channel, floor, top, ..] = state;
+        let channel = channel.min(65_535) as u16;
+        let up = |n: u64| floor.saturating_add(n);
+        let ends = [
+            0,
+            1,
+            floor,
+            up(1),
+            up(2),
+            up(63),
+            up(64),
+            up(65),
+            up(128),
+            up(256),
+            up(257),
+            top,
+            top.saturating_add(1),
+            MOST,
+            OVER,
+            MAX,
+        ];
+        for a in ends {
+            for b in ends {
+                run.missing(&state, channel, a, b);
+            }
+        }
+        // 13, then 18, then 10.
+        run.missing(&state, channel ^ 1, 0, 0);
+        run.missing(&state, channel ^ 1, 1, top);
     }
 }
 

@@ -24,7 +24,7 @@ use crate::record::SIZE;
 use text::{hex, joined, lent, Text};
 
 /// Every number that each call can give: cases that give fewer try too little.
-pub const NUMBERS: [text::Numbers; 19] = [
+pub const NUMBERS: [text::Numbers; 20] = [
     ("read", &[0, 1, 2, 3, 4, 5, 6, 7]),
     ("write", &[0, 2, 3, 4, 6, 7, 8]),
     ("search", &[0, 9]),
@@ -38,6 +38,7 @@ pub const NUMBERS: [text::Numbers; 19] = [
     ("request", &[0, 13, 14, 15, 18]),
     ("reply", &[0, 13, 16, 17, 18]),
     ("told", &[0, 13]),
+    ("missing", &[0, 10, 13, 18]),
     ("walk", &[0, 8]),
     ("listing", &[0, 8, 13]),
     ("clean", &[0, 8]),
@@ -228,6 +229,13 @@ impl<'a, A: Answers> Run<'a, A> {
             let counts = [t.missing, t.held, t.first, t.last];
             joined(&[&[t.channel, t.floor, t.top][..], &counts].concat())
         });
+    }
+
+    fn missing(&mut self, ledger: &Words, channel: u16, a: u64, b: u64) {
+        let on = Channel(channel);
+        let answer = self.answers.missing(ledger, on, Tick(a), Tick(b));
+        self.text.line("missing", &answer, u64::to_string);
+        self.text.more(&format!("{channel} {a} {b}"));
     }
 
     // CAPTURES

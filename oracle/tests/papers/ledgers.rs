@@ -367,3 +367,28 @@ fn status_4_gives_up() {
     let nothing = Ok(Settled::default());
     assert_eq!((next, answer), (state(10, 20, &[], None), nothing));
 }
+
+/// CR 8.
+#[test]
+fn missing_between() {
+    let between = |l: Ledger, a, b| l.missing_between(C, Tick(a), Tick(b)).1;
+    let l = state(10, MOST, &[12, 15], None);
+    assert_eq!(between(l, 1, MOST), Ok(MOST - 12));
+    assert_eq!(between(l, 1, 10), Ok(0));
+    assert_eq!(between(l, 11, 11), Ok(1));
+    assert_eq!(between(l, 12, 12), Ok(0));
+    assert_eq!(between(l, 11, 15), Ok(3));
+    assert_eq!(between(l, 15, 11), Ok(0));
+    assert_eq!(between(l, MOST, 1), Ok(0));
+    // Numbers above the top are not missing.
+    assert_eq!(between(state(10, 20, &[], None), 1, MOST), Ok(10));
+    // 13, then 18, then 10 on both.
+    for (a, b) in [(0, 1), (1, 0), (MOST + 1, 1), (1, MOST + 1), (0, u64::MAX)] {
+        assert_eq!(between(l, a, b), Err(No::Number));
+        let other = l.missing_between(OTHER, Tick(a), Tick(b));
+        assert_eq!(other, (l, Err(No::Channel)));
+        let broken = state(10, 5, &[], None);
+        let answer = broken.missing_between(OTHER, Tick(a), Tick(b));
+        assert_eq!(answer, (broken, Err(No::State)));
+    }
+}

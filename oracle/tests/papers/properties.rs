@@ -284,6 +284,12 @@ fn the_ledger_agrees_with_plain_sets() {
             assert_eq!((l.floor.0, l.top.0), (sets.floor(), sets.top));
             assert_eq!(l.held(), (l, Ok(sets.held())));
             assert_eq!(l.missing(), (l, Ok(sets.missing())));
+            let (a, b) = (1 + dice.roll(600), 1 + dice.roll(600));
+            let between = (a..=b).filter(|n| *n <= sets.top && !sets.settled(*n));
+            let count = Ok(between.count() as u64);
+            assert_eq!(l.missing_between(C, Tick(a), Tick(b)), (l, count));
+            let all = l.missing_between(C, Tick(1), Tick(MOST)).1;
+            assert_eq!(all, Ok(sets.missing()));
             // Deliveries rise, each once, and every number up to the floor was
             // either received and delivered, or given up, never both; the four
             // terms add up to the top.
