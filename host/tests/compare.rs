@@ -120,7 +120,7 @@ impl Answers for Library {
     }
 
     fn private(&self, msg_type: [u8; 4], body: &[u8]) -> Answer<Vec<Span>> {
-        let spans = host::private_spans(name(msg_type), body);
+        let spans = plain(host::private_spans(name(msg_type), body))?;
         let span = |s: &host::Span| Span {
             place: s.place,
             len: s.len,

@@ -12,7 +12,7 @@ use crate::ledger::{Ledger, Range, Settled, Words};
 use crate::listing::listed;
 use crate::numbers::{Channel, Tick};
 use crate::rules::Kind;
-use crate::scrub::{private, scrub, Span};
+use crate::scrub::{private_of, scrub, Span};
 use crate::stream::{State, Stream, KEPT};
 use crate::walk::{numbers_of, walk};
 
@@ -235,7 +235,7 @@ impl Answers for Oracle {
     }
 
     fn private(&self, msg_type: [u8; 4], body: &[u8]) -> Answer<Vec<Span>> {
-        Ok(Kind::of(msg_type).map_or(vec![], |kind| private(kind, body)))
+        plain(private_of(msg_type, body))
     }
 
     fn entries(&self, body: &[u8]) -> Answer<Vec<(Entry, u64)>> {

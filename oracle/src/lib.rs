@@ -24,4 +24,5 @@ pub mod rules;
 pub mod scrub;
 pub mod step;
 pub mod stream;
+pub mod tails;
 pub mod walk;

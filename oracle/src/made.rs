@@ -294,7 +294,28 @@ fn text(d: &mut Dice, n: usize, ticks: &mut Ticks) -> Vec<u8> {
     text
 }
 
-/// A sound body of that type; `most` is about how long its open part may be.
+/// A stream, an ExecType and a tail's length: mostly those that 000 pairs.
+fn tail_of(d: &mut Dice, most: usize) -> ([u8; 5], u8, usize) {
+    let named = [b"MD211", b"MD212", b"MD213", b"MD214", b"MD215", b"MD216"];
+    let any = d.len(most.min(8_119) + 1);
+    let (stream, exec, tail) = match d.below(8) {
+        0..=2 => (*d.of(&named), d.of(b"04"), 139),
+        3 | 4 => (*b"MD217", b'F', 53),
+        5 => (*b"MD217", d.of(b"04"), any),
+        6 => (*d.of(&named), b'F', any),
+        _ => {
+            let stream = d.bytes(5).try_into().expect("five bytes");
+            (stream, d.of(b"04F"), any)
+        }
+    };
+    if d.once_in(20) {
+        return (stream, exec, d.of(&[52, 53, 54, 138, 139, 140, any]));
+    }
+    (stream, exec, tail)
+}
+
+/// A sound body of that type, save that one M201 in twenty may have a tail of
+/// another length; `most` is about how long its open part may be.
 pub fn body(d: &mut Dice, name: &[u8; 4], ticks: &mut Ticks, most: usize) -> Vec<u8> {
     let mut b = Vec::new();
     match name {
@@ -379,13 +400,14 @@ pub fn body(d: &mut Dice, name: &[u8; 4], ticks: &mut Ticks, most: usize) -> Vec
             b.push(13);
             push(&mut b, 2, channel(d));
             push(&mut b, 8, ticks.next(d));
-            b.extend(d.bytes(13));
+            let (stream, exec, tail) = tail_of(d, most);
+            b.extend(stream);
+            b.extend(d.bytes(8));
             push(&mut b, 4, d.up_to(1_000_000_000));
-            b.push(d.of(b"04F"));
+            b.push(exec);
             push(&mut b, 8, d.up_to(10_000_000_000_000));
             push(&mut b, 8, d.up_to(1_000_000_000_000_000));
-            let n = d.len(most.min(8_119) + 1);
-            b.extend(text(d, n, ticks));
+            b.extend(text(d, tail, ticks));
         }
     }
     b

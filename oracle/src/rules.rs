@@ -1,6 +1,7 @@
 //! The table of types: lengths and field rules.
 
 use crate::bytes::number;
+use crate::tails;
 
 /// "A whole frame is at most 8,192 bytes, so a body is at most 8,164."
 pub const MOST_BODY: usize = 8_164;
@@ -272,4 +273,6 @@ fn m201(body: &[u8]) -> bool {
         && digits(time, 9)
         && digits(price, 13)
         && digits(quantity, 15)
+        // CR 2: "a tail length that doesn't suit its layout is 6"
+        && tails::suits(body)
 }

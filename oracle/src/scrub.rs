@@ -3,7 +3,8 @@
 use crate::answer::No;
 use crate::bytes::{put, sum};
 use crate::frame::{read, CHECK_SUM, HEADER};
-use crate::rules::Kind;
+use crate::rules::{Kind, MOST_BODY};
+use crate::tails;
 
 /// A private part of a body: where it starts, its length, and the byte that
 /// replaces each of its bytes.
@@ -23,8 +24,21 @@ fn text(place: usize, len: usize) -> Span {
     }
 }
 
-/// The private parts of a body.
-pub fn private(kind: Kind, body: &[u8]) -> Vec<Span> {
+/// The private parts of a body of a type that is asked for by itself: 2, 3 and 4
+/// as reading gives them, else all of them, which lie within the body.
+pub fn private_of(msg_type: [u8; 4], body: &[u8]) -> Result<Vec<Span>, No> {
+    let kind = Kind::of(msg_type).ok_or(No::Type)?;
+    if body.len() > MOST_BODY {
+        return Err(No::Long);
+    }
+    if !kind.length_suits(body.len()) {
+        return Err(No::Length);
+    }
+    Ok(private(kind, body))
+}
+
+/// The private parts of a body whose length suits the type.
+fn private(kind: Kind, body: &[u8]) -> Vec<Span> {
     match kind {
         // "both CompIDs of S001"
         Kind::S001 => vec![text(0, 32), text(32, 32)],
@@ -32,10 +46,17 @@ pub fn private(kind: Kind, body: &[u8]) -> Vec<Span> {
         Kind::S002 => vec![text(4, 256)],
         // "RejectText of P002"
         Kind::P002 => vec![text(20, 32)],
-        // "everything after the 45 fixed bytes of an M201 body becomes spaces"
-        Kind::M201 if body.len() > 45 => vec![text(45, body.len() - 45)],
+        // CR 2: "Tick tails are not all private."
+        Kind::M201 => tails::private(body)
+            .into_iter()
+            .map(|(place, len, fill)| Span {
+                place: place as u64,
+                len: len as u64,
+                fill,
+            })
+            .collect(),
         // M101, M102, S003 and P001 have nothing private (0.19).
-        Kind::M201 | Kind::M101 | Kind::M102 | Kind::S003 | Kind::P001 => vec![],
+        Kind::M101 | Kind::M102 | Kind::S003 | Kind::P001 => vec![],
     }
 }
 

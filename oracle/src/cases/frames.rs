@@ -178,6 +178,7 @@ pub fn frames<A: Answers>(run: &mut Run<A>) {
     times(run);
     fields(run);
     lengths(run);
+    tails(run);
     types(run);
     orders(run);
     sums_and_cuts(run);
@@ -322,6 +323,32 @@ fn lengths<A: Answers>(run: &mut Run<A>) {
         }
         let most = mended(with(&framed(name, &body), 20, 4, 4_294_967_295));
         run.frame(&format!("{title} with the largest BodyLength"), &most);
+    }
+}
+
+/// Each stream beside and among those that 000 names, with each ExecType, and
+/// tails of every length beside its layouts'.
+fn tails<A: Answers>(run: &mut Run<A>) {
+    let streams = [
+        b"MD210", b"MD211", b"MD212", b"MD213", b"MD214", b"MD215", b"MD216", b"MD217", b"MD218",
+        b"MD299", b"md211", b"MD21 ",
+    ];
+    for stream in streams {
+        for exec in *b"04F1" {
+            for tail in [0, 1, 28, 52, 53, 54, 138, 139, 140, 8_119] {
+                let named = String::from_utf8_lossy(stream);
+                let title = format!("{named}, {}, a tail of {tail}", char::from(exec));
+                run.body(&title, b"M201", &m201(42, stream, exec, tail));
+            }
+        }
+    }
+    // Every byte of a tail may be anything.
+    for byte in [0, 0x20, 0x7F, 0xFF] {
+        for (stream, exec, tail) in [(b"MD211", b'0', 139), (b"MD217", b'F', 53)] {
+            let mut body = m201(42, stream, exec, tail);
+            body[45..].fill(byte);
+            run.body(&format!("a tail of bytes {byte}"), b"M201", &body);
+        }
     }
 }
 

@@ -29,7 +29,7 @@ pub const NUMBERS: [text::Numbers; 20] = [
     ("write", &[0, 2, 3, 4, 6, 7, 8]),
     ("search", &[0, 9]),
     ("scrub", &[0, 1, 2, 3, 4, 5, 6, 7]),
-    ("private", &[0]),
+    ("private", &[0, 2, 3, 4]),
     ("entries", &[0, 3, 4, 6]),
     ("entry", &[0, 20]),
     ("open", &[0, 10]),

@@ -188,7 +188,7 @@ fn m201_security_type_and_exec_type() {
 #[test]
 fn m201_widths() {
     for tail in [0, 53, 139] {
-        let body = m201(42, b"MD217", b'F', tail);
+        let body = m201(42, b"MD299", b'F', tail);
         bounded(b"M201", &body, 1, 2, 4, 0);
         bounded(b"M201", &body, 3, 8, 18, 1);
         bounded(b"M201", &body, 24, 4, 9, 0);

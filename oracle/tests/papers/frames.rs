@@ -49,7 +49,7 @@ fn lengths_of_the_table() {
 #[test]
 fn an_m201_and_an_m101_of_8164_read() {
     assert_eq!(
-        reads(&framed(b"M201", &m201(42, b"MD217", b'F', 8_164 - 45))),
+        reads(&framed(b"M201", &m201(42, b"MD299", b'F', 8_164 - 45))),
         0
     );
     assert_eq!(reads(&framed(b"M101", &[0; 8_164])), 0);

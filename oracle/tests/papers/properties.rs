@@ -43,8 +43,8 @@ impl Dice {
                 b"M201",
                 m201(
                     1 + self.roll(40),
-                    b"MD217",
-                    b'F',
+                    [b"MD299", b"MD211", b"MD217"][self.roll(3) as usize],
+                    [b'F', b'0'][self.roll(2) as usize],
                     [0, 53, 139, 7][self.0 as usize % 4],
                 ),
             ),

@@ -42,12 +42,33 @@ fn reject_text_of_p002() {
 #[test]
 fn tail_of_m201() {
     for tail in [0, 1, 53, 139, 8_164 - 45] {
-        let mut body = m201(42, b"MD217", b'F', tail);
+        let mut body = m201(42, b"MD299", b'F', tail);
         body[45..].fill(b' ');
         assert_eq!(
-            scrubbed(b"M201", &m201(42, b"MD217", b'F', tail)),
+            scrubbed(b"M201", &m201(42, b"MD299", b'F', tail)),
             framed(b"M201", &body)
         );
+    }
+}
+
+/// CR 2: side and order number stay, member, trader and investor go.
+#[test]
+fn tails_that_000_names() {
+    for stream in [b"MD211", b"MD212", b"MD213", b"MD214", b"MD215", b"MD216"] {
+        for exec in *b"04" {
+            let order = m201(42, stream, exec, 139);
+            let mut body = order.clone();
+            body[64..88].fill(b' ');
+            body[120..152].fill(b' ');
+            assert_eq!(scrubbed(b"M201", &order), framed(b"M201", &body));
+        }
+    }
+    assert_eq!(scrubbed(b"M201", &trade(42)), framed(b"M201", &trade(42)));
+    for (stream, exec, tail) in [(b"MD211", b'F', 139), (b"MD217", b'0', 53)] {
+        let other = m201(42, stream, exec, tail);
+        let mut body = other.clone();
+        body[45..].fill(b' ');
+        assert_eq!(scrubbed(b"M201", &other), framed(b"M201", &body));
     }
 }
 
