@@ -2,9 +2,11 @@
 //! texts compared line by line. All data are made up.
 //!
 //!     RK_INPUTS=1000000 RK_SEED=1 cargo test --release -p rietknoest-host --test compare -- --nocapture
+//!
+//! A run that does not say takes 200,000 generated cases; the gate says a million.
 
 use oracle::answers::{Answer, Answers, Fed, Oracle, Parts, Shown, Told, Walked};
-use oracle::cases::text::{count, difference, untried, Given};
+use oracle::cases::text::{compare, difference};
 use oracle::cases::{self, NUMBERS};
 use oracle::clean::Cleaned;
 use oracle::entries::Entry;
@@ -14,10 +16,6 @@ use oracle::numbers::{Channel, Tick};
 use oracle::scrub::Span;
 use rietknoest_host as host;
 use rietknoest_host::{ChannelNumber, Ledger, Refusal, SessionNumber, Stream, TickNumber};
-use std::env;
-
-/// As many generated cases as a run takes that does not say; the gate says a million.
-const INPUTS: u64 = 200_000;
 
 // THE LIBRARY AS WHAT ANSWERS
 
@@ -283,35 +281,9 @@ fn cases_made_by_hand() {
     }
 }
 
-fn setting(name: &str, default: u64) -> u64 {
-    env::var(name).map_or(default, |v| v.parse().expect("a number"))
-}
-
 #[test]
 fn generated_cases() {
-    let inputs = setting("RK_INPUTS", INPUTS);
-    let seed = setting("RK_SEED", 1);
-    let first = setting("RK_FIRST", 0);
-    let mut given = Given::new();
-    for n in first..first + inputs {
-        let both = std::panic::catch_unwind(|| {
-            let ours = cases::generated(&Library, seed, n);
-            let theirs = cases::generated(&Oracle, seed, n);
-            (difference(&ours, &theirs), theirs)
-        });
-        let again = format!("RK_SEED={seed} RK_FIRST={n} RK_INPUTS=1 shows it again");
-        let Ok((difference, text)) = both else {
-            panic!("a case can't be made: {again}");
-        };
-        if let Some(difference) = difference {
-            panic!("the programs differ: {again}\n{difference}");
-        }
-        count(&text, &mut given);
-    }
-    println!("{inputs} cases of seed {seed} from {first} on: no difference");
-    for (call, numbers) in &given {
-        println!("{call} gave {numbers:?}");
-    }
-    let untried = untried(&given, &NUMBERS);
-    assert!(untried.is_empty() || inputs < INPUTS, "{untried:?}");
+    let ours = |seed, n| cases::generated(&Library, seed, n);
+    let theirs = |seed, n| cases::generated(&Oracle, seed, n);
+    compare(&NUMBERS, 1, ours, theirs);
 }

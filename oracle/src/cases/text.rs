@@ -3,7 +3,9 @@
 
 use crate::answers::Answer;
 use std::collections::{BTreeMap, BTreeSet};
+use std::env;
 use std::fmt::Write;
+use std::panic::{catch_unwind, AssertUnwindSafe};
 
 /// Bytes in hex; `-` for none.
 pub fn hex(bytes: &[u8]) -> String {
@@ -121,6 +123,49 @@ pub fn difference(ours: &str, theirs: &str) -> Option<String> {
         }
     }
     Some(format!("case: {case}\nthe library's text ends there"))
+}
+
+/// A number that the environment says, or else the default.
+fn setting(name: &str, default: u64) -> u64 {
+    env::var(name).map_or(default, |v| v.parse().expect("a number"))
+}
+
+/// As many generated cases as a run takes that does not say.
+const INPUTS: u64 = 200_000;
+
+/// Puts generated cases to two programs, each told by its seed and number:
+/// `RK_INPUTS` of them of `RK_SEED` from `RK_FIRST` on, or one in so many where
+/// cases are long. Panics at the first difference, and where a number of the
+/// table was never given though the run was no shorter than one that does not
+/// say how long.
+pub fn compare(
+    table: &[Numbers],
+    one_in: u64,
+    ours: impl Fn(u64, u64) -> String,
+    theirs: impl Fn(u64, u64) -> String,
+) {
+    let inputs = setting("RK_INPUTS", INPUTS).div_ceil(one_in);
+    let seed = setting("RK_SEED", 1);
+    let first = setting("RK_FIRST", 0);
+    let mut given = Given::new();
+    for n in first..first + inputs {
+        let again = format!("RK_SEED={seed} RK_FIRST={n} RK_INPUTS=1 shows it again");
+        let made = catch_unwind(AssertUnwindSafe(|| (ours(seed, n), theirs(seed, n))));
+        let Ok((ours, theirs)) = made else {
+            panic!("a case can't be made: {again}");
+        };
+        if let Some(difference) = difference(&ours, &theirs) {
+            panic!("the programs differ: {again}\n{difference}");
+        }
+        count(&theirs, &mut given);
+    }
+    println!("{inputs} cases of seed {seed} from {first} on: no difference");
+    for (call, numbers) in &given {
+        println!("{call} gave {numbers:?}");
+    }
+    let untried = untried(&given, table);
+    let short = inputs < INPUTS / one_in;
+    assert!(untried.is_empty() || short, "{untried:?}");
 }
 
 #[cfg(test)]
