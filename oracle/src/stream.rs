@@ -58,7 +58,7 @@ impl State {
         }
         let (kept, behind) = self.store.split_at(self.waiting as usize);
         // "the bytes of the store behind them are 0"
-        let blank = behind.iter().all(|b| *b == 0);
+        let blank = *behind == [0; KEPT][..behind.len()];
         // "no more readings are counted than there are bytes before the place"
         let counts = self
             .frames

@@ -160,10 +160,10 @@ fn walked<A: Answers>(run: &mut Run<A>, d: &mut Dice, capture: &[u8]) {
     };
     run.listing(&stray, &counts, d.of(&spare));
 
-    let clean = run.clean(capture, capture.len());
+    let clean = clean_of(run.answers, capture);
     run.clean(capture, made::about(d, clean.len()));
-    let again = run.clean(&clean, clean.len());
-    assert!(again == clean, "what is clean stays so");
+    let again = run.answers.first_unclean(&clean);
+    assert!(again.is_none(), "what is clean stays so");
 }
 
 /// A capture in cuts. A call that lacked room is made again, perhaps with
