@@ -1,10 +1,11 @@
-//! The second, independent program: document 01 written down plainly, and CR 1
-//! of document 02; and the cases that it and the library answer (`cases`).
+//! The second, independent program: documents 01 and 02 written down plainly,
+//! as far as their requests are built, and the cases that it and the library
+//! answer (`cases`, `market::cases`, `step::cases`).
 //!
 //! Nothing here was taken from the proved crates. Each module follows the
-//! section of document 01 that it is named after, and quotes its rules; what
-//! the documents leave open follows the list of decided points (0.1 to 0.19,
-//! 1.1 to 1.6), cited by number.
+//! section, the request or the source document that it is named after, and
+//! quotes its rules; what the documents leave open follows the list of decided
+//! points, cited by number.
 
 pub mod answer;
 pub mod answers;

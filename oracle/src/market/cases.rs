@@ -424,6 +424,31 @@ mod tests {
         }
     }
 
+    /// What stands behind the lowest fault does not matter.
+    #[test]
+    fn the_lowest_place_is_told() {
+        let mut told = 0;
+        for case in 0..2_000 {
+            let d = &mut Dice::new(7, case);
+            let types = types(d, 3);
+            let mut made = file(d, &types);
+            spoil(d, &mut made);
+            let Err(fault) = check(&made) else {
+                continue;
+            };
+            // No column is wider than 32 bytes.
+            let behind = fault.place as usize + 32;
+            if [41, 42, 43, 45].contains(&fault.number) && behind < made.len() {
+                told += 1;
+                for byte in &mut made[behind..] {
+                    *byte = d.of(b" 0|\nMDT");
+                }
+                assert_eq!(check(&made), Err(fault));
+            }
+        }
+        assert!(told > 500, "{told}");
+    }
+
     #[test]
     fn numbers() {
         let of = |text: &str, decimals| number_of(text.as_bytes(), decimals);

@@ -612,6 +612,31 @@ mod tests {
         assert!(sound > 2_500, "{sound}");
     }
 
+    /// An answer but 1 stays whatever follows, and 8,192 bytes never answer 1.
+    #[test]
+    fn an_answer_but_1_stays() {
+        let mut decided = 0;
+        for case in 0..3_000 {
+            let d = &mut Dice::new(6, case);
+            let kind = d.of(&TYPES);
+            let mut bytes = frame(&[kind], &made::fields(d, kind));
+            if d.once_in(2) {
+                damage(d, &mut bytes);
+            }
+            bytes.truncate(d.len(2 * bytes.len() + 1));
+            let answer = read(&bytes);
+            let more = d.len(40);
+            let mut longer = [bytes.clone(), d.bytes(more)].concat();
+            if answer != Err(1) {
+                decided += 1;
+                assert_eq!(read(&longer), answer);
+            }
+            longer.resize(MOST, d.of(b"0\x01A"));
+            assert_ne!(read(&longer), Err(1));
+        }
+        assert!(decided > 1_000, "{decided}");
+    }
+
     #[test]
     fn cuts_answer_1_until_the_frame_is_whole() {
         for kind in TYPES {
