@@ -12,7 +12,7 @@ const ROOM: usize = 18_432;
 
 pub fn streams<A: Answers>(run: &mut Run<A>) {
     let captures = made();
-    for (name, capture) in captures.iter().filter(|(_, c)| c.len() <= 200) {
+    for (name, capture) in captures.iter().filter(|(_, c)| c.len() <= 250) {
         for cut in 0..=capture.len() {
             run.case(&format!("cut at {cut}: {name}"));
             let (first, rest) = capture.split_at(cut);
