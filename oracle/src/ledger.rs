@@ -23,10 +23,9 @@ pub enum Pending {
 }
 
 /// "State: channel, floor (all numbers up to it received" or given up, by CR 7),
-/// "top (largest number
-/// offered and not refused by 18 or 10, or announced), a map of 256 bits in
-/// four words for the numbers floor + 1 to floor + 256, and the pending
-/// request."
+/// "top (largest number offered and not refused by 18 or 10, or announced), a
+/// map of 256 bits in four words for the numbers floor + 1 to floor + 256, and
+/// the pending request."
 #[derive(Clone, Copy, Debug, PartialEq, Eq)]
 pub struct Ledger {
     pub channel: Channel,
@@ -332,8 +331,8 @@ impl Ledger {
         (next, Settled { given_up, passed })
     }
 
-    /// How many numbers up to the top were neither received nor given up. A call too: it checks
-    /// 13, with a count of 0 then (0.10).
+    /// How many numbers up to the top were neither received nor given up. A call
+    /// too: it checks 13, with a count of 0 then (0.10).
     pub fn missing(self) -> (Ledger, Result<u64, No>) {
         if !self.sound() {
             return (self, Err(No::State));
