@@ -169,26 +169,46 @@ fn sizes<A: Answers>(run: &mut Run<A>) {
         let made = file(d, &types);
         run.whole(&format!("{lines} lines of any type"), &made);
     }
-    // Lines of 125 and of 128 bytes that make 65,536 with header and trailer.
-    let fives = (0..128).find(|n| (MOST - 94 - 125 * n) % 128 == 0);
-    let fives = fives.expect("125 and 128 have no common part");
-    let fours = (MOST - 94 - 125 * fives) / 128;
-    let full = [vec![405; fives], vec![404; fours]].concat();
+    let full = lines_of(MOST);
     let made = file(d, &full);
     assert_eq!(made.len(), MOST);
     run.whole("65,536 bytes", &made);
     run.whole("65,537 bytes, one left over", &[&made[..], b"\n"].concat());
     run.whole("65,537 bytes of nothing", &vec![0; MOST + 1]);
     run.whole("65,536 bytes of nothing", &vec![0; MOST]);
-    let over = file(d, &[&full[..], &[405]].concat());
-    run.whole("a sound file but for its size", &over);
-    // Its values, which the check does not give, from two files that are sound.
-    let mut taken = run.values(&made, MOST);
-    let more = run.values(&file(d, &[405]), 200);
-    taken.extend(&more[38..]);
-    run.text.case("values of too large a file");
-    run.written(&taken, 2 * MOST);
-    run.written(&taken, 0);
+    for size in [
+        MOST - 1,
+        MOST,
+        MOST + 1,
+        MOST + 2,
+        MOST + 3,
+        MOST + 4,
+        MOST + 5,
+    ] {
+        let types = lines_of(size);
+        let made = file(d, &types);
+        run.whole(
+            &format!("a file of {size} bytes, sound but for that"),
+            &made,
+        );
+        // Its values, which a file that is too large does not give, from two.
+        let (front, rest) = types.split_at(types.len() / 2);
+        let mut taken = run.values(&file(d, front), MOST);
+        taken.extend(&run.values(&file(d, rest), MOST)[38..]);
+        run.text.case(&format!("values of a file of {size} bytes"));
+        run.written(&taken, size);
+        run.written(&taken, size - 1);
+        run.written(&taken, 0);
+    }
+}
+
+/// Lines of 125 and of 128 bytes that make a file of that size with header and
+/// trailer.
+fn lines_of(size: usize) -> Vec<u16> {
+    let fives = (0..128).find(|n| (size - 94 - 125 * n) % 128 == 0);
+    let fives = fives.expect("125 and 128 have no common part");
+    let fours = (size - 94 - 125 * fives) / 128;
+    [vec![405; fives], vec![404; fours]].concat()
 }
 
 /// What a number's column may hold, of the right width or cut to it.

@@ -60,11 +60,12 @@ fn length_field(bytes: &[u8], from: usize) -> Answer<(usize, usize)> {
             return Ok((length, at + 1));
         }
         let needless = digits > 0 && length == 0;
-        if !byte.is_ascii_digit() || needless || digits == 9 {
+        if !byte.is_ascii_digit() || needless {
             return Err(24);
         }
         length = length * 10 + usize::from(byte - b'0');
     }
+    // a tenth digit
     Err(24)
 }
 
