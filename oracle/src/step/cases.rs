@@ -317,6 +317,8 @@ fn tries(form: Form) -> Vec<Vec<u8>> {
         b"7=7",
         b"\x00",
         b"\xff\xfe",
+        b"\xff",
+        b"A\x80",
         b"\x02",
     ]
     .map(<[u8]>::to_vec)
