@@ -83,6 +83,10 @@ pub struct Stream {
     start: State,
     joined: Vec<u8>,
     closed: bool,
+    /// What the walk over all joined bytes came to: the records of the readings
+    /// decided so far, and the state shown. No later walk looks at them.
+    records: Vec<Record>,
+    state: State,
 }
 
 impl Stream {
@@ -94,77 +98,39 @@ impl Stream {
     /// A stream of a state, perhaps made by hand.
     pub fn of(state: State) -> Stream {
         let waiting = state.waiting.min(KEPT as u64) as usize;
+        let (joined, closed) = (state.store[..waiting].to_vec(), state.closed);
+        Stream::walked(state, joined, closed)
+    }
+
+    /// The stream of all bytes so far, walked from the first of them on. A state
+    /// that breaks its rules is not walked from, and stays what is shown.
+    fn walked(start: State, joined: Vec<u8>, closed: bool) -> Stream {
+        let mut state = start.clone();
+        let mut records = Vec::new();
+        if start.sound() {
+            let mut walked = closed_walk(&start, &joined);
+            let decided = match closed {
+                // "At the closing call what remains is walked by document 01",
+                // and is decided so.
+                true => joined.len(),
+                false => decided(&joined, &walked),
+            };
+            walked.retain(|reading| reading.record.place < decided as u64);
+            state = shown(&start, &walked, decided, &joined[decided..], closed);
+            records = walked.iter().map(|r| placed(r, start.place)).collect();
+        }
         Stream {
-            joined: state.store[..waiting].to_vec(),
-            closed: state.closed,
-            start: state,
+            start,
+            joined,
+            closed,
+            records,
+            state,
         }
-    }
-
-    /// The closed walk over the joined bytes, which begins with a search where
-    /// the stream started with one under way. Places count from the first of
-    /// the joined bytes.
-    fn walked(&self) -> Vec<Reading> {
-        let first = if self.start.seeking {
-            search(&self.joined, 0).ok().flatten()
-        } else {
-            Some(0)
-        };
-        let end = self.joined.len();
-        readings(&self.joined, first.unwrap_or(end), self.start.ledger)
-    }
-
-    /// How many of the joined bytes are decided. "A place that answers 1 waits
-    /// for more", whether the walk reads there or the search tries it; both pass
-    /// over places within accepted frames alone. "At the closing call what
-    /// remains is walked by document 01", and is decided so.
-    fn decided(&self, walked: &[Reading]) -> usize {
-        let end = self.joined.len();
-        if self.closed {
-            return end;
-        }
-        let mut tried = vec![true; end];
-        for reading in walked {
-            tried[reading.record.place as usize + 1..reading.end].fill(false);
-        }
-        let waits = |place: &usize| tried[*place] && read(&self.joined[*place..]) == Err(No::More);
-        (0..end).find(waits).unwrap_or(end)
-    }
-
-    /// The records of the readings decided so far, and the state that shows
-    /// what the calls come to. The stream started from a sound state.
-    fn told(&self) -> (Vec<Record>, State) {
-        let mut walked = self.walked();
-        let decided = self.decided(&walked);
-        walked.retain(|reading| reading.record.place < decided as u64);
-        let rest = &self.joined[decided..];
-        let refused = walked.iter().filter(|r| r.record.is_refused()).count();
-        let mut state = self.start.clone();
-        state.place += decided as u64;
-        state.closed = self.closed;
-        state.waiting = rest.len() as u64;
-        state.store = [0; KEPT];
-        state.store[..rest.len()].copy_from_slice(rest);
-        state.frames += (walked.len() - refused) as u64;
-        state.refused += refused as u64;
-        if let Some(last) = walked.last() {
-            state.seeking = last.record.is_refused();
-            state.ledger = last.ledger;
-        }
-        let record = |reading: Reading| Record {
-            place: self.start.place + reading.record.place,
-            ..reading.record
-        };
-        (walked.into_iter().map(record).collect(), state)
     }
 
     /// What the stream shows between two calls.
     pub fn state(&self) -> State {
-        if self.start.sound() {
-            self.told().1
-        } else {
-            self.start.clone()
-        }
+        self.state.clone()
     }
 
     /// 13, then 19, then 29, for a call that brings so many bytes.
@@ -188,18 +154,16 @@ impl Stream {
         if let Err(no) = self.check(cut.len()) {
             return (self.clone(), Err(no));
         }
-        let next = Stream {
-            start: self.start.clone(),
-            joined: [&self.joined, cut].concat(),
-            closed,
-        };
-        let (before, _) = self.told();
-        let (after, _) = next.told();
+        let joined = [&self.joined, cut].concat();
+        let next = Stream::walked(self.start.clone(), joined, closed);
         // What one call decided no later one takes back.
-        assert_eq!(after[..before.len()], before);
-        let made = &after[before.len()..];
+        let (before, made) = next.records.split_at(self.records.len());
+        assert_eq!(before, self.records);
         match lay(made, buffer) {
-            Ok(()) => (next, Ok(made.len())),
+            Ok(()) => {
+                let given = made.len();
+                (next, Ok(given))
+            }
             Err(no) => (self.clone(), Err(no)),
         }
     }
@@ -214,4 +178,54 @@ impl Stream {
     pub fn close(&self, buffer: &mut [u8]) -> (Stream, Result<usize, No>) {
         self.call(&[], true, buffer)
     }
+}
+
+/// The closed walk over the joined bytes, which begins with a search where the
+/// stream started with one under way. Places count from the first of them.
+fn closed_walk(start: &State, joined: &[u8]) -> Vec<Reading> {
+    let first = if start.seeking {
+        search(joined, 0).ok().flatten()
+    } else {
+        Some(0)
+    };
+    readings(joined, first.unwrap_or(joined.len()), start.ledger)
+}
+
+/// How many of the joined bytes are decided. "A place that answers 1 waits for
+/// more", whether the walk reads there or the search tries it; both pass over
+/// places within accepted frames alone.
+fn decided(joined: &[u8], walked: &[Reading]) -> usize {
+    let mut tried = vec![true; joined.len()];
+    for reading in walked {
+        tried[reading.record.place as usize + 1..reading.end].fill(false);
+    }
+    let waits = |place: &usize| tried[*place] && read(&joined[*place..]) == Err(No::More);
+    (0..joined.len()).find(waits).unwrap_or(joined.len())
+}
+
+/// The record of a reading, its place counted from the capture's first byte.
+fn placed(reading: &Reading, start: u64) -> Record {
+    Record {
+        place: start + reading.record.place,
+        ..reading.record
+    }
+}
+
+/// The state after these readings, with so many bytes decided and the rest
+/// waiting.
+fn shown(start: &State, walked: &[Reading], decided: usize, rest: &[u8], closed: bool) -> State {
+    let refused = walked.iter().filter(|r| r.record.is_refused()).count();
+    let mut state = start.clone();
+    state.place += decided as u64;
+    state.closed = closed;
+    state.waiting = rest.len() as u64;
+    state.store = [0; KEPT];
+    state.store[..rest.len()].copy_from_slice(rest);
+    state.frames += (walked.len() - refused) as u64;
+    state.refused += refused as u64;
+    if let Some(last) = walked.last() {
+        state.seeking = last.record.is_refused();
+        state.ledger = last.ledger;
+    }
+    state
 }

@@ -211,8 +211,8 @@ fn clean_of(answers: &impl Answers, bytes: &[u8]) -> Vec<u8> {
     out
 }
 
-/// One call, with about as much room as its records need. Answers whether it
-/// was taken.
+/// One call, with room for all of its records, and every fourth time about as
+/// much as they need. Answers whether it was taken.
 fn called<A: Answers>(
     run: &mut Run<A>,
     d: &mut Dice,
@@ -221,7 +221,11 @@ fn called<A: Answers>(
 ) -> bool {
     let waiting = run.answers.parts(stream).words[3].min(KEPT as u64) as usize;
     let bytes = waiting + cut.map_or(0, <[u8]>::len);
-    let mut records = vec![0; (2 * (bytes / 29) + 2) * SIZE];
+    let ample = (2 * (bytes / 29) + 2) * SIZE;
+    if !d.once_in(4) {
+        return run.call(stream, cut, ample).is_some();
+    }
+    let mut records = vec![0; ample];
     let mut trial = stream.clone();
     let needed = match cut {
         Some(cut) => run.answers.feed(&mut trial, cut, &mut records),
