@@ -62,17 +62,24 @@ impl<'a> Iterator for Fields<'a> {
     type Item = Field<'a>;
 
     fn next(&mut self) -> Option<Field<'a>> {
-        let mut row = raw::StepField::default();
-        let answer = raw::step_field(self.fields, self.place, &mut row);
-        result(answer, ()).ok()?;
-        self.place = row.behind as usize;
-        let place = row.value as usize;
-        Some(Field {
-            tag: row.tag,
-            value: &self.fields[place..][..row.value_len as usize],
-            place,
-        })
+        let (field, after) = field_at(self.fields, self.place).ok()?;
+        self.place = after;
+        Some(field)
     }
+}
+
+/// The field at a place of a message's fields, and the place after it; 26 if none is there.
+pub fn field_at(fields: &[u8], place: usize) -> Result<(Field<'_>, usize), Refusal> {
+    let mut row = raw::StepField::default();
+    let answer = raw::step_field(fields, place, &mut row);
+    result(answer, ())?;
+    let place = row.value as usize;
+    let field = Field {
+        tag: row.tag,
+        value: &fields[place..][..row.value_len as usize],
+        place,
+    };
+    Ok((field, row.behind as usize))
 }
 
 /// Writes a message at the front of a buffer, and tells how many bytes. A refusal writes nothing.
