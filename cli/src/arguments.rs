@@ -10,6 +10,7 @@ usage: rietknoest list [--follow] [FILE]
        rietknoest scrub [--step] IN -o OUT [--whole]
        rietknoest check [--step] FILE
        rietknoest explain [--step] FILE PLACE
+       rietknoest market FILE
        rietknoest --help | --version
 
 list     prints a line for each reading of a capture: place, type (---- where
@@ -25,6 +26,8 @@ check    says whether a capture is clean: whether scrubbing it would change no
          frame that came out of private bytes (docs/PRIVATE.md).
 explain  says in words what reading at a place of a capture answers, and why.
          It shows no private field.
+market   says whether a B-to-H market file (mktdth.txt) is sound, or what is
+         wrong with it and at which place. It shows no byte of the file.
 
 With --step the capture is of the STEP line: each place is tried in turn, IN is
 read whole, and explain shows the values of numbers, flags and times alone.
@@ -58,6 +61,9 @@ pub enum Command {
         place: usize,
         step: bool,
     },
+    Market {
+        file: OsString,
+    },
 }
 
 /// What the arguments ask for.
@@ -68,7 +74,7 @@ pub fn parse(mut words: impl Iterator<Item = OsString>) -> Result<Command, Troub
     match name.to_str() {
         Some("--help") => Ok(Command::Help),
         Some("--version") => Ok(Command::Version),
-        Some(name @ ("list" | "scrub" | "check" | "explain")) => command(name, words),
+        Some(name @ ("list" | "scrub" | "check" | "explain" | "market")) => command(name, words),
         _ => wrong(format!("{}: no such command", shown(&name))),
     }
 }
@@ -109,6 +115,7 @@ fn command(name: &str, mut words: impl Iterator<Item = OsString>) -> Result<Comm
     match (name, to) {
         ("list", _) => Ok(Command::List { file, follow }),
         ("check", _) => Ok(Command::Check { file, step }),
+        ("market", _) => Ok(Command::Market { file }),
         (_, Some(to)) => Ok(Command::Scrub {
             from: file,
             to,

@@ -9,6 +9,7 @@ mod capture;
 mod check;
 mod explain;
 mod list;
+mod market;
 mod names;
 mod scrub;
 mod step;
@@ -102,6 +103,7 @@ fn run(command: Command) -> Result<Status, Trouble> {
         Command::Check { file, .. } => check::check(&file),
         Command::Explain { file, place, step } if step => step::explain(&file, place),
         Command::Explain { file, place, .. } => explain::explain(&file, place),
+        Command::Market { file } => market::market(&file),
     }
 }
 

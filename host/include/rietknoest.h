@@ -346,6 +346,39 @@ uint32_t rk_step_write(uint8_t kind, const uint8_t *fields, size_t fields_len, u
  * *told: the length of the frame. */
 uint32_t rk_step_scrub(uint8_t *frame, size_t len, uint64_t *told);
 
+/* MARKET FILES: mktdth.txt, B-to-H. docs/MARKET.md has the columns and the values. */
+
+enum rk_market {
+    RK_MARKET_CUT_SHORT = 40, /* the file ends where more is due, or bytes are left over */
+    RK_MARKET_HEADER = 41,    /* a column, bar or newline of the header */
+    RK_MARKET_LINE_TYPE = 42, /* a line begins with none of MD401, MD404, MD405, MD406, TRAILER */
+    RK_MARKET_COLUMN = 43,    /* a column, bar or newline of a line; a value that does not fit its column */
+    RK_MARKET_COUNT = 44,     /* the header's count is not the number of lines */
+    RK_MARKET_TRAILER = 45,   /* a byte behind TRAILER */
+    RK_MARKET_SUM = 46,       /* the three digits are not the sum of all bytes before them */
+    RK_MARKET_LARGE = 47      /* above 65,536 bytes */
+};
+
+/* An answer: RK_DONE, a number above, or RK_ROOM. Beside RK_DONE a count: of lines, or of the bytes written. Beside 40 to 43 and 45 the
+ * place of the fault, beside the others 0. */
+typedef struct {
+    uint64_t number;
+    uint64_t place;
+} rk_finding;
+RK_SIZE(rk_finding, 2);
+
+/* Whether a file is sound. 0 and its lines; 40 to 47, the lowest place first, 44 and 46 only where nothing else is wrong. */
+rk_finding rk_market_check(const uint8_t *file, size_t len);
+
+/* The values of a file. As rk_market_check, then 8; len bytes are always room enough.
+ * 0 writes out's first place bytes. */
+rk_finding rk_market_values(const uint8_t *file, size_t len, uint8_t *out, size_t out_len);
+
+/* The file that values make: count and sum are worked out. 40, 42, 43 by rising place among the values, then 47, then 8; 65,536 bytes are
+ * always room enough.
+ * 0 writes out's first place bytes. */
+rk_finding rk_market_write(const uint8_t *values, size_t len, uint8_t *out, size_t out_len);
+
 #undef RK_SIZE
 
 #ifdef __cplusplus

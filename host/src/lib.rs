@@ -10,6 +10,7 @@
 mod captures;
 mod frames;
 mod ledger;
+pub mod market;
 mod numbers;
 #[allow(unsafe_code)]
 mod raw;

@@ -90,6 +90,13 @@ pub struct StepField {
     pub behind: u64,
 }
 
+/// What a call on a market file answers: a number, and the count or the place beside it.
+#[repr(C)]
+pub struct Finding {
+    pub number: u64,
+    pub place: u64,
+}
+
 #[rustfmt::skip]
 extern "C" {
     fn rk_read(bytes: *const u8, len: usize, place: usize, told: *mut Frame) -> u32;
@@ -116,6 +123,9 @@ extern "C" {
     fn rk_step_field(fields: *const u8, len: usize, place: usize, told: *mut StepField) -> u32;
     fn rk_step_write(kind: u8, fields: *const u8, fields_len: usize, out: *mut u8, out_len: usize, told: *mut u64) -> u32;
     fn rk_step_scrub(frame: *mut u8, len: usize, told: *mut u64) -> u32;
+    fn rk_market_check(file: *const u8, len: usize) -> Finding;
+    fn rk_market_values(file: *const u8, len: usize, out: *mut u8, out_len: usize) -> Finding;
+    fn rk_market_write(values: *const u8, len: usize, out: *mut u8, out_len: usize) -> Finding;
 }
 
 // FRAMES
@@ -321,4 +331,19 @@ pub fn step_scrub(frame: &mut [u8], told: &mut u64) -> u32 {
     // SAFETY: `frame` is passed with its own length; `told` is one number, not in `frame`, which
     // nothing else borrows.
     unsafe { rk_step_scrub(frame.as_mut_ptr(), frame.len(), told) }
+}
+
+pub fn market_check(file: &[u8]) -> Finding {
+    // SAFETY: `file` is passed with its own length and only read.
+    unsafe { rk_market_check(file.as_ptr(), file.len()) }
+}
+
+pub fn market_values(file: &[u8], out: &mut [u8]) -> Finding {
+    // SAFETY: both are passed with their own lengths, and `out` is not in `file`: nothing else borrows it.
+    unsafe { rk_market_values(file.as_ptr(), file.len(), out.as_mut_ptr(), out.len()) }
+}
+
+pub fn market_write(values: &[u8], out: &mut [u8]) -> Finding {
+    // SAFETY: both are passed with their own lengths, and `out` is not in `values`.
+    unsafe { rk_market_write(values.as_ptr(), values.len(), out.as_mut_ptr(), out.len()) }
 }
