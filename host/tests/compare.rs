@@ -198,7 +198,7 @@ impl Answers for Library {
     }
 
     fn missing(&self, words: &Words, channel: Channel, a: Tick, b: Tick) -> Answer<u64> {
-        let ledger = Ledger::of_words(*words);
+        let ledger = Ledger::from_words(*words);
         plain(ledger.missing_between(channel_of(channel), tick_of(a), tick_of(b)))
     }
 
