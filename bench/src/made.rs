@@ -39,13 +39,28 @@ pub fn frame(msg_type: u32, seq: u64, body: &[u8]) -> Vec<u8> {
     f
 }
 
-/// An M201 with so many bytes behind its fixed ones.
+/// An M201 of a stream that source document 000 does not name, with so many bytes behind its fixed ones.
 pub fn tick(d: &mut Dice, number: u64, tail: usize) -> Vec<u8> {
+    tick_of(d, b"MD001", b'F', number, tail)
+}
+
+/// An M201 with an order's extension.
+pub fn order(d: &mut Dice, number: u64) -> Vec<u8> {
+    tick_of(d, b"MD211", b'0', number, 139)
+}
+
+/// An M201 with a trade's extension.
+pub fn trade(d: &mut Dice, number: u64) -> Vec<u8> {
+    tick_of(d, b"MD217", b'F', number, 53)
+}
+
+fn tick_of(d: &mut Dice, stream: &[u8; 5], exec: u8, number: u64, tail: usize) -> Vec<u8> {
     let mut b = vec![13, 0, 100];
     b.extend(number.to_be_bytes());
-    b.extend(b"MD001600000  ");
+    b.extend(stream);
+    b.extend(b"600000  ");
     b.extend(93_000_000u32.to_be_bytes());
-    b.push(b'F');
+    b.push(exec);
     b.extend(d.below(1_000_000).to_be_bytes());
     b.extend(d.below(1_000_000).to_be_bytes());
     b.extend(d.bytes(tail));
@@ -81,8 +96,15 @@ pub fn capture(bytes: usize) -> Vec<u8> {
         let mut f = match d.below(100) {
             0..=59 => {
                 number += if d.below(50) == 0 { 2 } else { 1 };
-                let tail = d.below(64) as usize;
-                frame(plain::M201, seq, &tick(d, number, tail))
+                let body = match d.below(4) {
+                    0 => trade(d, number),
+                    1 => order(d, number),
+                    _ => {
+                        let tail = d.below(64) as usize;
+                        tick(d, number, tail)
+                    }
+                };
+                frame(plain::M201, seq, &body)
             }
             60..=84 => {
                 let entries = d.below(40) as usize;

@@ -192,6 +192,14 @@ fn sum_and_fill() {
     scrub("sum, fill and sum", input, &f, &[0], 1.1);
     let f = made::frame(plain::M101, 1, &body);
     nothing_private(&f);
+    let orders: Vec<u8> = (1..=300)
+        .flat_map(|n| {
+            let body = made::order(d, n);
+            made::frame(plain::M201, n, &body)
+        })
+        .collect();
+    let input = "300 orders of 212 bytes";
+    scrub("read and scrub", input, &orders, &places(&orders), 1.5);
 }
 
 /// A frame with nothing private, beside the method that sums it once more (CR 4).

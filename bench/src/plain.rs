@@ -67,6 +67,24 @@ fn m102_holds(b: &[u8]) -> bool {
         })
 }
 
+/// How the extension of an M201 is laid out.
+#[derive(Clone, Copy, PartialEq, Eq)]
+enum Layout {
+    Order,
+    Trade,
+    Other,
+}
+
+fn layout(b: &[u8]) -> Layout {
+    match (&b[11..16], b[28]) {
+        (b"MD211" | b"MD212" | b"MD213" | b"MD214" | b"MD215" | b"MD216", b'0' | b'4') => {
+            Layout::Order
+        }
+        (b"MD217", b'F') => Layout::Trade,
+        _ => Layout::Other,
+    }
+}
+
 fn fields_hold(msg_type: u32, b: &[u8]) -> bool {
     match msg_type {
         S001 => u16_at(b, 64) > 0,
@@ -97,6 +115,11 @@ fn fields_hold(msg_type: u32, b: &[u8]) -> bool {
                 && digits(u32_at(b, 24).into(), 9)
                 && digits(u64_at(b, 29), 13)
                 && digits(u64_at(b, 37), 15)
+                && match layout(b) {
+                    Layout::Order => b.len() == 184,
+                    Layout::Trade => b.len() == 98,
+                    Layout::Other => true,
+                }
         }
         _ => true,
     }
@@ -207,7 +230,14 @@ fn paint(frame: &mut [u8], msg_type: u32) {
         S001 => 24..88,
         S002 => 28..284,
         P002 => 44..76,
-        M201 => 69..n,
+        M201 => match layout(&frame[24..n]) {
+            Layout::Order => {
+                frame[144..176].fill(b' ');
+                88..112
+            }
+            Layout::Trade => return,
+            Layout::Other => 69..n,
+        },
         _ => return,
     };
     frame[private].fill(b' ');

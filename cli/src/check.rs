@@ -52,13 +52,11 @@ fn standing_at(capture: &Capture, place: usize) -> Result<String, Trouble> {
 /// checksum, nothing else.
 fn field_at(capture: &Capture, at: usize, frame: &Frame, place: usize) -> &'static str {
     let body = &capture.bytes[at + HEADER..][..frame.body_len as usize];
-    let within = private_spans(frame.msg_type as u32, body)
-        .iter()
-        .position(|span| {
-            let from = at + HEADER + span.place as usize;
-            (from..from + span.len as usize).contains(&place)
-        });
-    within
-        .and_then(|i| names::private_fields(frame).get(i).copied())
-        .unwrap_or("CheckSum")
+    // the frame was read, so its length suits its type
+    let spans = private_spans(frame.msg_type as u32, body).unwrap_or_default();
+    let within = spans.iter().find(|span| {
+        let from = at + HEADER + span.place as usize;
+        (from..from + span.len as usize).contains(&place)
+    });
+    within.map_or("CheckSum", |span| names::private_field(frame, span.place))
 }

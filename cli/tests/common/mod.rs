@@ -163,16 +163,38 @@ pub fn logon(sender: &str, target: &str) -> Vec<u8> {
     frame(b"S001", 1, &fields.concat())
 }
 
+/// A tick of a stream that source document 000 does not name: its extension has any length, and is private.
 pub fn tick(number: u64, extension: &[u8]) -> Vec<u8> {
     tick_on(100, number, extension)
 }
 
 pub fn tick_on(channel: u16, number: u64, extension: &[u8]) -> Vec<u8> {
+    tick_of(b"MD219", channel, number, extension)
+}
+
+/// An order, with MemberID, TraderCode and InvestorName among its 139 bytes.
+pub fn order(number: u64, member: &str, trader: &str, investor: &str) -> Vec<u8> {
+    let extension = [
+        text(19, "1Q20260121000000009"),
+        text(12, member),
+        text(12, trader),
+        vec![0; 16],
+        text(16, "BASKET-11001"),
+        text(32, investor),
+        vec![0; 6],
+        text(18, ""),
+        vec![0; 8],
+    ];
+    tick_of(b"MD211", 100, number, &extension.concat())
+}
+
+fn tick_of(stream: &[u8; 5], channel: u16, number: u64, extension: &[u8]) -> Vec<u8> {
     let fields = [
         &[13][..],
         &channel.to_be_bytes(),
         &number.to_be_bytes(),
-        b"MD211019733  ",
+        stream,
+        b"019733  ",
         &[0; 4],
         b"0",
         &[0; 16],
