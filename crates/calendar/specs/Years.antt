@@ -13,7 +13,7 @@ use Rattle.terms.specs.Paper.{pick}
 use Rattle.terms.specs.Says.{Says, says-eq, says-and, says-or, says-not, says-as}
 use Rattle.calendar.specs.Calendar.{leap, daysIn, realParts, realTime}
 
--- LEAP YEARS: "divisible by 4 and not by 100, or by 400"
+-- LEAP YEARS: divisible by 4 and not by 100, or by 400
 abbrev pub Divides : ℕ → ℕ → Type 0
 Divides n y = (k : ℕ) × (y ≡ k * n)
 

@@ -19,8 +19,8 @@ use ledger::Answer;
 use octets::Written;
 use terms::Refusal;
 
-// What cleaning answers: 0, or 8 where the buffer can't take the cleaned bytes; how many bytes were written, how many frames
-// they are, and how many of these the search found behind damage. Such a frame may lie inside a damaged one, in bytes that
+// What cleaning returns: 0, or 8 where the buffer can't take the cleaned bytes; how many bytes were written, how many frames
+// they are, and how many of these the search found after damage. Such a frame may lie inside a damaged one, in bytes that
 // were private there. Beside 8 the counts are 0.
 pub struct Cleaned {
     pub answer: Answer,
@@ -48,7 +48,7 @@ struct Passed {
     after_damage: usize,
 }
 
-// The place of the next reading, behind the one at p: past the frame, or where the search from the next byte on finds one; the
+// The place of the next reading, after the one at p: past the frame, or where the search from the next byte on finds one; the
 // end where it finds none.
 fn onward(capture: &[u8], p: usize, kept: Kept) -> usize
     requires { ⌜ (p < length (now capture)) × (kept ≡ keptOf (seenOf (drop p (now capture)))) ⌝ }
@@ -64,8 +64,8 @@ fn onward(capture: &[u8], p: usize, kept: Kept) -> usize
     }
 }
 
-// Reads the frame at p of the capture and lays it over out from n on, scrubbed, where it has room. What has none, or is refused, is
-// read once more: its answer and its size are told all the same.
+// Reads the frame at p of the capture and writes it over out from n on, scrubbed, where it has room. What has none, or is refused, is
+// read once more: its answer and its size are known all the same.
 fn keep(capture: &[u8], p: usize, out: &mut [u8], n: usize) -> Kept
     ensures { λ r. ⌜ (r ≡ keptOf (seenOf (drop p (now (capture .entry)))))
         × (now (out .exit) ≡ laidIfRoom n (scrubbed (take (seenOf (drop p (now (capture .entry))) .size) (drop p (now (capture .entry))))) (now (out .entry))) ⌝ }
@@ -89,7 +89,7 @@ fn accepted(answer: u32) -> usize
     if answer == 0 { 1 } else { 0 }
 }
 
-// 1 for a reading that answered 0 right behind one that was refused, else 0.
+// 1 for a reading that answered 0 right after one that was refused, else 0.
 fn found(before: u32, answer: u32) -> usize
     ensures { λ r. ⌜ (r ≡ foundBy before answer) × (r ≤ 1) ⌝ }
 {
@@ -134,7 +134,7 @@ fn takes_all(capture: &[u8], room: usize) -> bool
     counted.bytes <= room
 }
 
-// Writes the accepted frames of a capture, each scrubbed, one behind the other at the front of out; or answers 8, and nothing is
+// Writes the accepted frames of a capture, each scrubbed, one after the other at the front of out; or returns 8, and nothing is
 // written.
 pub fn clean(capture: &[u8], out: &mut [u8]) -> Cleaned
     ensures { λ r. ⌜ (cleanPaper r ≡ cleanAnswer (now (capture .entry)) (length (now (out .entry))))

@@ -1,4 +1,5 @@
--- A capture, scrubbed: "the accepted frames of its walk in order, each scrubbed, stray bytes left out". And where a capture differs from that.
+-- A capture, scrubbed (CR 11): the frames that its walk accepts, each scrubbed, end to end; other bytes are left out.
+-- And where a capture differs from that.
 use Prim.Native.Nat.{ℕ, _+_}
 use mathlib.Core.Bool.{Bool}
 use mathlib.Core.List.{List, [], _∷_}

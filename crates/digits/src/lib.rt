@@ -1,4 +1,4 @@
-// Decimal text in ASCII: a number laid over lent bytes as its digits, and read back from them.
+// Decimal text in ASCII: a number written over lent bytes as its digits, and read back from them.
 // Every function takes all input. Without room nothing is written and the answer is 8; text past the end is no number.
 ghost use mathlib.Core.Path.{_≡_};
 ghost use Prim.Native.Nat.{_+_, _≤_};
@@ -40,7 +40,7 @@ fn store_digits(d: &mut [u8], at: usize, n: usize, v: u64)
     }
 }
 
-// Lays the n lowest decimal digits of v over d from at on, with zeros in front where v has fewer.
+// Writes the n lowest decimal digits of v over d from at on, with zeros in front where v has fewer.
 pub fn put_digits(d: &mut [u8], at: usize, n: usize, v: u64) -> Written
     ensures { λ r. ⌜ (writtenPaper r ≡ roomFor at n (length (now (d .entry)))) × (now (d .exit) ≡ laidIfRoom at (decimalOf n v) (now (d .entry))) ⌝ }
 {
@@ -64,7 +64,7 @@ pub fn width(v: u64) -> usize
     n
 }
 
-// Lays v over d from at on as all its digits, with no needless zero in front, and answers how many they are.
+// Writes v over d from at on as all its digits, with no needless zero in front, and returns how many they are.
 pub fn put_decimal(d: &mut [u8], at: usize, v: u64) -> Written
     ensures { λ r. ⌜ (writtenPaper r ≡ roomFor at (widthOf v) (length (now (d .entry)))) × (now (d .exit) ≡ laidIfRoom at (shownOf v) (now (d .entry))) ⌝ }
 {

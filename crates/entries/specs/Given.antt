@@ -47,8 +47,8 @@ pub record Kth (b : List ℕ) (p k w : ℕ) : Type 0 where
   pub below : k < be 2 71 b
   pub place : p ≡ 73 + k * w
 
--- row 20: "the entry reader's body is below 73 bytes, its place is not 73 + k sizes with k below NoMDEntries, or that entry
--- passes the body's end"
+-- 20: the body lacks its fixed part, no entry starts at the place, or that entry is cut off
+-- (document 01, Numbers, paragraph 1)
 pub data Row20 (b : List ℕ) (p : ℕ) : Type 0 where
   body-below : length b < 73 → Row20 b p
   no-place : ((k w : ℕ) → Kth b p k w → ⊥) → Row20 b p

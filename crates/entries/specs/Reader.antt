@@ -20,7 +20,7 @@ use Rattle.entries.specs.Papers.{answerPaper}
 
 -- OPENING
 
--- "Opening it on a body checks 3, 4, 6 as for M102"
+-- opening judges a body as an M102's: 3, 4, 6 (document 01, Frame, paragraph 4)
 unfoldable pub openOf : List ℕ → ℕ
 openOf b = pick (ltb 8164 (length b)) 3 (pick (ltb (length b) 73) 4 (pick (fieldsOk M102 b) 0 6))
 
@@ -55,14 +55,15 @@ placed (suc k) w p = placed k w p || eqb p (73 + k * w)
 unfoldable pub stands : List ℕ → ℕ → Bool
 stands b p = (leb 73 (length b) && placed (be 2 71 b) (sizeIn b) p) && leb (p + sizeIn b) (length b)
 
--- "type 2, price 8 for stream MD001 [..], else type 2, price 8, size 8, position 1", from the place p on
+-- the entry from the place p on: type and price; size and position too, except for stream MD001
+-- (document 01, Frame, paragraph 4)
 unfoldable pub entryAt : List ℕ → ℕ → Paper
 entryAt b p =
     pick (eqb (be 5 10 b) 0x4D44303031)
     (answer 0 (be 2 p b ∷ be 8 (p + 2) b ∷ []))
     (answer 0 (be 2 p b ∷ be 8 (p + 2) b ∷ be 8 (p + 10) b ∷ be 1 (p + 18) b ∷ []))
 
--- "a step gives the entry and the reader after it, or 20"
+-- a step: the entry, and the reader after it; 20 where there is none (document 01, Frame, paragraph 4)
 unfoldable pub stepOf : List ℕ → ℕ → Paper
 stepOf b p = pick (stands b p) (entryAt b p) (refusal 20)
 

@@ -30,7 +30,7 @@ pub enum Entry {
     },
 }
 
-// What a step answers.
+// What a step returns.
 pub enum Answer {
     Done(Entry),
     Refused(Refusal),
@@ -117,7 +117,7 @@ fn entry_at(body: &[u8], place: usize, w: usize) -> Entry
     }
 }
 
-// The decoder: the entry at a place and the place behind it, or 20 and the place as it was.
+// The decoder: the entry at a place and the place after it, or 20 and the place as it was.
 // The stream and NoMDEntries are read from the body, whoever made the reader.
 fn step_at(body: &[u8], place: usize) -> Stop
     ensures { λ r. ⌜ Stops (now (body .entry)) place r ⌝ }
@@ -151,7 +151,7 @@ pub fn reader_of<'a>(body: &'a [u8]) -> Opened<'a>
     }
 }
 
-// The entry at the reader's place and the reader behind it, or 20 and the reader as it was.
+// The entry at the reader's place and the reader after it, or 20 and the reader as it was.
 pub fn step<'a>(r: Entries<'a>) -> Stepped<'a>
     ensures { λ s. ⌜ Steps (r .entry) s ⌝ }
 {

@@ -39,7 +39,7 @@ enum Head {
     Refused(Refusal),
 }
 
-// The checks up to the whole length, of the frame at a place. The type is tested before anything behind it is read.
+// The checks up to the whole length, of the frame at a place. The type is tested before anything after it is read.
 fn head_at(bytes: &[u8], at: usize) -> Head
     ensures { λ r. ⌜ HeadSays r (drop at (now (bytes .entry))) ⌝ }
 {
@@ -66,7 +66,7 @@ fn head_at(bytes: &[u8], at: usize) -> Head
     }
 }
 
-// The checks behind them, of a frame whose header and body sum to v.
+// The checks after them, of a frame whose header and body sum to v.
 fn rest_at(bytes: &[u8], at: usize, kind: Kind, n: usize, v: u8) -> Read
     requires { ⌜ HeadSays (Head.Whole kind n) (drop at (now bytes)) × (v ≡ sum8 (take (24 + n) (drop at (now bytes)))) ⌝ }
     ensures { λ r. ⌜ readPaper r ≡ readOf (drop at (now (bytes .entry))) ⌝ }
@@ -122,7 +122,7 @@ pub fn body_at(bytes: &[u8], at: usize) -> &[u8]
     }
 }
 
-// What writing a message into so much room answers.
+// What writing a message into so much room returns.
 fn may_write(
     msg_type: u32,
     sending_time: u64,
@@ -163,7 +163,7 @@ fn store(msg_type: u32, sending_time: u64, seq: SessionNumber, body: &[u8], out:
     octets::put(out, end, 4, v as u64);
 }
 
-// Writes a message at the front of out, and answers how many bytes its frame has. A refusal writes nothing.
+// Writes a message at the front of out, and returns how many bytes its frame has. A refusal writes nothing.
 pub fn write(
     msg_type: u32,
     sending_time: u64,

@@ -10,7 +10,7 @@ use Rattle.octets.specs.Octets.{be, sum8}
 use Rattle.rules.specs.Table.{kindOf, measureOf}
 use Rattle.rules.specs.Fields.{judgeOf}
 
--- Header: MsgType 4 bytes, SendingTime 8, MsgSeqNum 8, BodyLength 4
+-- the header: four fields of 4, 8, 8 and 4 bytes (document 01, Frame, paragraph 1)
 abbrev pub msgType : List ℕ → ℕ
 msgType s = be 4 0 s
 
@@ -31,7 +31,7 @@ body s = take (bodyLength s) (drop 24 s)
 abbrev pub plain : List ℕ → List ℕ
 plain s = take (24 + bodyLength s) s
 
--- then CheckSum, 4 bytes
+-- the sum as it is stored, in the four bytes after the body
 abbrev pub checkSum : List ℕ → ℕ
 checkSum s = be 4 (24 + bodyLength s) s
 
@@ -39,7 +39,8 @@ checkSum s = be 4 (24 + bodyLength s) s
 unfoldable pub checked : ℕ → Paper → Paper
 checked m p = pick (eqb m 0) p (refusal m)
 
--- "Reading checks in this order: 24 bytes, 2, 3, 4, whole length, 5, 6."
+-- reading's checks in their order: the header is there, 2, 3, 4, the whole frame is there, 5, 7, 6
+-- (document 01, Numbers, paragraph 2; 7 by CR 6)
 unfoldable pub readOf : List ℕ → Paper
 readOf s =
     pick (leb 24 (length s))

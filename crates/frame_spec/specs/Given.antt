@@ -37,7 +37,7 @@ pub record There (k : Kind) (s : List ℕ) : Type 0 where
   pub before : Suited k s
   pub there : 24 + be 4 20 s + 4 ≤ length s
 
--- 5: CheckSum is the sum of all header and body bytes modulo 256, all 32 bits compared
+-- 5: CheckSum, "all 32 bits compared", is the one-byte sum of header and body
 pub record Summed (k : Kind) (s : List ℕ) : Type 0 where
   pub before : There k s
   pub sum : be 4 (24 + be 4 20 s) s ≡ sumOf (take (24 + be 4 20 s) s) % 256

@@ -1,4 +1,4 @@
--- Frame law 5: the search answers the lowest place at or after the start where a frame reads, or that none does.
+-- Frame law 5: the search finds the lowest place from its start on where a frame reads, or none.
 use Prim.Native.Nat.{ℕ, zero, suc, _+_, _-_, _≤_, _<_}
 use mathlib.Core.Path.{_≡_, sym, ap, _∙_}
 use mathlib.Core.Bool.{true, false}

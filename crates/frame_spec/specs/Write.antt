@@ -9,7 +9,7 @@ use Rattle.rules.specs.Table.{kindOf, measureOf}
 use Rattle.rules.specs.Fields.{judgeOf}
 use Rattle.frame_spec.specs.Frame.{msgType, sendingTime, msgSeqNum, body, checked}
 
--- "A message is MsgType, SendingTime, MsgSeqNum and the body; writing works out the rest."
+-- a message: the fields that writing does not work out (document 01, Frame, paragraph 1)
 pub record Message : Type 0 where
   pub type : ℕ
   pub time : ℕ
@@ -27,17 +27,19 @@ messageOf s = message (msgType s) (sendingTime s) (msgSeqNum s) (body s)
 unfoldable pub plainOf : Message → List ℕ
 plainOf m = (((bytesOf 4 (m .type) ++ bytesOf 8 (m .time)) ++ bytesOf 8 (m .seq)) ++ bytesOf 4 (length (m .content))) ++ m .content
 
--- "CheckSum is the sum of all header and body bytes modulo 256, stored as a 32-bit number."
+-- header and body, then their one-byte sum in four bytes (document 01, Frame, paragraph 2)
 unfoldable pub frameOf : Message → List ℕ
 frameOf m = plainOf m ++ bytesOf 4 (sum8 (plainOf m))
 
--- "Writing checks 2, 3, 4, 6, 8", into so much room
+-- writing's checks in their order, into so much room: 2, 3, 4, 7, 6, 8
+-- (document 01, Numbers, paragraph 2; 7 by CR 6)
 unfoldable pub writeOf : Message → ℕ → Paper
 writeOf m room =
     checked (measureOf (kindOf (m .type)) (length (m .content)))
     (checked (judgeOf (kindOf (m .type)) (m .time) (m .content))
     (pick (leb (28 + length (m .content)) room) (answer 0 ((28 + length (m .content)) ∷ [])) (refusal 8)))
 
--- "A refusal [..] buffers keep their bytes [..] Success leaves bytes beyond the written ones as they stood."
+-- the buffer after writing: a refusal changes no byte, success none past the frame
+-- (document 01, Numbers, paragraph 2)
 unfoldable pub leftOf : Message → List ℕ → List ℕ
 leftOf m out = pick (eqb (writeOf m (length out) .number) 0) (laid 0 (frameOf m) out) out

@@ -17,7 +17,8 @@ abbrev pub viewed : Kind → ℕ → ℕ → ℕ → ℕ → ℕ → View
 viewed k channel tick first last status =
     record { kind = k; channel = channelOf channel; tick = tickOf tick; first = tickOf first; last = tickOf last; status = status }
 
--- "The tick number is that of M201, ApplLastSeqNum for P001, ApplBegSeqNum for P002, else 0. Channel is 0 for types without one."
+-- which fields are tick number and channel, by type; 0 where it has none
+-- (document 01, Records, paragraph 1)
 unfoldable pub viewOf : Kind → List ℕ → View
 viewOf S001 b = viewed S001 0 0 0 0 0
 viewOf S002 b = viewed S002 0 0 0 0 0

@@ -1,4 +1,4 @@
-// What C and Rust may call on whole captures, answered and told as in `host_frames`. A refusal writes nothing: neither what is told, nor into a buffer,
+// What C and Rust may call on whole captures: code and results as in `host_frames`. A refusal writes nothing: neither a result, nor into a buffer,
 // nor into the nine words of a ledger (crate `host_words`).
 ghost use mathlib.Core.Path.{_≡_};
 ghost use mathlib.Core.List.{[], _∷_};
@@ -38,7 +38,7 @@ fn keep(state: &mut [u64; 9], answer: u32, next: Ledger)
     }
 }
 
-// What a writer's answer comes to: its number, and told how many bytes.
+// What a call that writes returns: its number; the result is how many bytes.
 fn told_bytes(w: Written, told: &mut u64) -> u32
     ensures { λ r. ⌜ Tells (writtenPaper w) (now (told .entry) ∷ []) r (now (told .exit) ∷ []) ⌝ }
 {
@@ -51,7 +51,7 @@ fn told_bytes(w: Written, told: &mut u64) -> u32
     }
 }
 
-// Walks a capture: a record of 64 bytes for each reading, and channel 100's ledger. Told: how many records, frames, and readings
+// Walks a capture: a record of 64 bytes for each reading, and channel 100's ledger. Results: how many records, frames, and readings
 // refused. Where the records have no room, 8, and nothing is written anywhere.
 #[no_mangle]
 pub extern "C" fn rk_walk(
@@ -79,7 +79,7 @@ pub extern "C" fn rk_walk(
     answer
 }
 
-// The listing of what a walk left: the line of each whole record, then the last line. Told: how many bytes. 13 where the words
+// The listing of what a walk left: the line of each whole record, then the last line. Result: how many bytes. 13 where the words
 // break the state rules, then 8.
 #[no_mangle]
 pub extern "C" fn rk_listing(
@@ -113,8 +113,8 @@ pub extern "C" fn rk_listing(
     told_bytes(laid, told)
 }
 
-// A capture, scrubbed: its accepted frames at the front of out, stray bytes left out. Told: how many bytes, how many frames, and
-// how many of these the search found behind damage.
+// A capture, scrubbed: its accepted frames at the front of out, stray bytes left out. Results: how many bytes, how many frames, and
+// how many of these the search found after damage.
 #[no_mangle]
 pub extern "C" fn rk_clean(capture: &[u8], out: &mut [u8], told: &mut [u64; 3]) -> u32
     ensures { λ r. ⌜ Tells (cleanAnswer (now (capture .entry)) (length (now (out .entry)))) (now (told .entry)) r (now (told .exit))
@@ -133,7 +133,7 @@ pub extern "C" fn rk_clean(capture: &[u8], out: &mut [u8], told: &mut [u64; 3]) 
     answer
 }
 
-// Whether a capture is what cleaning it gives. Told: 1 and the first place where the two differ, or 0 and 0 where none does.
+// Whether a capture is what cleaning it gives. Results: 1 and the first place where the two differ, or 0 and 0 where none does.
 #[no_mangle]
 pub extern "C" fn rk_is_clean(capture: &[u8], told: &mut [u64; 2]) -> u32
     ensures { λ r. ⌜ Tells (cleanTold (now (capture .entry))) (now (told .entry)) r (now (told .exit)) ⌝ }

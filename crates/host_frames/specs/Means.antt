@@ -73,7 +73,8 @@ pub record HostWrote (m : Message) (d : List ℕ) (x told : ℕ) (d′ : List �
   pub writing : seen x (told ∷ []) ≡ writeOf m (length d)
   pub buffer : d′ ≡ leftOf m d
 
--- rk_search: "the lowest place at or after the given one where a frame reads 0, [..] or that none exists"; 9 for a start beyond the end
+-- rk_search: the lowest place from the start on where a frame reads, or none; 9 for a start beyond the end
+-- (document 01, Search)
 pub record HostFound (s : List ℕ) (from x : ℕ) (row : List ℕ) : Type 0 where
   pub place : from ≤ length s → (p : ℕ) → ((x ≡ 0) × (row ≡ 1 ∷ p ∷ [])) ↔ LowestPlace s from p
   pub none : from ≤ length s → ((x ≡ 0) × (row ≡ 0 ∷ 0 ∷ [])) ↔ ((j : ℕ) → from ≤ j → ReadsAt s j → ⊥)

@@ -1,4 +1,4 @@
-// What C and Rust may call on a ledger, answered and told as in `host_frames`. A ledger is nine numbers, those of the crate `host_words`. A refusal writes
+// What C and Rust may call on a ledger: code and results as in `host_frames`. A ledger is nine numbers, those of the crate `host_words`. A refusal writes
 // nothing; only 12 changes a ledger, and only its top.
 ghost use mathlib.Core.Path.{_≡_};
 ghost use Rattle.ledger_spec.specs.Calls.{Tick, Announce, Request, Reply, openNumber};
@@ -48,7 +48,7 @@ pub extern "C" fn rk_ledger_open(channel: u16, state: &mut [u64; 9]) -> u32
     answer
 }
 
-// Offers a tick. Told: the first number that the floor has newly passed and how many, perhaps none. 12 raises the top.
+// Offers a tick. Results: the first number that the floor has newly passed and how many, perhaps none. 12 raises the top.
 #[no_mangle]
 pub extern "C" fn rk_ledger_tick(
     state: &mut [u64; 9],
@@ -96,7 +96,7 @@ pub extern "C" fn rk_ledger_announce(state: &mut [u64; 9], channel: u16, last: u
     answer
 }
 
-// Asks for a resend request. Told: its first and last number, pending from now on.
+// Asks for a resend request. Results: its first and last number, pending from now on.
 #[no_mangle]
 pub extern "C" fn rk_ledger_request(state: &mut [u64; 9], channel: u16, told: &mut [u64; 2]) -> u32
     ensures { λ r. ⌜ Tells (callTold (now (state .entry)) (Request channel)) (now (told .entry)) r (now (told .exit))
@@ -138,7 +138,7 @@ fn settled_row(first: TickNumber, given_up: Map, passed: Map) -> [u64; 9]
     ]
 }
 
-// The exchange's reply to the pending request, which is cleared. Told: the floor + 1 as it was, the numbers given up, and the received ones that the
+// The exchange's reply to the pending request, which is cleared. Results: the floor + 1 as it was, the numbers given up, and the received ones that the
 // floor has newly passed, for delivery; both sets are empty but on status 4.
 #[no_mangle]
 pub extern "C" fn rk_ledger_reply(
@@ -175,7 +175,7 @@ pub extern "C" fn rk_ledger_reply(
     }
 }
 
-// What a ledger has to tell. Told: channel, floor, top, how many numbers are missing and how many are held, and the pending
+// What a ledger holds. Results: channel, floor, top, how many numbers are missing and how many are held, and the pending
 // request's first and last number, 0 and 0 where nothing is pending.
 #[no_mangle]
 pub extern "C" fn rk_ledger_told(state: &[u64; 9], told: &mut [u64; 7]) -> u32

@@ -1,5 +1,5 @@
 // A stream for C and Rust: bytes that arrive in cuts, to records, counts and ledger. Between two calls the host keeps it as six numbers,
-// the nine words of its ledger, and the bytes that wait. Each call answers a number, 0 where all is well. A refusal writes nothing.
+// the nine words of its ledger, and the bytes that wait. Each call returns a code, 0 where all is well. A refusal writes nothing.
 ghost use mathlib.Core.Path.{_≡_};
 ghost use lib.ListN.{length};
 ghost use Rattle.stream_spec.specs.State.{opened};
@@ -72,7 +72,7 @@ fn keep(state: &mut [u64; 6], ledger: &mut [u64; 9], kept: &mut [u8; 8191], next
     *kept = held;
 }
 
-// What a call comes to: its number; beside 0 the stream after it is kept, and its numbers are told.
+// What a call returns: its number; beside 0 the stream after it is kept, and its numbers are the results.
 fn settle(
     state: &mut [u64; 6],
     ledger: &mut [u64; 9],
@@ -114,8 +114,8 @@ pub extern "C" fn rk_stream_open(
     0
 }
 
-// One more cut, perhaps of no bytes: a record of 64 bytes for each reading that it decides. Told: how many records; frames and refused
-// readings so far; the place of the first byte that waits, or of the next to come; how many bytes wait. 13, 19, 29, 8.
+// One more cut, perhaps of no bytes: a record of 64 bytes for each reading that it decides. Results: how many records; frames and refused
+// readings so far; the place of the first byte that waits, or of the next to come; how many bytes wait. Refusals 13, 19, 29, 8.
 #[no_mangle]
 pub extern "C" fn rk_stream_feed(
     state: &mut [u64; 6],
@@ -133,7 +133,7 @@ pub extern "C" fn rk_stream_feed(
     settle(state, ledger, kept, told, fed)
 }
 
-// No more bytes come: what remains is walked as the end of a closed capture is. Told as for a cut. 13, 19, 8.
+// No more bytes come: what remains is walked as the end of a closed capture is. Results as for a cut. Refusals 13, 19, 8.
 #[no_mangle]
 pub extern "C" fn rk_stream_close(
     state: &mut [u64; 6],

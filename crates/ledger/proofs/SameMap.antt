@@ -43,7 +43,7 @@ use Rattle.ledger.proofs.Promised.{ran-by-is-trace}
 place-set : (l : Ledger) → Words (l .map .words) → (p : ℕ) → p < 256 → isSet (bitsIn (l .map)) p ≡ placeSet l p
 place-set l w p h = ap (λ (x : ℕ). eqb x 1) (list-bit (l .map .words) w p h)
 
--- "Let a number's place be its remainder by 256": of the numbers that a map has places for, n is held where bit n % 64 of word n % 256 / 64 is set
+-- a number's place is "its remainder by 256": of the numbers that a map has places for, n is held where bit n % 64 of word n % 256 / 64 is set
 pub place-is : (l : Ledger) → Words (l .map .words) → (n : ℕ) → l .floor .0 < n → n ≤ l .floor .0 + 256
     → has (bookOf l) n ≡ isSet (getD (l .map .words) (n % 256 / 64) 0) (n % 64)
 unfolding has bookOf
@@ -139,7 +139,7 @@ book-floor : (l : Ledger) → bookOf l .floor ≡ l .floor .0
 unfolding bookOf
 book-floor l = refl
 
--- "with places cleared as the floor passes them": after a call answered 0 the place of each number that the floor has newly passed is clear
+-- places are cleared "as the floor passes them": after a call answered 0 the place of each number that the floor has newly passed is clear
 pub passed-cleared : (l next : Ledger) (call : Call) (paper : Paper) → Words (l .map .words) → Promise l call next paper → answered paper 0 ≡ true
     → (n : ℕ) → l .floor .0 < n → n ≤ next .floor .0 → isSet (getD (next .map .words) (n % 256 / 64) 0) (n % 64) ≡ false
 unfolding answerTo
@@ -263,7 +263,7 @@ module _ (now old : Ledger) (w : Words (now .map .words)) (v : Words (old .map .
 
 -- ---- each call, on every state, sound or not
 
--- "each call answers as the old map's did and then holds the same set of numbers"
+-- a call answers as with the old map, and then "the same set of numbers" is held
 pub one-call-as-old : (now old next oldNext : Ledger) (call : Call) (paper oldPaper : Paper) → Words (now .map .words) → Words (old .map .words) → SameHeld now old
     → Promise now call next paper → PromiseBy oldBookOf oldLedgerOf old call oldNext oldPaper → (paper ≡ oldPaper) × SameHeld next oldNext
 one-call-as-old now old next oldNext call paper oldPaper w v s p q =
@@ -286,12 +286,12 @@ pub ran-words : (channel : ℕ) → channel ≤ 9999 → {calls : Calls} {l : Le
 ran-words channel small {calls} r =
     subst (λ (x : Ledger). Words (x .map .words)) (sym (ran-by-is-trace bookOf ledgerOf book-of topped-of channel small r .0)) (ledger-words (after channel calls))
 
--- "each call answers as the old map's did"
+-- calls answer as with the old map
 pub answers-as-old : (channel : ℕ) → channel ≤ 9999 → {calls : Calls} {now old : Ledger} {h g : History} → Ran channel calls now h → OldRan channel calls old g → h ≡ g
 answers-as-old channel small r q =
     ran-by-is-trace bookOf ledgerOf book-of topped-of channel small r .1 ∙ sym (ran-by-is-trace oldBookOf oldLedgerOf old-book-of old-topped-of channel small q .1)
 
--- "and then holds the same set of numbers, for all states that calls can reach"
+-- and "the same set of numbers" is held, in every state that calls reach
 pub holds-as-old : (channel : ℕ) → channel ≤ 9999 → {calls : Calls} {now old : Ledger} {h g : History} → Ran channel calls now h → OldRan channel calls old g → SameHeld now old
 holds-as-old channel small {calls} {now} {old} r q =
     let b = after channel calls in

@@ -17,7 +17,7 @@ placeSet l p = isSet (getD (l .map .words) (p / 64) 0) (p % 64)
 abbrev pub within : Ledger → ℕ → Bool
 within l n = ltb (l .floor .0) n && leb n (l .floor .0 + 256)
 
--- the numbers held: "Let a number's place be its remainder by 256"
+-- the numbers held: a number's place is "its remainder by 256"
 unfoldable pub heldNow : Ledger → ℕ → Bool
 heldNow l n = within l n && placeSet l (n % 256)
 
@@ -25,7 +25,7 @@ heldNow l n = within l n && placeSet l (n % 256)
 unfoldable pub heldOld : Ledger → ℕ → Bool
 heldOld l n = within l n && placeSet l (n - l .floor .0 - 1)
 
--- "and then holds the same set of numbers": a ledger now and one before request 9 that differ in nothing but the places
+-- "the same set of numbers": a ledger now and one before request 9 that differ in nothing but the places
 pub record SameHeld (now old : Ledger) : Type 0 where
   pub channel-same : now .channel ≡ old .channel
   pub floor-same : now .floor ≡ old .floor

@@ -29,7 +29,7 @@ pub struct Ledger {
     pub channel: ChannelNumber,
     // All numbers up to it are received or given up.
     pub floor: TickNumber,
-    // The largest number offered and not refused by 18 or 10, or announced.
+    // The largest number announced, or offered and not refused by 18 or 10.
     pub top: TickNumber,
     // A number's place is its remainder by 256: of the numbers above the floor, for the 256 next ones.
     pub map: Map,
@@ -63,7 +63,7 @@ pub enum ReplyAnswer {
 }
 
 // Beside the answer two sets, each a map whose places are read as the ledger's are: a number's place is its remainder by 256. They hold numbers from
-// `first`, the floor + 1 as it was before the call, to 256 behind it. Beside a refusal `first` is 0, and both are empty.
+// `first`, the floor + 1 as it was before the call, to 256 after it. Beside a refusal `first` is 0, and both are empty.
 pub struct Replied {
     pub next: Ledger,
     pub answer: ReplyAnswer,
@@ -148,7 +148,7 @@ fn right(first: u64, last: u64, floor: u64, top: u64) -> bool
 }
 
 // Whether the map, read round from `from`, keeps the state rules, where `known` numbers lie above the floor and not above the top.
-// A map has 256 places: where fewer numbers are known, one scan from behind them round to `from` finds all places clear.
+// A map has 256 places: where fewer numbers are known, one scan from the place after them round to `from` finds all places clear.
 fn map_sound(map: Map, from: u64, known: u64) -> bool
     ensures { λ r. ⌜ r ≡ mapRules (rotated from (bitsIn map)) known ⌝ }
 {
@@ -258,7 +258,7 @@ impl Ledger {
         }
     }
 
-    // Floor 0, top 0, nothing held, nothing pending.
+    // Nothing received, announced, held or pending.
     fn fresh(channel: ChannelNumber) -> Ledger
         ensures { λ r. ⌜ r ≡ ledgerOf (fresh (channel .0)) ⌝ }
     {
@@ -366,7 +366,7 @@ impl Ledger {
         }
     }
 
-    // The tick is marked received, and the floor moves to just below the first number not received. 13, 18, 10, 11, 12.
+    // Marks the tick received, and moves the floor up as far as no number is missing. Refusals 13, 18, 10, 11, 12.
     pub fn tick(self, channel: ChannelNumber, number: TickNumber) -> Ticked
         ensures { λ r. ⌜ (tickPaper (r .answer) ≡ answerTo (bookOf self) (Tick (channel .0) (number .0)))
             × (r .next ≡ nextIn self (Tick (channel .0) (number .0))) ⌝ }
@@ -389,7 +389,7 @@ impl Ledger {
         Verdict::Fine
     }
 
-    // The top becomes the larger of the two. 13, 18, 10.
+    // Raises the top to the announced number, if that is larger. Refusals 13, 18, 10.
     pub fn announce(self, channel: ChannelNumber, last: TickNumber) -> Noted
         ensures { λ r. ⌜ (paperOf (r .answer) ≡ answerTo (bookOf self) (Announce (channel .0) (last .0)))
             × (r .next ≡ nextIn self (Announce (channel .0) (last .0))) ⌝ }
@@ -426,7 +426,7 @@ impl Ledger {
         }
     }
 
-    // From floor + 1 up to the top, broken off before the first held number and at 200 numbers.
+    // The range from floor + 1 on: it ends before the first held number, at the top, or after 200 numbers.
     fn granted(self) -> Requested
         requires { ⌜ (self .floor .0 ≤ self .top .0) × (self .top .0 ≤ largest) ⌝ }
         ensures { λ r. ⌜ (requestPaper (r .answer) ≡ answer 0 ((self .floor .0 + 1) ∷ (self .floor .0 + asked (bookOf self)) ∷ []))
@@ -446,7 +446,7 @@ impl Ledger {
         }
     }
 
-    // The range to ask for, pending from now on. 13, 18, 14, 15.
+    // The range to ask for, pending from now on. Refusals 13, 18, 14, 15.
     pub fn request(self, channel: ChannelNumber) -> Requested
         ensures { λ r. ⌜ (requestPaper (r .answer) ≡ answerTo (bookOf self) (Request (channel .0)))
             × (r .next ≡ nextIn self (Request (channel .0))) ⌝ }
@@ -487,7 +487,7 @@ impl Ledger {
         pending.reach(floor)
     }
 
-    // The pending request is cleared, and the floor passes the w numbers above it and the run of held ones behind them: floor + 1 is not held, so that run
+    // The pending request is cleared, and the floor passes the w numbers above it and the run of held ones after them: floor + 1 is not held, so that run
     // ends before it comes round. Those of the w not held are given up; the held ones passed are named apart.
     fn replied(self, w: u64) -> Replied
         requires { ⌜ (soundOf (bookOf self) ≡ true) × (w ≤ 256) × (w ≤ self .top .0 - self .floor .0) ⌝ }
@@ -530,7 +530,7 @@ impl Ledger {
         }
     }
 
-    // The pending request is cleared; on status 4 what is missing of it is given up, and the floor goes on. 13, 18, 17, 16.
+    // The pending request is cleared; on status 4 what is missing of it is given up, and the floor goes on. Refusals 13, 18, 17, 16.
     pub fn reply(self, channel: ChannelNumber, first: TickNumber, status: u8) -> Replied
         ensures { λ r. ⌜ (replyPaper (r .answer) (r .first) (r .«given_up») (r .passed) ≡ answerTo (bookOf self) (Reply (channel .0) (first .0) status))
             × (r .next ≡ nextIn self (Reply (channel .0) (first .0) status))
@@ -555,7 +555,7 @@ impl Ledger {
         }
     }
 
-    // How many numbers up to the top are missing. 13.
+    // How many numbers up to the top are missing. Refusal 13.
     pub fn missing(self) -> Counted
         ensures { λ r. ⌜ (countPaper (r .answer) (r .count) ≡ answerTo (bookOf self) Missing)
             × (r .next ≡ nextIn self Missing) ⌝ }
@@ -574,7 +574,7 @@ impl Ledger {
         }
     }
 
-    // How many numbers above the floor are held. 13.
+    // How many numbers above the floor are held. Refusal 13.
     pub fn held(self) -> Counted
         ensures { λ r. ⌜ (countPaper (r .answer) (r .count) ≡ answerTo (bookOf self) Held)
             × (r .next ≡ nextIn self Held) ⌝ }

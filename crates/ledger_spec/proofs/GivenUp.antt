@@ -243,7 +243,7 @@ values-0 : (b : Book) → StateRules b → (gaveUp b 0 ≡ 0) × (handed b 0 ≡
 unfolding gaveUp handed
 values-0 b r = (omega arith, ap (λ (k : ℕ). b .bits % 2 ^ k) (leaps-0 b r) ∙ mod-one (b .bits))
 
--- "Status 3 still only clears", and so does every status but 4: both sets are empty, and nothing but the pending request changes
+-- status 3 "only clears", and so does every status but 4: both sets are empty, and nothing but the pending request changes
 pub only-4-gives-up : (b : Book) (channel first status : ℕ) → StateRules b → answered (answerTo b (Reply channel first status)) 0 ≡ true → (status ≡ 4 → ⊥)
     → OnlyClears b (answerTo b (Reply channel first status)) (nextOf b (Reply channel first status))
 only-4-gives-up b channel first status r e other =

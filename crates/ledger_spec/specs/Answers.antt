@@ -69,8 +69,8 @@ pub record Broken (b : Book) : Type 0 where
   pub missing-0 : answerTo b Missing ≡ answer 13 (0 ∷ [])
   pub held-0 : answerTo b Held ≡ answer 13 (0 ∷ [])
 
--- "A refusal gives the number [..] and the ledger its state, save that 12 raises the top to that tick if it was lower."
--- For every state, sound or not.
+-- a refusal changes nothing, but 12 may raise the top (document 01, Numbers, paragraph 2); for every state,
+-- sound or not
 pub record OnlyTop (b next : Book) (n : ℕ) : Type 0 where
   pub top-is : next .top ≡ max (b .top) n
   pub channel-same : next .channel ≡ b .channel
@@ -82,7 +82,7 @@ pub record Keeps (b : Book) (call : Call) (next : Book) (a : Paper) : Type 0 whe
   pub same : answered a 0 ≡ false → answered a 12 ≡ false → next ≡ b
   pub far : answered a 12 ≡ true → OnlyTop b next (offered call)
 
--- "Using up map places for good: a place is free again once the floor passes it": calls that bring the floor to n
+-- no map place is used up "for good" (document 01, What we have been burnt by): calls that bring the floor to n
 pub record Reaches (channel n : ℕ) : Type 0 where
   pub calls : Calls
   pub floor-is : after channel calls .floor ≡ n

@@ -55,7 +55,7 @@ elsewhere b (Reply channel first status) = not (eqb channel (b .channel))
 elsewhere b Missing = false
 elsewhere b Held = false
 
--- "10, 11, 12 for a tick; 10 for an announcement; 14, 15 for a request; 17, 16 for a reply"
+-- the checks of each call after 13 and 18, in their order (document 01, Numbers, paragraph 2)
 -- (15: nothing is missing where the top is the floor, since floor + 1 is not held. `given-15` says it in the document's words.)
 unfoldable pub ownNumber : Book → Call → ℕ
 ownNumber b (Tick channel n) = pick (not (tickNumber n)) 10 (pick (has b n) 11 (pick (ltb (b .floor + 256) n) 12 0))
@@ -65,7 +65,7 @@ ownNumber b (Reply channel first status) = pick (not (replyStatus status)) 17 (p
 ownNumber b Missing = 0
 ownNumber b Held = 0
 
--- "Ledger calls check 13 first, then 18", then their own
+-- 13, then 18, then the call's own checks (document 01, Numbers, paragraph 2)
 unfoldable pub checkedOf : Book → Bool → ℕ → ℕ
 checkedOf b other own = pick (not (soundOf b)) 13 (pick other 18 own)
 
@@ -85,11 +85,11 @@ marked b n = bitOr (b .bits) (2 ^ (n - b .floor - 1))
 unfoldable pub passes : Book → ℕ → ℕ
 passes b n = run 256 (marked b n)
 
--- "marked received; the floor moves to just below the first number not received"
+-- a tick is "marked received", and the floor moves on (document 01, Ledger, paragraph 2)
 unfoldable pub taken : Book → ℕ → Book
 taken b n = moved b (passes b n) (marked b n) (max (b .top) n) (b .pending)
 
--- ---- a reply: "On status 4, each number of the pending range not received so far is given up"
+-- ---- a reply: status 4 gives up what the pending range still misses (CR 7)
 
 abbrev pub lastOf : Asked → ℕ
 lastOf nothing = 0
@@ -99,7 +99,7 @@ lastOf (range first last) = last
 unfoldable pub reach : Book → ℕ → ℕ
 reach b status = pick (eqb status 4) (lastOf (b .pending) - b .floor) 0
 
--- the map with all of them, and how many numbers the floor then passes: "over them and over all that follows and was received"
+-- the map with all of them, and how many numbers the floor then passes: these, and the received ones that follow
 abbrev pub covered : Book → ℕ → ℕ
 covered b w = bitOr (b .bits) (2 ^ w - 1)
 
@@ -123,7 +123,8 @@ raised b n = record { channel = b .channel; floor = b .floor; top = max (b .top)
 unfoldable pub waiting : Book → Asked → Book
 waiting b p = record { channel = b .channel; floor = b .floor; top = b .top; bits = b .bits; pending = p }
 
--- how many numbers a request names: "up to the top, broken off before the first held number and at 200 numbers"
+-- how many numbers a request names: it ends before the first held one, at the top, or after 200
+-- (document 01, Ledger, paragraph 2)
 unfoldable pub asked : Book → ℕ
 asked b = min (min (b .top - b .floor) (trailingZeros 256 (b .bits))) 200
 
@@ -136,7 +137,7 @@ done b (Reply channel first status) = replied b (reach b status)
 done b Missing = b
 done b Held = b
 
--- "A refusal gives the number [..] and the ledger its state, save that 12 raises the top to that tick if it was lower."
+-- a refusal changes nothing, but 12 may raise the top (document 01, Numbers, paragraph 2)
 abbrev pub nextAt : Book → Call → ℕ → Book
 nextAt b call number = pick (eqb number 0) (done b call) (pick (eqb number 12) (raised b (offered call)) b)
 
@@ -186,6 +187,6 @@ fresh channel = record { channel = channel; floor = 0; top = 0; bits = 0; pendin
 abbrev pub openNumber : ℕ → ℕ
 openNumber channel = pick (ltb 9999 channel) 10 0
 
--- "Opening a ledger checks 10; refused, a fresh ledger for channel 0 stands beside the number."
+-- opening: 0; or 10, and beside it a fresh ledger of channel 0 (document 01, Numbers, paragraph 2)
 unfoldable pub openOf : ℕ → Book
 openOf channel = pick (ltb 9999 channel) (fresh 0) (fresh channel)

@@ -15,7 +15,7 @@ use Rattle.ledger_spec.specs.Words.{valueAt, answered, received, givesUp
 abbrev pub reply : ℕ → Calls → ℕ → ℕ → Paper
 reply channel calls first status = answerTo (after channel calls) (Reply channel first status)
 
--- "each number of the pending range not received so far is given up and named in the answer"
+-- status 4 gives up the numbers of the pending range "not received so far", and the answer names them
 pub record InRange (h : History) (n : ℕ) : Type 0 where
   pub first : ℕ
   pub last : ℕ
@@ -24,8 +24,8 @@ pub record InRange (h : History) (n : ℕ) : Type 0 where
   pub to : n ≤ last
   pub not-received : received h n ≡ false
 
--- "the floor then passes over them and over all that follows and was received, and the same answer names apart the received numbers newly passed, for
--- delivery": the numbers from the old floor + 1 to the new floor, split in two
+-- the floor passes these and the received ones that follow, and the answer names those "apart": the numbers
+-- from the old floor + 1 to the new floor, split in two
 pub record NamesApart (h next : History) (call : Call) (a : Paper) : Type 0 where
   pub split : (n : ℕ) → floorOf h < n → n ≤ floorOf next → (givesUp call a n ≡ true) ⊎ (isIn n (namedBy call a) ≡ true)
   pub no-other : (n : ℕ) → (givesUp call a n ≡ true) ⊎ (isIn n (namedBy call a) ≡ true) → (floorOf h < n) × (n ≤ floorOf next)
@@ -33,19 +33,19 @@ pub record NamesApart (h next : History) (call : Call) (a : Paper) : Type 0 wher
   pub passed-received : (n : ℕ) → isIn n (namedBy call a) ≡ true → received h n ≡ true
   pub passed-anew : (n : ℕ) → isIn n (namedBy call a) ≡ true → delivered h n ≡ false
 
--- "After every call, ticks included, the floor stands just below the first number neither received nor given up."
+-- after each call the floor is just below the first number "neither received nor given up"
 pub record FloorStands (h : History) (b : Book) : Type 0 where
   pub floor-is : b .floor ≡ floorOf h
   pub all-settled : (n : ℕ) → 1 ≤ n → n ≤ b .floor → settled h n ≡ true
   pub next-received-not : received h (b .floor + 1) ≡ false
   pub next-given-not : givenUp h (b .floor + 1) ≡ false
 
--- "A given-up number that arrives late answers 11", and changes nothing
+-- a late tick of a given-up number is answered 11, and changes nothing
 pub record Late (b : Book) (channel n : ℕ) : Type 0 where
   pub answer-11 : answerTo b (Tick channel n) ≡ refusal 11
   pub same : nextOf b (Tick channel n) ≡ b
 
--- "Status 3 still only clears": a reply that names two empty sets, and changes nothing but the pending request
+-- status 3 "only clears": a reply that names two empty sets, and changes nothing but the pending request
 pub record OnlyClears (b : Book) (a : Paper) (next : Book) : Type 0 where
   pub no-sets : a ≡ answer 0 ((b .floor + 1) ∷ 0 ∷ 0 ∷ [])
   pub cleared : next ≡ waiting b nothing
@@ -55,6 +55,6 @@ abbrev pub then : Calls → Calls → Calls
 then calls none = calls
 then calls (more ▸ call) = then calls more ▸ call
 
--- "Today the ledger asks for ever": a request granted at any time behind the reply names no number of the range
+-- no asking "for ever": a request granted at any time after the reply names no number of the range
 pub record AsksNoMore (h : History) (later : Paper) : Type 0 where
   pub asks-not : (first last n : ℕ) → pending h ≡ range first last → n ≤ last → answered later 0 ≡ true → valueAt later 0 ≤ n → ⊥

@@ -37,16 +37,17 @@ has b n = orElse (leb n (b .floor)) (isSet (b .bits) (n - b .floor - 1))
 
 -- ---- the state rules, as a test
 
--- "a pending request starts from 1 to floor + 1, ends from its start to top, and has at most 200 numbers"
+-- a pending request: the bounds of its start, of its end, and its 200 numbers at most
+-- (document 01, Ledger, paragraph 1)
 unfoldable pub rangeRules : Asked → ℕ → ℕ → Bool
 rangeRules nothing floor top = true
 rangeRules (range first last) floor top = leb 1 first && (leb first (floor + 1) && (leb first last && (leb last top && ltb last (first + 200))))
 
--- "floor + 1 and all above top not held", where `known` numbers lie above the floor and not above the top; the map has 256 places
+-- neither floor + 1 nor a number above the top is held, where `known` numbers lie above the floor and not above the top; the map has 256 places
 unfoldable pub mapRules : ℕ → ℕ → Bool
 mapRules bits known = not (isSet bits 0) && eqb (bits / 2 ^ min known 256) 0
 
--- "channel at most 9,999; floor not above top, top at most 18 digits", and the two above
+-- the state rules: the bounds of channel, floor and top, and the two above (document 01, Ledger, paragraph 1)
 unfoldable pub soundOf : Book → Bool
 soundOf b =
     leb (b .channel) 9999 && (leb (b .floor) (b .top) && (leb (b .top) largest

@@ -38,7 +38,7 @@ fn last_of(walked: Walked) -> Summary
     }
 }
 
-// Lays the listing of a capture over the front of text, and gives the place behind it.
+// Writes the listing of a capture over the front of text, and returns the place after it.
 fn list(capture: &[u8], records: &mut [u8], text: &mut [u8]) -> usize
     requires { ⌜ (length (now capture) ≤ 65536) × ((289280 ≤ length (now records)) × (574178 ≤ length (now text))) ⌝ }
     ensures { λ e. ⌜ Stored 0 (listedOf (now (capture .entry))) (now (text .entry)) (now (text .exit)) e ⌝ }
@@ -51,7 +51,7 @@ fn list(capture: &[u8], records: &mut [u8], text: &mut [u8]) -> usize
     }
 }
 
-// Lays what is to be printed for an input over the front of text, and gives the place behind it.
+// Writes what is to be printed for an input over the front of text, and returns the place after it.
 fn output(input: &[u8], records: &mut [u8], text: &mut [u8]) -> usize
     requires { ⌜ (289280 ≤ length (now records)) × (574178 ≤ length (now text)) ⌝ }
     ensures { λ e. ⌜ Stored 0 (outputOf (now (input .entry))) (now (text .entry)) (now (text .exit)) e ⌝ }

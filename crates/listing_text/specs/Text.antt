@@ -29,7 +29,7 @@ typeShown t = pick (eqb t blank) dashes t
 unfoldable pub typeColumn : ℕ → List ℕ
 typeColumn t = bytesOf 4 (typeShown t) ++ (space ∷ [])
 
--- "Columns: place, type (`----` where blank), answer, MsgSeqNum,
+-- the first four columns of a line (document 01, Records, paragraph 4)
 unfoldable pub firstColumns : Record → List ℕ
 firstColumns r =
     column (r .place) space
@@ -37,7 +37,7 @@ firstColumns r =
     ++ (column (r .answer) space
     ++ column (r .seq .0) space))
 
--- channel, tick number, floor, top."
+-- the other four
 unfoldable pub lastColumns : Record → List ℕ
 lastColumns r =
     column (r .channel .0) space

@@ -28,7 +28,7 @@ const BLANK: u32 = 0x20202020;
 // What stands for it in a line.
 const DASHES: u32 = 0x2D2D2D2D;
 
-// Lays the first n bytes of src over out from at on.
+// Writes the first n bytes of src over out from at on.
 fn lay_front(out: &mut [u8], at: usize, src: &[u8], n: usize) -> Written
     requires { ⌜ n ≤ length (now src) ⌝ }
     ensures { λ w. ⌜ (writtenPaper w ≡ roomFor at n (length (now (out .entry)))) × (now (out .exit) ≡ laidIfRoom at (take n (now (src .entry))) (now (out .entry))) ⌝ }
@@ -36,7 +36,7 @@ fn lay_front(out: &mut [u8], at: usize, src: &[u8], n: usize) -> Written
     octets::lay(out, at, &src[..n])
 }
 
-// Lays a number and the byte behind it over d from at on, and gives the place behind both. No number has more than 20 digits.
+// Writes a number and the byte after it over d from at on, and returns the place after both. No number has more than 20 digits.
 fn store_column(d: &mut [u8], at: usize, v: u64, behind: u8) -> usize
     requires { ⌜ at + 21 ≤ length (now d) ⌝ }
     ensures { λ e. ⌜ Stored at (column v behind) (now (d .entry)) (now (d .exit)) e × (e ≤ at + 21) ⌝ }
@@ -61,7 +61,7 @@ fn shown(t: u32) -> u32
     t
 }
 
-// Lays a type and a space over d from at on, and gives the place behind them.
+// Writes a type and a space over d from at on, and returns the place after them.
 fn store_type(d: &mut [u8], at: usize, t: u32) -> usize
     requires { ⌜ at + 5 ≤ length (now d) ⌝ }
     ensures { λ e. ⌜ Stored at (typeColumn t) (now (d .entry)) (now (d .exit)) e × (e ≤ at + 5) ⌝ }
@@ -72,7 +72,7 @@ fn store_type(d: &mut [u8], at: usize, t: u32) -> usize
     e + 1
 }
 
-// Lays the first four columns over the front of d, and gives the place behind them.
+// Writes the first four columns over the front of d, and returns the place after them.
 fn store_columns(d: &mut [u8], r: Record) -> usize
     requires { ⌜ 160 ≤ length (now d) ⌝ }
     ensures { λ e. ⌜ Stored 0 (firstColumns r) (now (d .entry)) (now (d .exit)) e × (e ≤ 68) ⌝ }
@@ -83,7 +83,7 @@ fn store_columns(d: &mut [u8], r: Record) -> usize
     store_column(d, c, r.seq.value(), b' ')
 }
 
-// Lays the other four over d from at on.
+// Writes the other four over d from at on.
 fn store_last(d: &mut [u8], at: usize, r: Record) -> usize
     requires { ⌜ (at ≤ 68) × (160 ≤ length (now d)) ⌝ }
     ensures { λ e. ⌜ Stored at (lastColumns r) (now (d .entry)) (now (d .exit)) e ⌝ }
@@ -94,7 +94,7 @@ fn store_last(d: &mut [u8], at: usize, r: Record) -> usize
     store_column(d, c, r.top.value(), b'\n')
 }
 
-// Lays the record's line, with its newline, over out from at on, and answers how many bytes it has.
+// Writes the record's line, with its newline, over out from at on, and returns how many bytes it has.
 pub fn put_line(out: &mut [u8], at: usize, r: Record) -> Written
     ensures { λ w. ⌜ (writtenPaper w ≡ roomFor at (length (lineOf r)) (length (now (out .entry)))) × (now (out .exit) ≡ laidIfRoom at (lineOf r) (now (out .entry))) ⌝ }
 {
@@ -104,7 +104,7 @@ pub fn put_line(out: &mut [u8], at: usize, r: Record) -> Written
     lay_front(out, at, &d, e)
 }
 
-// Lays a word, its number and the byte behind it over d from at on, and gives the place behind them.
+// Writes a word, its number and the byte after it over d from at on, and returns the place after them.
 fn store_named(d: &mut [u8], at: usize, word: &[u8], v: u64, behind: u8) -> usize
     requires { ⌜ at + (length (now word) + 21) ≤ length (now d) ⌝ }
     ensures { λ e. ⌜ Stored at (named (now (word .entry)) v behind) (now (d .entry)) (now (d .exit)) e × (e ≤ at + (length (now (word .entry)) + 21)) ⌝ }
@@ -113,7 +113,7 @@ fn store_named(d: &mut [u8], at: usize, word: &[u8], v: u64, behind: u8) -> usiz
     store_column(d, at + word.len(), v, behind)
 }
 
-// Lays the last line of the listing over the front of d.
+// Writes the last line of the listing over the front of d.
 fn store_summary(d: &mut [u8], s: Summary) -> usize
     requires { ⌜ 160 ≤ length (now d) ⌝ }
     ensures { λ e. ⌜ Stored 0 (summaryOf s) (now (d .entry)) (now (d .exit)) e ⌝ }
@@ -125,7 +125,7 @@ fn store_summary(d: &mut [u8], s: Summary) -> usize
     store_named(d, e, b"missing ", s.missing, b'\n')
 }
 
-// Lays the listing's last line, with its newline, over out from at on, and answers how many bytes it has.
+// Writes the listing's last line, with its newline, over out from at on, and returns how many bytes it has.
 pub fn put_summary(out: &mut [u8], at: usize, s: Summary) -> Written
     ensures { λ w. ⌜ (writtenPaper w ≡ roomFor at (length (summaryOf s)) (length (now (out .entry)))) × (now (out .exit) ≡ laidIfRoom at (summaryOf s) (now (out .entry))) ⌝ }
 {
@@ -134,7 +134,7 @@ pub fn put_summary(out: &mut [u8], at: usize, s: Summary) -> Written
     lay_front(out, at, &d, n)
 }
 
-// Lays a record's line over out from at on, and gives the place behind it.
+// Writes a record's line over out from at on, and returns the place after it.
 fn store_line(out: &mut [u8], at: usize, r: Record) -> usize
     requires { ⌜ at + length (lineOf r) ≤ length (now out) ⌝ }
     ensures { λ e. ⌜ Stored at (lineOf r) (now (out .entry)) (now (out .exit)) e ⌝ }
@@ -145,7 +145,7 @@ fn store_line(out: &mut [u8], at: usize, r: Record) -> usize
     }
 }
 
-// Lays the last line over out from at on, and gives the place behind it.
+// Writes the last line over out from at on, and returns the place after it.
 fn store_last(out: &mut [u8], at: usize, s: Summary) -> usize
     requires { ⌜ at + length (summaryOf s) ≤ length (now out) ⌝ }
     ensures { λ e. ⌜ Stored at (summaryOf s) (now (out .entry)) (now (out .exit)) e ⌝ }
@@ -172,7 +172,7 @@ fn last_len(s: Summary) -> usize
     store_last(&mut d, 0, s)
 }
 
-// Whether so much room takes the whole listing. left is the room behind the lines passed.
+// Whether so much room takes the whole listing. left is the room after the lines passed.
 fn has_room(room: usize, records: &[u8], s: Summary) -> bool
     ensures { λ r. ⌜ r ≡ leb (length (listingOf (now (records .entry)) s)) room ⌝ }
 {
@@ -189,7 +189,7 @@ fn has_room(room: usize, records: &[u8], s: Summary) -> bool
     last_len(s) <= left
 }
 
-// Lays the listing over the front of out, and gives the place behind it.
+// Writes the listing over the front of out, and returns the place after it.
 fn store(out: &mut [u8], records: &[u8], s: Summary) -> usize
     requires { ⌜ length (listingOf (now records) s) ≤ length (now out) ⌝ }
     ensures { λ e. ⌜ Stored 0 (listingOf (now (records .entry)) s) (now (out .entry)) (now (out .exit)) e ⌝ }
@@ -203,8 +203,8 @@ fn store(out: &mut [u8], records: &[u8], s: Summary) -> usize
     store_last(out, at, s)
 }
 
-// Lays the lines of all whole records of `records` (64 bytes each; what is left over at its end is passed over) and then the last
-// line over the front of out, and answers how many bytes that took. 8, and nothing is written, where out is shorter.
+// Writes the lines of all whole records of `records` (64 bytes each; what is left over at its end is passed over) and then the last
+// line over the front of out, and returns how many bytes that took. 8, and nothing is written, where out is shorter.
 pub fn put_listing(out: &mut [u8], records: &[u8], s: Summary) -> Written
     ensures { λ w. ⌜ (writtenPaper w ≡ roomFor 0 (length (listingOf (now (records .entry)) s)) (length (now (out .entry))))
         × (now (out .exit) ≡ laidIfRoom 0 (listingOf (now (records .entry)) s) (now (out .entry))) ⌝ }

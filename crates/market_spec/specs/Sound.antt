@@ -1,4 +1,4 @@
--- CR 10: "A sound file can be written again from its values with the same bytes." A file is sound exactly if it is made of values that fit,
+-- CR 10: a sound file's values give "the same bytes" again. A file is sound exactly if it is made of values that fit,
 -- and those are the values that are read from it.
 use Prim.Native.Nat.{ℕ, zero, suc, _+_, _-_, _<_, _≤_}
 use mathlib.Core.Path.{_≡_, refl, sym, ap, _∙_}
@@ -265,7 +265,7 @@ exactly-sound s v (f, e) = (length (v .lines), ap faultOf e ∙ sound-made v f .
 pub exactly-values : (s : List ℕ) (v : Values) → MadeOf s v → v ≡ valuesOf s
 exactly-values s v (f, e) = sym (ap valuesOf e ∙ sound-made v f .same-values)
 
--- "A sound file can be written again from its values with the same bytes"
+-- a sound file, written again from its values, has "the same bytes"
 pub written-of-values : (s : List ℕ) → Sound s → fileOf (valuesOf s) ≡ s
 written-of-values s g = sym (sound-exactly s g .1)
 

@@ -193,7 +193,7 @@ given-fits x e h =
     let l : 94 + length (linesText (v .lines)) ≤ 65536 = ⊎-elim (λ (a : 65536 < 94 + length (linesText (v .lines))). absurd (omega (arith, sized v (g .own-fitting) (g .lines-fitting) .many a))) (λ (a : 94 + length (linesText (v .lines)) ≤ 65536). a) (less 65536 (94 + length (linesText (v .lines)))) in
     rw (le-leb (length (fileOf v)) 65536 h, sized v (g .own-fitting) (g .lines-fitting) .few l .1, g .lines-fitting)
 
--- "A sound file can be written again from its values with the same bytes"
+-- a sound file, written again from its values, has "the same bytes"
 pub record Again (room : ℕ) (s : List ℕ) : Type 0 where
   pub answered : writtenAnswer room (valuesBytes (valuesOf s)) ≡ fine (length s)
   pub same-bytes : fileOf (valuesGiven (valuesBytes (valuesOf s))) ≡ s

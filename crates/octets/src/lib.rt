@@ -1,4 +1,4 @@
-// Bytes in lent slices: numbers high byte first, bytes laid over bytes, a part filled, and the one-byte sum.
+// Bytes in lent slices: numbers high byte first, bytes written over bytes, a part filled, and the one-byte sum.
 // Every function takes all input. Past the end reads 0; without room nothing is written and the answer is 8.
 ghost use mathlib.Core.Path.{_≡_};
 ghost use Prim.Native.Nat.{_+_, _-_, _≤_, _<_, _^_, min};
@@ -8,7 +8,7 @@ ghost use Rattle.octets.specs.Octets.{be, bytesOf, laid, sum8, sumAfter}
 ghost use Rattle.octets.specs.Papers.{writtenPaper, roomFor, laidIfRoom};
 use terms::Refusal;
 
-// What a function that writes into a lent buffer answers: how many bytes it wrote, or why none.
+// What a function that writes into a lent buffer returns: how many bytes it wrote, or why none.
 pub enum Written {
     Bytes(usize),
     Refused(Refusal),
@@ -108,7 +108,7 @@ fn has_room(len: usize, at: usize, n: usize) -> bool
     at <= len - n
 }
 
-// The place behind n bytes from at on, or the end where they pass it.
+// The place after n bytes from at on, or the end where they pass it.
 fn end_of(len: usize, at: usize, n: usize) -> usize
     ensures { λ r. ⌜ r ≡ min (at + n) len ⌝ }
 {
@@ -129,7 +129,7 @@ fn store(d: &mut [u8], at: usize, n: usize, v: u64)
     }
 }
 
-// Lays the n lowest bytes of v over d from at on, high byte first.
+// Writes the n lowest bytes of v over d from at on, high byte first.
 pub fn put(d: &mut [u8], at: usize, n: usize, v: u64) -> Written
     ensures { λ r. ⌜ (writtenPaper r ≡ roomFor at n (length (now (d .entry)))) × (now (d .exit) ≡ laidIfRoom at (bytesOf n v) (now (d .entry))) ⌝ }
 {
@@ -152,7 +152,7 @@ fn copy(d: &mut [u8], at: usize, src: &[u8])
     }
 }
 
-// Lays all of src over d from at on.
+// Writes all of src over d from at on.
 pub fn lay(d: &mut [u8], at: usize, src: &[u8]) -> Written
     ensures { λ r. ⌜ (writtenPaper r ≡ roomFor at (length (now (src .entry))) (length (now (d .entry)))) × (now (d .exit) ≡ laidIfRoom at (now (src .entry)) (now (d .entry))) ⌝ }
 {

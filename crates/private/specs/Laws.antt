@@ -242,7 +242,7 @@ module _ (s : List ℕ) (z : readOf s .number ≡ 0) where
       ∙ sym (painted-same (spansOf s) (body s) (cleanBody s) spans-within agrees)
       ∙ sym same-body
 
-  -- scrubbing again changes nothing
+  -- a scrubbed frame, scrubbed once more, stays as it is
   laid-unchanged : laid 24 (cleanBody (scrubbed s)) (scrubbed s) ≡ scrubbed s
   laid-unchanged =
       ap (λ (c : List ℕ). laid 24 c (scrubbed s)) same-clean

@@ -24,7 +24,7 @@ fn spaces_at(place: usize, len: usize) -> Span
     }
 }
 
-// The only span of a type, or none behind it.
+// The only span of a type, or none after it.
 fn only(i: usize, place: usize, len: usize) -> Span
     ensures { λ r. ⌜ r ≡ spanAt i (spaces place len ∷ []) ⌝ }
 {

@@ -1,4 +1,4 @@
--- CR 1 in the request's words, of every row of calls of the code on a stream that it opened, refused calls and empty cuts among them. `Row calls x`
+-- CR 1, of every row of calls of the code on a stream that it opened, refused calls and empty cuts among them. `Row calls x`
 -- says that the stream x comes of the calls, each meeting its promise. `taken` has "the joined bytes of the calls not refused", `ended` says whether
 -- the closing call is among those, and `heard` has what a host then has from its buffers. No capture is too long: `answered` knows no such number.
 use Prim.Native.Nat.{ℕ, _^_, _≤_, _<_}
@@ -39,7 +39,7 @@ use Rattle.host_stream.proofs.Promised as Follow
 use Rattle.host_stream_spec.proofs.Cuttings.{every-host-cutting}
 use Rattle.stream.proofs.Promised.{ran-rules, ran-few, ran-heard, ran-closed, ran-number}
 
--- "A place that answers 1 waits for more": `waitAt` is such a place, or the end, and every one before it lies inside a frame that was read
+-- a place that "waits for more": `waitAt` is such a place, or the end, and every one before it lies inside a frame that was read
 pub waits-for-more : (s : List ℕ) → waitAt s < length s → readOf (drop (waitAt s) s) .number ≡ 1
 waits-for-more = waits-there
 
@@ -55,8 +55,7 @@ module _ {calls : Calls} {x : Stream} (row : Row calls x) where
   taken-fits : length (taken calls) < 256 ^ 8
   taken-fits = omega (arith, every-cutting calls .places, rules-facts (after calls) (every-cutting calls .rules) .places)
 
-  -- "at the closing call what remains is walked by document 01. Records, listing and ledger equal those of the closed walk over the joined bytes of
-  -- the calls not refused, for every cutting."
+  -- after the closing call ledger, records and listing are those of the closed walk over the bytes taken
   module _ (e : ended calls ≡ true) where
     pub same-ledger : x .tally .ledger ≡ ledgerOf (literalWalk (taken calls) .ledger)
     same-ledger = ran-closed row e .1 .ledger ∙ ap (λ (w : Walk). ledgerOf (w .ledger)) (sym (literal-walk (taken calls)))
@@ -76,7 +75,7 @@ module _ {calls : Calls} {x : Stream} (row : Row calls x) where
     unfolding listedOf
     same-listing = ap (λ (w : Walk). linesOf (w .records) ++ summaryOf (lastAt (w .frames) (w .refused) (w .ledger))) same-walk
 
-    -- and so is the text that `lines::put_listing` makes of the bytes that the host has
+    -- and so is the text that `listing_text::put_listing` makes of the bytes that the host has
     pub same-text : Bytes (taken calls) → listingOf (heard row) (lastAt (x .tally .frames) (x .tally .refused) (bookOf (x .tally .ledger))) ≡ listedOf (taken calls)
     same-text bytes =
         let s = taken calls in
@@ -86,7 +85,7 @@ module _ {calls : Calls} {x : Stream} (row : Row calls x) where
         ∙ listing-table (literalWalk s .records) last (walk-fits s bytes taken-fits)
         ∙ rw g same-listing
 
-  -- "At most 8,191 bytes are kept between calls.": the last of the bytes taken
+  -- "at most 8,191 bytes" wait between calls: the last of the bytes taken
   pub few-kept : x .len ≤ 8191
   few-kept = ran-few row
 
@@ -97,11 +96,11 @@ module _ {calls : Calls} {x : Stream} (row : Row calls x) where
   stream-rules = ran-rules row
 
   module _ (call : Call) (d d′ : List ℕ) (r : Fed) (p : Promised x (closes call) (cutOf call) d d′ r) where
-    -- "Refusals: 19 for any call after the closing one, then 29 where places would pass 64 bits, then 8 where this call's records don't fit"
+    -- the number of a further call, by the calls before it: 19, then 29, then 8
     pub its-number : verdictNumber (r .answer) ≡ answered calls call (length d)
     its-number = ran-number row call d d′ r p
 
-    -- "nothing changes."
+    -- beside a refusal "nothing changes"
     pub nothing-changes : (r .answer ≡ Fine → ⊥) → (r .stream ≡ x) × (d′ ≡ d)
     nothing-changes w = (refused-stream x (closes call) (cutOf call) d d′ r p w, refused-leaves x (closes call) (cutOf call) d d′ r p w)
 

@@ -147,7 +147,7 @@ rules-answers =
     let suits-tail-one-answer = rules.suits-tail-one-answer in
     named
 
--- fields
+-- rules: the field rules
 fields-answers : Named
 fields-answers =
     let judge-one-answer = rules.judge-one-answer in
@@ -187,7 +187,7 @@ scrub-answers =
     let scrub-one-answer = scrub.scrub-one-answer in
     named
 
--- map
+-- tick_map
 map-answers : Named
 map-answers =
     let Map-new-one-answer = tick_map.Map-new-one-answer in
@@ -222,32 +222,32 @@ record-answers =
     let record-at-one-answer = «record».record-at-one-answer in
     named
 
--- report
+-- listing_text: single lines
 report-answers : Named
 report-answers =
     let put-line-one-answer = listing_text.put-line-one-answer in
     let put-summary-one-answer = listing_text.put-summary-one-answer in
     named
 
--- view
+-- frame_view
 view-answers : Named
 view-answers =
     let view-of-one-answer = frame_view.view-of-one-answer in
     named
 
--- seen
+-- reading
 seen-answers : Named
 seen-answers =
     let see-one-answer = reading.see-one-answer in
     named
 
--- offers
+-- walk_step: an offer
 offers-answers : Named
 offers-answers =
     let offer-one-answer = walk_step.offer-one-answer in
     named
 
--- table
+-- walk_step: the table of records
 table-answers : Named
 table-answers =
     let made-one-answer = walk_step.made-one-answer in
@@ -260,7 +260,7 @@ walk-answers =
     let walk-one-answer = walk.walk-one-answer in
     named
 
--- flow
+-- stream_spec
 flow-answers : Named
 flow-answers =
     let Stream-opened-one-answer = stream_spec.Stream-opened-one-answer in
@@ -273,7 +273,7 @@ stream-answers =
     let close-one-answer = stream.close-one-answer in
     named
 
--- lines
+-- listing_text: a whole listing
 lines-answers : Named
 lines-answers =
     let put-listing-one-answer = listing_text.put-listing-one-answer in
@@ -286,7 +286,7 @@ clean-answers =
     let is-clean-one-answer = clean.is-clean-one-answer in
     named
 
--- words
+-- host_words
 words-answers : Named
 words-answers =
     let ledger-in-one-answer = host_words.ledger-in-one-answer in
@@ -295,7 +295,7 @@ words-answers =
     let last-asked-one-answer = host_words.last-asked-one-answer in
     named
 
--- host
+-- host_frames
 host-answers : Named
 host-answers =
     let rk-read-one-answer = host_frames.rk-read-one-answer in
@@ -327,7 +327,7 @@ host-captures-answers =
     let rk-is-clean-one-answer = host_captures.rk-is-clean-one-answer in
     named
 
--- follow
+-- host_stream
 follow-answers : Named
 follow-answers =
     let rk-stream-open-one-answer = host_stream.rk-stream-open-one-answer in
@@ -582,7 +582,7 @@ clean-buffers =
     let clean-refused-keeps = clean.clean-refused-keeps in
     named
 
--- of all that a function of host, host_ledger and host_captures is lent: told row, words and buffer
+-- of all that a function of host_frames, host_ledger and host_captures is lent: told row, words and buffer
 host-buffers : Named
 host-buffers =
     let rk-read-one-buffer = host_frames.rk-read-one-buffer in

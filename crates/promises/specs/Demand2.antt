@@ -129,7 +129,7 @@ pub record PassedOn (buf left : List ℕ) (x : Written) : Type 0 where
 pub passed-on : (buf left : List ℕ) (x : Written) → Scrubbing buf x left → (readOf buf .number ≡ 0 → ⊥) → PassedOn buf left x
 passed-on buf left x c n = record { number = one-number (c .paper) ∙ scrub-number buf; same = c .buffer ∙ refused-same buf n }
 
--- The search rule: "the lowest place at or after the given one where a frame reads 0, to the end of a closed capture, or that none exists"; 9 for a
+-- The search rule (document 01, Search): the lowest place from the start on where a frame reads, or none; 9 for a
 -- start beyond the end.
 pub record FindsLowest (bytes : List ℕ) (from : ℕ) (x : Found) : Type 0 where
   pub place : from ≤ length bytes → (p : ℕ) → (foundPaper x ≡ answer 0 (p ∷ [])) ↔ LowestPlace bytes from p

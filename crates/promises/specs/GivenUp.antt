@@ -21,22 +21,21 @@ use Rattle.host_ledger.specs.Called.{Called, HostRan}
 use Rattle.host_ledger.proofs.Promised as Hosted
 
 module _ (channel : ℕ) (opens : channel ≤ 9999) {calls : Calls} {l : Ledger} {h : History} (ran : Ran channel calls l h) where
-  -- "On status 4, each number of the pending range not received so far is given up and named in the answer"
+  -- status 4 gives up the numbers of the pending range "not received so far", and the answer names them
   pub gives-up-exactly : (first : ℕ) (next : Ledger) (paper : Paper) → Promise l (Reply channel first 4) next paper → answered paper 0 ≡ true
       → (n : ℕ) → (givesUp (Reply channel first 4) paper n ≡ true) ↔ InRange h n
   gives-up-exactly = Ran.ran-gives-up channel opens ran
 
-  -- "the floor then passes over them and over all that follows and was received, and the same answer names apart the received numbers newly passed, for
-  -- delivery"
+  -- the floor passes these and the received ones that follow, and the answer names those "apart"
   pub names-apart : (first status : ℕ) (next : Ledger) (paper : Paper) → Promise l (Reply channel first status) next paper → answered paper 0 ≡ true
       → NamesApart h (h ▸ Reply channel first status ⇒ paper) (Reply channel first status) paper
   names-apart = Ran.ran-names-apart channel opens ran
 
-  -- "After every call, ticks included, the floor stands just below the first number neither received nor given up."
+  -- after each call the floor is just below the first number "neither received nor given up"
   pub floor-stands : FloorStands h (bookOf l)
   floor-stands = Ran.ran-floor-stands channel opens ran
 
-  -- "A given-up number that arrives late answers 11", and the ledger is the very one
+  -- a late tick of a given-up number is answered 11, and the ledger is the very one
   pub late-is-11 : (n : ℕ) (next : Ledger) (paper : Paper) → Promise l (Tick channel n) next paper → givenUp h n ≡ true → (paper ≡ refusal 11) × (next ≡ l)
   late-is-11 = Ran.ran-late channel opens ran
 
@@ -44,12 +43,12 @@ module _ (channel : ℕ) (opens : channel ≤ 9999) {calls : Calls} {l : Ledger}
   pub never-both : (n : ℕ) → received h n ≡ true → givenUp h n ≡ false
   never-both = ran-demand-3 channel opens ran .deliveries .never-both
 
--- "Status 3 still only clears", and so do 1, 2, 5 and 99: on every sound state
+-- status 3 "only clears", and so do 1, 2, 5 and 99: on every sound state
 pub only-4-gives-up : (b : Book) (channel first status : ℕ) → StateRules b → answered (answerTo b (Reply channel first status)) 0 ≡ true → (status ≡ 4 → ⊥)
     → OnlyClears b (answerTo b (Reply channel first status)) (nextOf b (Reply channel first status))
 only-4-gives-up = Book.only-4-gives-up
 
--- "Today the ledger asks for ever": behind a reply of status 4 no later request names a number of its range (`code-answers` of Demand3.antt has it of the code)
+-- no asking "for ever": after a reply of status 4 no later request names a number of its range (`code-answers` of Demand3.antt has it of the code)
 pub asks-no-more : (channel : ℕ) → channel ≤ 9999 → (calls : Calls) (first : ℕ) → answered (reply channel calls first 4) 0 ≡ true → (more : Calls)
     → AsksNoMore (trace channel calls) (answerTo (after channel (then (calls ▸ Reply channel first 4) more)) (Request channel))
 asks-no-more = Book.asks-no-more

@@ -17,12 +17,12 @@ use Rattle.ledger.specs.Trace.{PromiseBy, Promise, Ran, OldRan}
 use Rattle.ledger.specs.SameMap.{SameHeld, OldRuns}
 use Rattle.ledger.proofs.SameMap as Same
 
--- "Let a number's place be its remainder by 256"
+-- a number's place is "its remainder by 256"
 pub place-is : (l : Ledger) → Words (l .map .words) → (n : ℕ) → l .floor .0 < n → n ≤ l .floor .0 + 256
     → has (bookOf l) n ≡ isSet (getD (l .map .words) (n % 256 / 64) 0) (n % 64)
 place-is = Same.place-is
 
--- "with places cleared as the floor passes them"
+-- places are cleared "as the floor passes them"
 pub passed-cleared : (l next : Ledger) (call : Call) (paper : Paper) → Words (l .map .words) → Promise l call next paper → answered paper 0 ≡ true
     → (n : ℕ) → l .floor .0 < n → n ≤ next .floor .0 → isSet (getD (next .map .words) (n % 256 / 64) 0) (n % 64) ≡ false
 passed-cleared = Same.passed-cleared
@@ -31,11 +31,11 @@ passed-cleared = Same.passed-cleared
 pub ran-words : (channel : ℕ) → channel ≤ 9999 → {calls : Calls} {l : Ledger} {h : History} → Ran channel calls l h → Words (l .map .words)
 ran-words = Same.ran-words
 
--- "each call answers as the old map's did"
+-- calls answer as with the old map
 pub answers-as-old : (channel : ℕ) → channel ≤ 9999 → {calls : Calls} {now old : Ledger} {h g : History} → Ran channel calls now h → OldRan channel calls old g → h ≡ g
 answers-as-old = Same.answers-as-old
 
--- "and then holds the same set of numbers, for all states that calls can reach"
+-- and "the same set of numbers" is held, in every state that calls reach
 pub holds-as-old : (channel : ℕ) → channel ≤ 9999 → {calls : Calls} {now old : Ledger} {h g : History} → Ran channel calls now h → OldRan channel calls old g → SameHeld now old
 holds-as-old = Same.holds-as-old
 

@@ -25,7 +25,8 @@ shown s v =
       size = 28 + bodyLength s;
     }
 
--- "If reading answered 1 to 6, MsgType is four spaces and all numbers but place, answer, floor and top are 0."
+-- what is seen where reading answered 1 to 7: four spaces for the type, the answer, else 0
+-- (document 01, Records, paragraph 1; 7 by CR 6)
 abbrev pub blank : ℕ → Seen
 blank number =
     record {

@@ -16,7 +16,7 @@ use Rattle.record.proofs.put.Kinds as put-kinds
 use Rattle.record.proofs.record_at.Reads as record-at
 use Rattle.record.proofs.record_at.Kinds as record-at-kinds
 
--- a record whose numbers all differ, and its 64 bytes: place 8, MsgType 4, answer 4, MsgSeqNum 8, tick number 8, channel 2, zero 2, BodyLength 4, floor 8, top 8, zero 8
+-- a record whose numbers all differ, and its 64 bytes, field by field
 abbrev one : Record
 one =
     record {

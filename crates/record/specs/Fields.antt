@@ -61,7 +61,8 @@ fields-stand r f =
       zero-8 = field 8 56 0 [] _ refl (lit< tt);
     }
 
--- "If reading answered 1 to 6, MsgType is four spaces and all numbers but place, answer, floor and top are 0": whatever those four are
+-- the record where reading answered 1 to 7: blank but for four numbers, whatever those are
+-- (document 01, Records, paragraph 1; 7 by CR 6)
 pub record Blank (s : List ℕ) : Type 0 where
   pub msg-type : be 4 8 s ≡ 0x20202020
   pub seq : be 8 16 s ≡ 0

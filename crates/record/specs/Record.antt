@@ -47,7 +47,8 @@ recordAt at s =
 abbrev pub blank : ℕ
 blank = 0x20202020
 
--- "If reading answered 1 to 6, MsgType is four spaces and all numbers but place, answer, floor and top are 0."
+-- the record where reading answered 1 to 7: blank but for four numbers
+-- (document 01, Records, paragraph 1; 7 by CR 6)
 unfoldable pub blankOf : ℕ → ℕ → ℕ → ℕ → Record
 blankOf place answer floor top =
     record {

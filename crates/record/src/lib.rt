@@ -24,7 +24,7 @@ pub struct Record {
     pub top: TickNumber,
 }
 
-// Lays the first 32 bytes of a record over the front of d.
+// Writes the first 32 bytes of a record over the front of d.
 fn store_first(d: &mut [u8], r: Record)
     requires { ⌜ 64 ≤ length (now d) ⌝ }
     ensures { λ _. ⌜ Stored 0 (firstHalf r) (now (d .entry)) (now (d .exit)) 32 ⌝ }
@@ -36,7 +36,7 @@ fn store_first(d: &mut [u8], r: Record)
     octets::put(d, 24, 8, r.tick.value());
 }
 
-// Lays the other 32 behind them.
+// Writes the other 32 after them.
 fn store_second(d: &mut [u8], r: Record)
     requires { ⌜ 64 ≤ length (now d) ⌝ }
     ensures { λ _. ⌜ Stored 32 (secondHalf r) (now (d .entry)) (now (d .exit)) 64 ⌝ }
@@ -49,7 +49,7 @@ fn store_second(d: &mut [u8], r: Record)
     octets::put(d, 56, 8, 0);
 }
 
-// Lays the record's 64 bytes over out from at on.
+// Writes the record's 64 bytes over out from at on.
 pub fn put(out: &mut [u8], at: usize, r: Record) -> Written
     ensures { λ w. ⌜ (writtenPaper w ≡ roomFor at 64 (length (now (out .entry)))) × (now (out .exit) ≡ laidIfRoom at (recordOf r) (now (out .entry))) ⌝ }
 {

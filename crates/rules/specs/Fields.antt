@@ -1,4 +1,4 @@
--- The field rules of document 01 as tests on a body, and the check 6. Rules.antt has them in the document's words, Meaning.antt that they agree.
+-- The field rules of document 01 as tests on a body, and the checks 7 and 6. Rules.antt has the rules one by one, Meaning.antt that they agree.
 use Prim.Native.Nat.{ℕ, zero, suc, _+_, _*_, _^_}
 use mathlib.Core.Bool.{Bool, true, false, _&&_, _||_}
 use mathlib.Core.List.{List}

@@ -1,4 +1,4 @@
--- Document 01's table and field rules, a row or a rule to a line, in its words and order.
+-- Document 01's table and field rules (Frame, paragraphs 3 to 5), a row or a rule to a line, in its order.
 -- `field K i b` is field number i of the body b, counted from 0 in the table's order (Widths.antt); "n digits" is below 10 ^ n.
 use Prim.Native.Nat.{ℕ, _+_, _*_, _<_, _≤_, _^_}
 use mathlib.Core.Path.{_≡_}
@@ -36,23 +36,23 @@ LengthRule M102 n = fixed M102 ≤ n  -- 73
 LengthRule M201 n = fixed M201 ≤ n  -- 45
 LengthRule Unknown n = ⊥
 
--- "HeartBtInt is above 0."
+-- S001: an interval above 0
 pub record S001Rules (b : List ℕ) : Type 0 where
   pub heart-bt-int : 0 < field S001 2 b
 
--- "SessionStatus is at most 9,999."
+-- S002: a status up to 9,999
 pub record S002Rules (b : List ℕ) : Type 0 where
   pub session-status : field S002 0 b ≤ 9999
 
--- "P001: SecurityType 13, EndOfChannel Y or N." ChannelNO 4 digits; ApplLastSeqNum at most 18.
+-- P001: one security type, a flag Y or N; ChannelNO 4 digits, ApplLastSeqNum at most 18
 pub record P001Rules (b : List ℕ) : Type 0 where
   pub security-type : field P001 0 b ≡ 13
   pub channel-no : field P001 1 b < 10 ^ 4
   pub appl-last-seq-num : field P001 2 b < 10 ^ 18
   pub end-of-channel : (field P001 3 b ≡ spelled "Y") ⊎ (field P001 3 b ≡ spelled "N")
 
--- "P002: ResendType 1, ApplBegSeqNum above 0, ResendStatus 0 (a request), 1 to 5 or 99.
--- In a request ApplEndSeqNum is 0 or not below ApplBegSeqNum." ChannelNO 4 digits; both resend numbers at most 18.
+-- P002: one resend type, a start above 0, a status up to 5 or 99; a request has no end or one "not below" its
+-- start. ChannelNO 4 digits; both resend numbers at most 18.
 pub record P002Rules (b : List ℕ) : Type 0 where
   pub channel-no : field P002 0 b < 10 ^ 4
   pub resend-type : field P002 1 b ≡ 1
@@ -62,8 +62,7 @@ pub record P002Rules (b : List ℕ) : Type 0 where
   pub resend-status : (field P002 4 b ≤ 5) ⊎ (field P002 4 b ≡ 99)
   pub request : field P002 4 b ≡ 0 → (field P002 3 b ≡ 0) ⊎ (field P002 2 b ≤ field P002 3 b)
 
--- "SecurityType and stream pair as 1 with MD001 to MD004, 2 with MD301, 3 with MD101 or MD102, 12 with MD201,
--- 13 with MD210, 14 with MDE01." A stream is its five letters as one number.
+-- which streams an M102's security type has; a stream is its five letters as one number
 pub data Pair (t s : ℕ) : Type 0 where
   pair-1 : t ≡ 1 → spelled "MD001" ≤ s → s ≤ spelled "MD004" → Pair t s
   pair-2 : t ≡ 2 → s ≡ spelled "MD301" → Pair t s
@@ -73,8 +72,8 @@ pub data Pair (t s : ℕ) : Type 0 where
   pair-13 : t ≡ 13 → s ≡ spelled "MD210" → Pair t s
   pair-14 : t ≡ 14 → s ≡ spelled "MDE01" → Pair t s
 
--- "An M102 entry is type 2, price 8 for stream MD001 (10 bytes), else type 2, price 8, size 8, position 1 (19 bytes)."
--- Entry price 13 digits, entry size 12, position 2. "Entry types are not judged."
+-- An M102 entry: 10 bytes for stream MD001, else 19 (document 01, Frame, paragraph 4). Price 13 digits, size 12,
+-- position 2; its type may be any.
 pub data EntrySize (s w : ℕ) : Type 0 where
   short : s ≡ spelled "MD001" → w ≡ 10 → EntrySize s w
   long : (s ≡ spelled "MD001" → ⊥) → w ≡ 19 → EntrySize s w
@@ -84,7 +83,7 @@ pub record EntryRules (s at : ℕ) (b : List ℕ) : Type 0 where
   pub size : (s ≡ spelled "MD001" → ⊥) → entryField 2 at b < 10 ^ 12
   pub position : (s ≡ spelled "MD001" → ⊥) → entryField 3 at b < 10 ^ 2
 
--- "M102: TradSesMode 1 to 3; [..] The body is 73 bytes plus NoMDEntries whole entries."
+-- M102: a mode from 1 to 3, a paired stream, "whole entries" to the body's end.
 -- TradeDate 8 digits, LastUpdateTime 9, PreClosePx 13, the three totals 16. `w` is the size of an entry.
 pub record M102Rules (w : ℕ) (b : List ℕ) : Type 0 where
   pub trad-ses-mode-low : 1 ≤ field M102 1 b

@@ -19,7 +19,7 @@ widths M102 = 1 ∷ 1 ∷ 4 ∷ 4 ∷ 5 ∷ 8 ∷ 8 ∷ 8 ∷ 8 ∷ 8 ∷ 8 ∷ 
 widths M201 = 1 ∷ 2 ∷ 8 ∷ 5 ∷ 8 ∷ 4 ∷ 1 ∷ 8 ∷ 8 ∷ []  -- SecurityType, ChannelNO, ApplSeqNum, MDStreamID, SecurityID, TransactTime, ExecType, Price, OrderQty, then the extension
 widths Unknown = []
 
--- "An M102 entry is type 2, price 8 [..], size 8, position 1"
+-- an M102 entry: type, price, size, position; one of MD001 has the first two
 abbrev pub entryWidths : List ℕ
 entryWidths = 2 ∷ 8 ∷ 8 ∷ 1 ∷ []
 

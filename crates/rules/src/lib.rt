@@ -1,4 +1,4 @@
-// The table of message types. What is said of a message behind its checksum stands in specs/ too, and the crate `fields` judges by it.
+// The table of message types, and the field rules: what is checked before the checksum, and what after it.
 ghost use mathlib.Core.Path.{_≡_};
 ghost use Rattle.rules.specs.Table.{kindPaper, typeOf, known, suits, measureOf};
 ghost use Rattle.terms.specs.Verdicts.{verdictNumber};
@@ -288,7 +288,7 @@ pub fn fields_ok(kind: Kind, b: &[u8]) -> bool
     }
 }
 
-// What stands behind the checksum, in the order in which it answers: the time, 7; the field rules, 6.
+// The checks after the checksum, in this order: 7, the time; 6, the field rules.
 pub fn judge(kind: Kind, sending_time: u64, body: &[u8]) -> Verdict
     ensures { λ r. ⌜ verdictNumber r ≡ judgeOf kind «sending_time» (now (body .entry)) ⌝ }
 {

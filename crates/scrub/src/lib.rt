@@ -26,7 +26,7 @@ fn paint(buf: &mut [u8], a: usize, e: usize, fill: u8)
     octets::fill(&mut buf[a..e], fill);
 }
 
-// Paints span number i of the body of n bytes that lies behind the 24 header bytes of buf. v is the sum of header and body;
+// Paints span number i of the body of n bytes that lies after the 24 header bytes of buf. v is the sum of header and body;
 // the answer is their sum then. It is worked out before the span is filled, from its bytes alone.
 fn paint_span(buf: &mut [u8], kind: Kind, n: usize, i: usize, v: u8) -> u8
     requires { ⌜ (24 + n ≤ length (now buf)) × ((spanIn kind n i (now buf) .place + spanIn kind n i (now buf) .len ≤ n) × (v ≡ sum8 (take (24 + n) (now buf)))) ⌝ }
@@ -55,7 +55,7 @@ fn paint_all(buf: &mut [u8], kind: Kind, n: usize, v: u8) -> u8
     w
 }
 
-// Stores v, the sum of the first n bytes, in the four behind them.
+// Stores v, the sum of the first n bytes, in the four after them.
 fn store_sum(buf: &mut [u8], n: usize, v: u8)
     requires { ⌜ (n + 4 ≤ length (now buf)) × (v ≡ sum8 (take n (now buf))) ⌝ }
     ensures { λ _. ⌜ now (buf .exit) ≡ summed n (now (buf .entry)) ⌝ }
@@ -63,7 +63,7 @@ fn store_sum(buf: &mut [u8], n: usize, v: u8)
     octets::put(buf, n, 4, v as u64);
 }
 
-// Paints the body of n bytes behind the header as one of that type and sets the sum anew, from v, the sum before.
+// Paints the body of n bytes after the header as one of that type and sets the sum anew, from v, the sum before.
 fn repaint(buf: &mut [u8], kind: Kind, n: usize, v: u8)
     requires { ⌜ (28 + n ≤ length (now buf)) × ((suits kind n ≡ true) × (v ≡ sum8 (take (24 + n) (now buf)))) ⌝ }
     ensures { λ _. ⌜ now (buf .exit) ≡ scrubbedAs kind n (now (buf .entry)) ⌝ }
@@ -72,9 +72,9 @@ fn repaint(buf: &mut [u8], kind: Kind, n: usize, v: u8)
     store_sum(buf, 24 + n, w);
 }
 
-// Scrubs the frame at the front of buf where it stands, and answers how many bytes it has. A refusal of reading is passed
-// on, and the buffer keeps its bytes; so do the bytes behind the frame. Reading has found CheckSum right, so the new one is
-// worked out of its last byte: behind reading only that byte and the private ones are loaded.
+// Scrubs the frame at the front of buf where it stands, and returns how many bytes it has. A refusal of reading is passed
+// on, and the buffer keeps its bytes; so do the bytes after the frame. Reading has found CheckSum right, so the new one is
+// worked out of its last byte: after reading only that byte and the private ones are loaded.
 pub fn scrub(buf: &mut [u8]) -> Written
     ensures { λ r. ⌜ (writtenPaper r ≡ scrubAnswer (now (buf .entry))) × (now (buf .exit) ≡ scrubbed (now (buf .entry))) ⌝ }
 {
@@ -102,7 +102,7 @@ fn repaint_part(out: &mut [u8], a: usize, e: usize, kind: Kind, n: usize, v: u8)
     repaint(&mut out[a..e], kind, n, v);
 }
 
-// Lays the frame that was read at a place of bytes, with that type and body length, over out from `to` on, scrubbed; or answers 8.
+// Writes the frame that was read at a place of bytes, with that type and body length, over out from `to` on, scrubbed; or returns 8.
 fn lay_scrubbed(bytes: &[u8], at: usize, out: &mut [u8], to: usize, kind: Kind, n: usize) -> Written
     requires { ⌜ (readOf (drop at (now bytes)) .number ≡ 0) × ((kind ≡ kindOf (msgType (drop at (now bytes)))) × (n ≡ bodyLength (drop at (now bytes)))) ⌝ }
     ensures { λ r. ⌜ (writtenPaper r ≡ intoAnswer (drop at (now (bytes .entry))) to (length (now (out .entry))))
@@ -120,7 +120,7 @@ fn lay_scrubbed(bytes: &[u8], at: usize, out: &mut [u8], to: usize, kind: Kind, 
     }
 }
 
-// Reads the frame at a place and lays it over out from `to` on, scrubbed; answers how many bytes it has. A refusal of reading is
+// Reads the frame at a place and writes it over out from `to` on, scrubbed; returns how many bytes it has. A refusal of reading is
 // passed on, and 8 is given where out has no room for it; then out keeps its bytes. So do its bytes beside the frame.
 pub fn scrub_into(bytes: &[u8], at: usize, out: &mut [u8], to: usize) -> Written
     ensures { λ r. ⌜ (writtenPaper r ≡ intoAnswer (drop at (now (bytes .entry))) to (length (now (out .entry))))

@@ -41,8 +41,8 @@ enum Head {
     Refused(StepRefusal),
 }
 
-// What reading finds: the type, the place of the fields behind the frame's start and their length,
-// and the length of the frame. A refusal carries nothing of the bytes.
+// What reading finds: the type, the place of the fields after the frame's start and their length, and the length of the frame.
+// A refusal carries nothing of the bytes.
 pub enum Read {
     Frame {
         kind: u8,
@@ -53,14 +53,13 @@ pub enum Read {
     Refused(StepRefusal),
 }
 
-// What writing answers: the length of the frame, or why nothing was written.
+// What writing returns: the length of the frame, or why nothing was written.
 pub enum StepWritten {
     Bytes(usize),
     Refused(StepRefusal),
 }
 
-// What stands at a place among the fields of a message: a field with its tag, the place and the
-// length of its value and the place behind it; or none.
+// What stands at a place among the fields of a message: a field with its tag, the place and the length of its value and the place after it; or none.
 pub enum Field {
     At {
         tag: u64,
@@ -71,7 +70,7 @@ pub enum Field {
     NoField,
 }
 
-// A field as the pass sees it: its row, or 27, and the place behind it; or none.
+// A field as the pass sees it: its row, or 27, and the place after it; or none.
 enum Fit {
     Row(u32, usize),
     Bad,
@@ -119,7 +118,7 @@ pub fn field_at(fields: &[u8], place: usize) -> Field
     }
 }
 
-// The row of the field at a place, 27 where its value is not good, and the place behind it.
+// The row of the field at a place, 27 where its value is not good, and the place after it.
 fn fit_at(fields: &[u8], at: usize) -> Fit
     ensures { λ r. ⌜ FitSays r at (drop at (now (fields .entry))) ⌝ }
 {
@@ -283,8 +282,7 @@ fn type_at(bytes: &[u8], at: usize) -> Check
     }
 }
 
-// The checks 3 and 25 of a frame at a place whose body starts `start` bytes behind it and has len
-// bytes.
+// The checks 3 and 25 of a frame at a place whose body starts `start` bytes after it and has len bytes.
 fn measured(bytes: &[u8], at: usize, start: usize, len: u64) -> Head
     requires { ⌜ (at + start ≤ length (now bytes)) × (start ≤ 23) × (start ≡ bodyStart (drop at (now bytes))) × (len ≡ bodyLength (drop at (now bytes))) ⌝ }
     ensures { λ r. ⌜ HeadSays r (orElse (longCheck (drop at (now (bytes .entry)))) (typeCheck (drop at (now (bytes .entry))))) (drop at (now (bytes .entry))) ⌝ }
@@ -305,7 +303,7 @@ fn measured(bytes: &[u8], at: usize, start: usize, len: u64) -> Head
     }
 }
 
-// The place ten bytes behind another, or the end.
+// The place ten bytes after another, or the end.
 fn ten_behind(len: usize, from: usize) -> usize
     requires { ⌜ from ≤ len ⌝ }
     ensures { λ r. ⌜ r ≡ min (from + 10) len ⌝ }
@@ -360,7 +358,7 @@ fn head_at(bytes: &[u8], at: usize) -> Head
     }
 }
 
-// Check 5 of the frame at a place whose body ends `end` bytes behind it.
+// Check 5 of the frame at a place whose body ends `end` bytes after it.
 fn sum_at(bytes: &[u8], at: usize, end: usize) -> Check
     requires { ⌜ (at ≤ length (now bytes)) × (1 ≤ end) ⌝ }
     ensures { λ r. ⌜ checkNumber r ≡ sumCheck end (drop at (now (bytes .entry))) ⌝ }
@@ -428,7 +426,7 @@ fn width(m: usize) -> usize
     4
 }
 
-// What writing a message into so much room answers: 3, 25, 7, 26, 8.
+// What writing a message into so much room returns: 3, 25, 7, 26, 8.
 fn may_write(kind: u8, fields: &[u8], room: usize) -> StepWritten
     ensures { λ r. ⌜ stepWrittenPaper r ≡ stepWriteOf kind (now (fields .entry)) room ⌝ }
 {
@@ -454,7 +452,7 @@ fn may_write(kind: u8, fields: &[u8], room: usize) -> StepWritten
     }
 }
 
-// Lays all of a frame before its trailer, and answers its length.
+// Writes all of a frame before its trailer, and returns its length.
 fn store_plain(kind: u8, fields: &[u8], out: &mut [u8]) -> usize
     requires { ⌜ (length (frameOf kind (now fields)) ≤ 8192) × (length (frameOf kind (now fields)) ≤ length (now out)) ⌝ }
     ensures { λ r. ⌜ (r ≡ length (plainOf kind (now (fields .entry)))) × (now (out .exit) ≡ laid 0 (plainOf kind (now (fields .entry))) (now (out .entry))) ⌝ }
@@ -469,7 +467,7 @@ fn store_plain(kind: u8, fields: &[u8], out: &mut [u8]) -> usize
     behind + 1 + n
 }
 
-// Lays the frame of a message that may be written.
+// Writes the frame of a message that may be written.
 fn store(kind: u8, fields: &[u8], out: &mut [u8])
     requires { ⌜ (length (frameOf kind (now fields)) ≤ 8192) × (length (frameOf kind (now fields)) ≤ length (now out)) ⌝ }
     ensures { λ _. ⌜ now (out .exit) ≡ laid 0 (frameOf kind (now (fields .entry))) (now (out .entry)) ⌝ }
@@ -480,8 +478,7 @@ fn store(kind: u8, fields: &[u8], out: &mut [u8])
     octets::lay(out, end, &trailer);
 }
 
-// Writes a message as a frame at the front of a lent buffer, and answers the frame's length. A
-// refusal leaves every byte.
+// Writes a message as a frame at the front of a lent buffer, and returns the frame's length. A refusal leaves every byte.
 pub fn write(kind: u8, fields: &[u8], out: &mut [u8]) -> StepWritten
     ensures { λ r. ⌜ (stepWrittenPaper r ≡ stepWriteOf kind (now (fields .entry)) (length (now (out .entry)))) × (now (out .exit) ≡ stepLeftOf kind (now (fields .entry)) (now (out .entry))) ⌝ }
 {

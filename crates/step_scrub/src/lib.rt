@@ -71,7 +71,7 @@ fn paint_part(buf: &mut [u8], a: usize, e: usize, sum: u8) -> u8
     paint_fields(&mut buf[a..e], sum)
 }
 
-// The sum that the trailer behind n bytes says; reading compared it with the sum of them.
+// The sum that the trailer after n bytes says; reading compared it with the sum of them.
 fn old_sum(buf: &[u8], n: usize) -> u8
     requires { ⌜ (n + 7 ≤ length (now buf)) × (digitsAt (n + 3) 3 (now buf) ≡ number (sum8 (take n (now buf)))) ⌝ }
     ensures { λ r. ⌜ r ≡ sum8 (take n (now (buf .entry))) ⌝ }
@@ -82,7 +82,7 @@ fn old_sum(buf: &[u8], n: usize) -> u8
     }
 }
 
-// Stores a sum in the three digits of the trailer behind n bytes.
+// Stores a sum in the three digits of the trailer after n bytes.
 fn store_sum(buf: &mut [u8], n: usize, sum: u8)
     requires { ⌜ n + 7 ≤ length (now buf) ⌝ }
     ensures { λ _. ⌜ now (buf .exit) ≡ laid (n + 3) (decimalOf 3 sum) (now (buf .entry)) ⌝ }
@@ -90,8 +90,7 @@ fn store_sum(buf: &mut [u8], n: usize, sum: u8)
     digits::put_digits(buf, n + 3, 3, sum as u64);
 }
 
-// Paints the private values of the frame at the front of a lent buffer, and answers the frame's
-// length. A refusal leaves every byte.
+// Paints the private values of the frame at the front of a lent buffer, and returns the frame's length. A refusal leaves every byte.
 pub fn scrub(buf: &mut [u8]) -> StepWritten
     ensures { λ r. ⌜ (stepWrittenPaper r ≡ stepScrubOf (now (buf .entry))) × (now (buf .exit) ≡ stepScrubLeft (now (buf .entry))) ⌝ }
 {

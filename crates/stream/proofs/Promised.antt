@@ -32,7 +32,7 @@ use Rattle.stream.proofs.feed.Kinds as feed-kinds
 use Rattle.stream.proofs.close.Reads as close
 use Rattle.stream.proofs.close.Kinds as close-kinds
 
--- ---- the code's calls make a row: it begins with `Stream::opened` (`opened-is-opening` of flow), and goes on with `feed` and `close`
+-- ---- the code's calls make a row: it begins with `Stream::opened` (`opened-is-opening` of `stream_spec`), and goes on with `feed` and `close`
 
 pub feed-goes-on : {calls : Calls} (κs : Lfts 2) (a : Dens κs feed-kinds.ps) (x : resT feed-kinds.r κs .Denot) (s : AtExit (endedOf 2 feed-kinds.ps feed-kinds.r) κs) → Row calls (a .0) → feed.Post κs a x s
     → Row (calls ▸ record { call = Feed (now (a .1 .0)); room = length (now (a .1 .1 .0)) }) (x .stream)

@@ -74,7 +74,7 @@ fn counted(tally: Tally, answer: u32, after: Ledger) -> Tally
     }
 }
 
-// The walk over w, whose first byte stands at the place base, as far as no place waits; its records are laid from record k on.
+// The walk over w, whose first byte stands at the place base, as far as no place waits; its records are written from record k on.
 fn run(
     w: &[u8],
     base: u64,
@@ -339,7 +339,7 @@ fn call(st: Stream, cut: &[u8], closing: bool, records: &mut [u8]) -> Fed
     }
 }
 
-// One more cut, perhaps of no bytes: the records that it decides. 13, 19, 29, 8.
+// One more cut, perhaps of no bytes: the records that it decides. Refusals 13, 19, 29, 8.
 pub fn feed(st: Stream, cut: &[u8], records: &mut [u8]) -> Fed
     ensures { λ r. ⌜ (fedPaper r ≡ answerTo st (Feed (now (cut .entry))) (length (now (records .entry))))
         × ((r .stream ≡ nextOf st (Feed (now (cut .entry))) (length (now (records .entry))))
@@ -348,7 +348,7 @@ pub fn feed(st: Stream, cut: &[u8], records: &mut [u8]) -> Fed
     call(st, cut, false, records)
 }
 
-// No more bytes come: what remains is walked as the end of a closed capture is. 13, 19, 8.
+// No more bytes come: what remains is walked as the end of a closed capture is. Refusals 13, 19, 8.
 pub fn close(st: Stream, records: &mut [u8]) -> Fed
     ensures { λ r. ⌜ (fedPaper r ≡ answerTo st Close (length (now (records .entry))))
         × ((r .stream ≡ nextOf st Close (length (now (records .entry))))

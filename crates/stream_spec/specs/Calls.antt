@@ -49,7 +49,7 @@ behindOf x closing cut = valueOf closing (feedOf closing (meantBy x) cut .stream
 
 -- ---- one call, where the buffer has so much room
 
--- "19 for any call after the closing one, then 29 where places would pass 64 bits, then 8 where this call's records don't fit"; 13 before them
+-- the refusals of a call in their order: 13, then 19, 29 and 8 as CR 1 has them
 unfoldable pub numberFor : Stream → Bool → List ℕ → ℕ → ℕ
 numberFor x closing cut room =
     pick (not (soundOf x)) 13

@@ -21,7 +21,7 @@ use Rattle.stream_spec.specs.State.{lastPlace, headOf, soundOf}
 use Rattle.stream_spec.specs.Calls.{Call, cutOf, closes, numberTo}
 use Rattle.stream_spec.specs.Trace.{Calls, after, given, taken, ended}
 
--- "A place that answers 1 waits for more": the first place of the walk over s, read or tried by the search, that answers 1; the end where
+-- a place that "waits for more": the first place of the walk over s, read or tried by the search, that answers 1; the end where
 -- none does
 abbrev pub waitAt : List ℕ → ℕ
 waitAt s = waitOf seenOf saysOf (within zero) 0 s
@@ -41,7 +41,7 @@ unfoldable pub readings : Bool → List ℕ → List (Sight Seen)
 readings true s = sights s
 readings false s = below (waitAt s) (sights s)
 
--- counts and ledger of such readings, as the closed walk makes them: "The walk opens a ledger for channel 100."
+-- counts and ledger of such readings, as the closed walk makes them, with a ledger of channel 100
 abbrev pub tallied : List (Sight Seen) → Tally
 tallied xs = record { frames = framesOf xs; refused = refusedOf xs; ledger = ledgerOf (accountOf recordBy bookBy (fresh 100) xs .ledger) }
 
@@ -56,13 +56,13 @@ answered calls call room =
 -- THE THEOREM'S SENTENCES, of a row of calls
 
 pub record Follows (calls : Calls) : Type 0 where
-  -- "Records [..] equal those of the closed walk over the joined bytes of the calls not refused", as far as they are decided
+  -- the records are those of the closed walk "over the joined bytes", as far as they are decided
   pub records : given calls ≡ decided (ended calls) (taken calls)
   -- and so are counts and ledger
   pub tally : after calls .tally ≡ tallied (readings (ended calls) (taken calls))
   -- each number from the bytes alone
   pub numbers : (call : Call) (room : ℕ) → numberTo (after calls) call room ≡ answered calls call room
-  -- "At most 8,191 bytes are kept between calls"; they are the last of the bytes taken, from the first place that waits on
+  -- "at most 8,191 bytes" wait; they are the last of the bytes taken, from the first place that waits on
   pub few : after calls .len ≤ 8191
   pub places : after calls .place + after calls .len ≡ length (taken calls)
   pub keeps-last : headOf (after calls .len) (after calls .kept) ≡ drop (after calls .place) (taken calls)

@@ -20,7 +20,7 @@ pub struct Stream {
     // The search is under way: a place that does not read is passed over.
     pub seeking: bool,
     pub closed: bool,
-    // The first len bytes of kept wait for more; those behind them are 0.
+    // The first len bytes of kept wait for more; those after them are 0.
     pub len: usize,
     pub kept: [u8; 8191],
     pub tally: Tally,

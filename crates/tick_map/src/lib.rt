@@ -1,5 +1,5 @@
 // 256 bits in four words, as one number: place i is digit i of it, bit i % 64 (the low bit first) of word i / 64.
-// A map is read round from any place: the place behind 255 is 0.
+// A map is read round from any place: the place after 255 is 0.
 ghost use mathlib.Core.Path.{_≡_};
 ghost use Prim.Native.Nat.{_+_, _-_, _*_, _/_, _%_, _^_, _<_, _≤_, min};
 ghost use lib.Bits.{bitOr};

@@ -30,7 +30,7 @@ pub record Listed (w : Walk) (d d′ : List ℕ) (x : Walked) : Type 0 where
   pub ledger : x .ledger ≡ ledgerOf (w .ledger)
   pub buffer : d′ ≡ laid 0 (tableOf (w .records)) d
 
--- "if it can't take all of them, 8, nothing is written, and the ledger answered is the one just opened"
+-- where not all records fit: 8, nothing written, and the ledger just opened (document 01, Records, paragraph 1)
 pub record Untouched (d d′ : List ℕ) (x : Walked) : Type 0 where
   pub number : paperOf (x .answer) .number ≡ 8
   pub records : x .records ≡ 0

@@ -18,7 +18,7 @@ use reading::Seen;
 use terms::ChannelNumber;
 use terms::Refusal;
 
-// What the walk answers: 0, or 8 where the buffer can't take all records; how many records there are, how many readings were
+// What the walk returns: 0, or 8 where the buffer can't take all records; how many records there are, how many readings were
 // frames and how many were refused; and the ledger after the last. Beside 8 the counts are 0 and the ledger is the one just opened.
 pub struct Walked {
     pub answer: Answer,
@@ -35,7 +35,7 @@ struct Passed {
     ledger: Ledger,
 }
 
-// The place of the next reading, behind the one at p: past the frame, or where the search from the next byte on finds one; the
+// The place of the next reading, after the one at p: past the frame, or where the search from the next byte on finds one; the
 // end where it finds none. A refused frame's BodyLength is never stepped by.
 fn onward(capture: &[u8], p: usize, seen: Seen) -> usize
     requires { ⌜ (p < length (now capture)) × (seen ≡ seenOf (drop p (now capture))) ⌝ }

@@ -1,4 +1,4 @@
--- From the readings of a walk to its records and its ledger: each reading makes one record and hands the ledger on.
+-- From the readings of a walk to its records and its ledger: a reading gives a record, and the ledger to the next.
 use Prim.Native.Nat.{ℕ, zero, suc}
 use lib.ListN.{length}
 use mathlib.Core.Path.{_≡_, refl, ap}

@@ -1,4 +1,4 @@
--- The walk in the words of document 01, and that it is the walk byte by byte.
+-- The walk as document 01 tells it, and that it is the walk byte by byte.
 use Prim.Native.Nat.{ℕ, zero, suc, _+_, _-_, _≤_, _<_}
 use mathlib.Core.Path.{_≡_, refl, sym, _∙_}
 use mathlib.Core.Bool.{Bool, true, false}

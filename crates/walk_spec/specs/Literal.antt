@@ -1,4 +1,4 @@
--- The walk in the words of document 01, "Fault records and the listing": from a place on, with the ledger and all counts, by the offsets of the
+-- The walk as document 01 tells it (Records, paragraphs 1 and 2): from a place on, with the ledger and all counts, by the offsets of the
 -- frame's bytes. Nothing here speaks of `Seen`. LiteralLaws.antt says that the walk of the code's promise is this one.
 use Prim.Native.Nat.{ℕ, zero, suc, _+_}
 use mathlib.Core.List.{List, [], _∷_}
@@ -19,14 +19,14 @@ use Rattle.record.specs.Record.{blankOf}
 
 -- ---- one frame, f its bytes and what follows them
 
--- header: MsgType 4 bytes, SendingTime 8, MsgSeqNum 8, BodyLength 4; body; CheckSum 4
+-- MsgType is at 0, MsgSeqNum at 12, BodyLength at 20, the body at 24; four more bytes end the frame
 abbrev pub typeIn : List ℕ → Kind
 typeIn f = kindOf (be 4 0 f)
 
 abbrev pub lengthIn : List ℕ → ℕ
 lengthIn f = 28 + be 4 20 f
 
--- "The tick number is that of M201, ApplLastSeqNum for P001, ApplBegSeqNum for P002, else 0."
+-- the tick number, by type; 0 where it has none (document 01, Records, paragraph 1)
 abbrev pub tickIn : Kind → List ℕ → ℕ
 tickIn S001 f = 0
 tickIn S002 f = 0
@@ -38,7 +38,7 @@ tickIn M102 f = 0
 tickIn M201 f = be 8 27 f
 tickIn Unknown f = 0
 
--- "Channel is 0 for types without one."
+-- the channel, by type; 0 where it has none
 abbrev pub channelIn : Kind → List ℕ → ℕ
 channelIn S001 f = 0
 channelIn S002 f = 0
@@ -50,7 +50,7 @@ channelIn M102 f = 0
 channelIn M201 f = be 2 25 f
 channelIn Unknown f = 0
 
--- "On 0 it offers M201 and P001 to the ledger": the answer, and the ledger after it
+-- an M201 or P001 that reads is offered to the ledger: the answer, and the ledger after it
 abbrev pub answerIn : Kind → Book → List ℕ → ℕ
 answerIn S001 b f = 0
 answerIn S002 b f = 0
@@ -76,8 +76,7 @@ ledgerIn Unknown b f = b
 abbrev pub ledgerAfter : Book → List ℕ → Book
 ledgerAfter b f = ledgerIn (typeIn f) b f
 
--- "place 8, MsgType 4, answer 4, MsgSeqNum 8, tick number 8, channel 2, zero 2, BodyLength 4, floor 8, top 8, zero 8";
--- "the record's answer is the ledger's, its floor and top those after the call"
+-- the record of a frame: the ledger's answer, if it was offered, and floor and top as they are then
 abbrev pub frameRecord : ℕ → Book → List ℕ → Record
 frameRecord place b f =
     record {
@@ -117,8 +116,8 @@ goOn on stop [] = stop
 goOn on stop (q ∷ vs) = on q
 
 -- The walk of the capture s from the place p on, with the ledger b, in at most k readings:
--- "It also stops at the capture's end, with no record for it." Else "at each place it reads. On 0 it offers M201 and P001 to the ledger [..] and steps
--- past the frame. Else it records the refusal and goes on at the place the search finds from the next byte on, or stops."
+-- at the end of s it stops, without a record. A frame that reads is recorded and stepped over; else the refusal is
+-- recorded, and the walk goes on where the search "from the next byte on" finds a frame, or stops.
 unfoldable pub walkFrom : ℕ → List ℕ → ℕ → Book → Walk
 walkFrom zero s p b = stopped b
 walkFrom (suc k) s p b =
@@ -127,6 +126,6 @@ walkFrom (suc k) s p b =
     (aFrame (frameRecord p b (drop p s)) (walkFrom k s (p + lengthIn (drop p s)) (ledgerAfter b (drop p s))))
     (aRefusal (blankOf p (readOf (drop p s) .number) (b .floor) (b .top)) (goOn (λ q. walkFrom k s q b) (stopped b) (searchOf s (p + 1) .values))))
 
--- "The walk opens a ledger for channel 100." No walk has more readings than the capture has bytes.
+-- The walk of a whole capture, with a fresh ledger of channel 100. No walk has more readings than the capture has bytes.
 unfoldable pub literalWalk : List ℕ → Walk
 literalWalk s = walkFrom (length s) s 0 (fresh 100)

@@ -111,7 +111,7 @@ pub fn made(place: u64, seen: Seen, after: Offered) -> Record
     }
 }
 
-// Lays record k into the table of records, where it has room.
+// Writes record k into the table of records, where it has room.
 pub fn note(out: &mut [u8], k: usize, r: Record)
     ensures { λ _. ⌜ now (out .exit) ≡ notedAt k r (now (out .entry)) ⌝ }
 {
