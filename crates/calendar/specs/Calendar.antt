@@ -1,5 +1,5 @@
--- Document 02, CR 6: which times are real. A time is the number YYYYMMDDHHMMSSsss (000, 2.2.2). Days are those of the Gregorian calendar;
--- there is no leap second, and no 24:00.
+-- Document 02, CR 6: which times are real. A time is the number YYYYMMDDHHMMSSsss (000, 2.2.2).
+-- Days are those of the Gregorian calendar; there is no leap second, and no 24:00.
 use Prim.Native.Nat.{ℕ, _+_, _*_, _/_, _%_, _^_, _≤_}
 use mathlib.Core.Path.{_≡_}
 use mathlib.Core.Bool.{Bool, not, _&&_, _||_}

@@ -1,4 +1,5 @@
--- A number taken apart into a time's seven numbers and put together again; and what the test of a time says, both ways.
+-- A number taken apart into a time's seven numbers and put together again; and what the test of a
+-- time says, both ways.
 use Prim.Native.Nat.{ℕ, _+_, _*_, _/_, _%_, _^_, _<_, _≤_}
 use mathlib.Core.Path.{_≡_, refl, sym, ap, _∙_}
 use mathlib.Core.Bool.{Bool, true, false, _&&_, _||_}

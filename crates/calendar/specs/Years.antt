@@ -1,4 +1,5 @@
--- The calendar in its own words, and its figures: a wrong table or a wrong rule of leap years fails here.
+-- The calendar in its own words, and its figures: a wrong table or a wrong rule of leap
+-- years fails here.
 use Prim.Native.Nat.{ℕ, zero, suc, _+_, _*_, _/_, _%_, _^_}
 use mathlib.Core.Path.{_≡_, refl, sym, ap, _∙_}
 use mathlib.Core.Bool.{Bool, true, false, not}

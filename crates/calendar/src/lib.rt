@@ -1,4 +1,5 @@
-// Real times: whether a SendingTime, the number YYYYMMDDHHMMSSsss, is a date and a time of day that there is.
+// Real times: whether a SendingTime, the number YYYYMMDDHHMMSSsss, is a date and a time of day
+// that there is.
 ghost use mathlib.Core.Path.{_≡_};
 ghost use Prim.Native.Nat.{_/_, _%_, _^_};
 ghost use Rattle.calendar.specs.Calendar.{leap, daysIn, dateOk, clockOk, realTime};
@@ -44,7 +45,8 @@ fn real_clock(clock: u32) -> bool
     (clock / 10000000 <= 23) & (clock / 100000 % 100 <= 59) & (clock / 1000 % 100 <= 59)
 }
 
-// Whether a time is real. Date and clock are taken apart once, each below 2^32: a date of more than eight digits is none.
+// Whether a time is real. Date and clock are taken apart once, each below 2^32: a date of more than
+// eight digits is none.
 pub fn is_real(time: u64) -> bool
     ensures { λ r. ⌜ r ≡ realTime time ⌝ }
 {

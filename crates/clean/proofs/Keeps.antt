@@ -1,4 +1,5 @@
--- One frame read and laid scrubbed, of `keep`: its answer and size are those seen, and what is laid is the frame seen, scrubbed. Assumes nothing.
+-- One frame read and laid scrubbed, of `keep`: its answer and size are those seen, and what is laid
+-- is the frame seen, scrubbed. Assumes nothing.
 use Prim.Native.Nat.{ℕ, _+_}
 use mathlib.Core.Path.{_≡_, refl, sym, ap, _∙_}
 use mathlib.Core.Bool.{true, false}

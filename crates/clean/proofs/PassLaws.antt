@@ -1,4 +1,5 @@
--- The loops of `pass` and `is_clean`: behind what is done, what is left at a place gives what the whole capture gives. Assumes nothing.
+-- The loops of `pass` and `is_clean`: behind what is done, what is left at a place gives what the
+-- whole capture gives. Assumes nothing.
 use Prim.Native.Nat.{ℕ, _+_, _≤_, _<_}
 use mathlib.Core.Path.{_≡_, refl, sym, ap, _∙_}
 use mathlib.Core.Logic.{⊎-elim}
@@ -54,8 +55,9 @@ module _ (s : List ℕ) (p r : ℕ) (x : Seen) (e : x ≡ seenOf (drop p s)) (g 
   unfolding foundIn
   found-next before = rw (g .goes .rest, e)
 
--- The invariant of `pass`: bytes, frames and found frames of what is left, added to those so far, are those of the whole; and where the whole has
--- room, what is left laid behind what is written gives the whole.
+-- The invariant of `pass`: bytes, frames and found frames of what is left, added to those so far,
+-- are those of the whole; and where the whole has room, what is left laid behind what is written
+-- gives the whole.
 pub record Left (s out₀ out : List ℕ) (p bytes frames found before : ℕ) : Type 0 where
   pub inside : p ≤ length s
   pub few : bytes ≤ p
@@ -134,7 +136,8 @@ left-end {s} {out₀} {out} {p} {bytes} {frames} {found} {before} w h =
     let d : found ≡ foundOf s = omega (arith, rw e at (w .searched)) in
     (rw (c, f, d), λ (r : length (cleanOf s) ≤ length out₀). sym (laid-nil bytes out) ∙ ap (λ (l : List ℕ). laid bytes l out) (sym n) ∙ w .written r)
 
--- ONE READING, by what became of it: how many bytes its frame has, what it adds, and where the next reading is
+-- ONE READING, by what became of it: how many bytes its frame has, what it adds, and where the
+-- next reading is
 module _ (s : List ℕ) (p : ℕ) (x : Kept) (e : x ≡ keptOf (seenOf (drop p s))) where
   size-is : x .size ≡ seenOf (drop p s) .size
   size-is = ap (λ (y : Kept). y .size) e
@@ -176,7 +179,8 @@ module _ (s : List ℕ) (p : ℕ) (x : Kept) (e : x ≡ keptOf (seenOf (drop p s
     pub kept-within : (x .answer ≡ 0 → ⊥) → refusal 9 ≡ searchOf s (p + 1) → ⊥
     kept-within ne f = goes-inside s p (seenOf (drop p s)) h refl (refused-is ne) f
 
--- The invariant of `is_clean`: what stands from n on differs from what is left to be cleaned where the capture differs from the cleaned one.
+-- The invariant of `is_clean`: what stands from n on differs from what is left to be cleaned where
+-- the capture differs from the cleaned one.
 pub record Same (s one : List ℕ) (p n : ℕ) : Type 0 where
   pub inside : p ≤ length s
   pub few : n ≤ p

@@ -1,4 +1,5 @@
--- For each public function: wrong answers that its promise rules out, as tables of what is given and what is then wrong. Assumes nothing.
+-- For each public function: wrong answers that its promise rules out, as tables of what is given
+-- and what is then wrong. Assumes nothing.
 use Prim.Native.Nat.{ℕ}
 use mathlib.Core.Path.{refl}
 use mathlib.Core.List.{List, [], _∷_, _++_}
@@ -29,7 +30,8 @@ use Rattle.clean.proofs.is_clean.Kinds as is-clean-kinds
 abbrev capture : List ℕ
 capture = resend 1 0x41 ++ (0xFF ∷ heartbeat)
 
--- CLEAN: a capture and a lent buffer; the answer with bytes, frames and frames behind damage, and the buffer then
+-- CLEAN: a capture and a lent buffer; the answer with bytes, frames and frames behind damage, and
+-- the buffer then
 abbrev pub clean-wrong : List (Row (List ℕ × List ℕ) Left)
 clean-wrong =
     (capture, replicate 109 7) never left (answer 0 (108 ∷ 2 ∷ 1 ∷ [])) (resend 1 0x41 ++ (heartbeat ++ (7 ∷ [])))  -- a private text kept

@@ -1,4 +1,5 @@
--- What one pass counted, and what cleaning then answers and leaves; and each answer told from its paper.
+-- What one pass counted, and what cleaning then answers and leaves; and each answer told
+-- from its paper.
 use Prim.Native.Nat.{ℕ, _≤_}
 use mathlib.Core.Path.{_≡_, refl, sym, ap, _∙_}
 use mathlib.Core.Bool.{true, false}

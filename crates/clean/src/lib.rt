@@ -1,4 +1,5 @@
-// A whole capture, scrubbed: its accepted frames in order, stray bytes left out; and whether a capture is clean already.
+// A whole capture, scrubbed: its accepted frames in order, stray bytes left out; and whether a
+// capture is clean already.
 ghost use mathlib.Core.Path.{_≡_};
 ghost use mathlib.Core.List.{List, _∷_, [], _++_};
 ghost use Prim.Native.Nat.{ℕ, _+_, _-_, _≤_, _<_};
@@ -19,9 +20,9 @@ use ledger::Answer;
 use octets::Written;
 use terms::Refusal;
 
-// What cleaning returns: 0, or 8 where the buffer can't take the cleaned bytes; how many bytes were written, how many frames
-// they are, and how many of these the search found after damage. Such a frame may lie inside a damaged one, in bytes that
-// were private there. Beside 8 the counts are 0.
+// What cleaning returns: 0, or 8 where the buffer can't take the cleaned bytes; how many bytes were
+// written, how many frames they are, and how many of these the search found after damage. Such a
+// frame may lie inside a damaged one, in bytes that were private there. Beside 8 the counts are 0.
 pub struct Cleaned {
     pub answer: Answer,
     pub bytes: usize,
@@ -35,7 +36,8 @@ pub enum Check {
     Changed(usize),
 }
 
-// What became of a reading: its answer, and how many bytes its frame has, none where it was refused.
+// What became of a reading: its answer, and how many bytes its frame has, none where it
+// was refused.
 struct Kept {
     answer: u32,
     size: usize,
@@ -48,8 +50,8 @@ struct Passed {
     after_damage: usize,
 }
 
-// The place of the next reading, after the one at p: past the frame, or where the search from the next byte on finds one; the
-// end where it finds none.
+// The place of the next reading, after the one at p: past the frame, or where the search from the
+// next byte on finds one; the end where it finds none.
 fn onward(capture: &[u8], p: usize, kept: Kept) -> usize
     requires { ⌜ (p < length (now capture)) × (kept ≡ keptOf (seenOf (drop p (now capture)))) ⌝ }
     ensures { λ r. ⌜ Steps (now (capture .entry)) p (kept .size) r ⌝ }
@@ -64,8 +66,9 @@ fn onward(capture: &[u8], p: usize, kept: Kept) -> usize
     }
 }
 
-// Reads the frame at p of the capture and writes it over out from n on, scrubbed, where it has room. What has none, or is refused, is
-// read once more: its answer and its size are known all the same.
+// Reads the frame at p of the capture and writes it over out from n on, scrubbed, where it has
+// room. What has none, or is refused, is read once more: its answer and its size are known
+// all the same.
 fn keep(capture: &[u8], p: usize, out: &mut [u8], n: usize) -> Kept
     ensures { λ r. ⌜ (r ≡ keptOf (seenOf (drop p (now (capture .entry)))))
         × (now (out .exit) ≡ laidIfRoom n (scrubbed (take (seenOf (drop p (now (capture .entry))) .size) (drop p (now (capture .entry))))) (now (out .entry))) ⌝ }
@@ -96,7 +99,8 @@ fn found(before: u32, answer: u32) -> usize
     if before == 0 { 0 } else { accepted(answer) }
 }
 
-// The walk over a capture. It counts the bytes of every accepted frame, and writes those that have room.
+// The walk over a capture. It counts the bytes of every accepted frame, and writes those
+// that have room.
 fn pass(capture: &[u8], out: &mut [u8]) -> Passed
     ensures { λ r. ⌜ (r ≡ passedOf (now (capture .entry)))
         × (length (cleanOf (now (capture .entry))) ≤ length (now (out .entry)) → now (out .exit) ≡ laid 0 (cleanOf (now (capture .entry))) (now (out .entry))) ⌝ }
@@ -121,8 +125,8 @@ fn pass(capture: &[u8], out: &mut [u8]) -> Passed
     }
 }
 
-// Whether so much room takes the cleaned capture. It is never longer than the capture; where that is too long, its bytes are
-// counted in a pass that writes nothing.
+// Whether so much room takes the cleaned capture. It is never longer than the capture; where that
+// is too long, its bytes are counted in a pass that writes nothing.
 fn takes_all(capture: &[u8], room: usize) -> bool
     ensures { λ r. ⌜ r ≡ fitsIn (now (capture .entry)) room ⌝ }
 {
@@ -134,8 +138,8 @@ fn takes_all(capture: &[u8], room: usize) -> bool
     counted.bytes <= room
 }
 
-// Writes the accepted frames of a capture, each scrubbed, one after the other at the front of out; or returns 8, and nothing is
-// written.
+// Writes the accepted frames of a capture, each scrubbed, one after the other at the front of out;
+// or returns 8, and nothing is written.
 pub fn clean(capture: &[u8], out: &mut [u8]) -> Cleaned
     ensures { λ r. ⌜ (cleanPaper r ≡ cleanAnswer (now (capture .entry)) (length (now (out .entry))))
         × (now (out .exit) ≡ cleanLeaves (now (capture .entry)) (now (out .entry))) ⌝ }
@@ -157,7 +161,8 @@ pub fn clean(capture: &[u8], out: &mut [u8]) -> Cleaned
     }
 }
 
-// How many bytes at the front of one stand in the capture from n on, up to the first that differs, and size at most.
+// How many bytes at the front of one stand in the capture from n on, up to the first that differs,
+// and size at most.
 fn agreed(capture: &[u8], n: usize, one: &[u8], size: usize) -> usize
     requires { ⌜ (n + size ≤ length (now capture)) × (size ≤ length (now one)) ⌝ }
     ensures { λ r. ⌜ (r ≤ size) × ((rest : List ℕ) → differOf n (drop n (now (capture .entry))) (take size (now (one .entry)) ++ rest)
@@ -173,8 +178,9 @@ fn agreed(capture: &[u8], n: usize, one: &[u8], size: usize) -> usize
     size
 }
 
-// Whether a capture is what cleaning it gives, byte for byte and in length; else the first place where the two differ. The
-// cleaned capture is made one frame at a time and compared with what stands at its place.
+// Whether a capture is what cleaning it gives, byte for byte and in length; else the first place
+// where the two differ. The cleaned capture is made one frame at a time and compared with what
+// stands at its place.
 pub fn is_clean(capture: &[u8]) -> Check
     ensures { λ r. ⌜ checkPaper r ≡ checkOf (now (capture .entry)) ⌝ }
 {

@@ -1,4 +1,5 @@
--- The accepted frames of a capture are those of `walk_laws`, and so they are no longer than the capture.
+-- The accepted frames of a capture are those of `walk_laws`, and so they are no longer than
+-- the capture.
 use Prim.Native.Nat.{ℕ, zero, suc, _+_, _-_, _≤_}
 use mathlib.Core.Path.{_≡_, refl, sym, ap, ap₂, _∙_}
 use mathlib.Core.Bool.{true, false}

@@ -1,4 +1,5 @@
--- What the check's answer means: none exactly where cleaning changes nothing, else the first place where the two differ.
+-- What the check's answer means: none exactly where cleaning changes nothing, else the first place
+-- where the two differ.
 use Prim.Native.Nat.{ℕ, suc, _+_, _<_, _≤_}
 use mathlib.Core.Path.{_≡_, refl, sym, ap, ap₂, _∙_}
 use mathlib.Core.Logic.{_⊎_, inl, inr, ⊎-elim, _↔_}
@@ -12,7 +13,8 @@ use Rattle.clean_spec.specs.Clean.{cleanOf, differOf, checkOf}
 use Rattle.clean_spec.specs.Differ.{cons-same}
 use Rattle.clean_spec.specs.Laws.{clean-again}
 
--- p places behind the front, the first difference of a and b: up to it they agree, and there one of them ends, or their bytes differ
+-- p places behind the front, the first difference of a and b: up to it they agree, and there one of
+-- them ends, or their bytes differ
 pub record First (a b : List ℕ) (p : ℕ) : Type 0 where
   pub before : take p a ≡ take p b
   pub inside : (p ≤ length a) × (p ≤ length b)

@@ -1,5 +1,5 @@
--- A capture, scrubbed (CR 11): the frames that its walk accepts, each scrubbed, end to end; other bytes are left out.
--- And where a capture differs from that.
+-- A capture, scrubbed (CR 11): the frames that its walk accepts, each scrubbed, end to end; other
+-- bytes are left out. And where a capture differs from that.
 use Prim.Native.Nat.{ℕ, _+_}
 use mathlib.Core.Bool.{Bool}
 use mathlib.Core.List.{List, [], _∷_}
@@ -63,7 +63,8 @@ cleanLeaves s d = pick (fitsIn s (length d)) (laid 0 (cleanOf s) d) d
 
 -- ---- whether it is clean
 
--- the first place where a and b differ, counted from p on; the end of the shorter where it is a front of the other; none where they are equal
+-- the first place where a and b differ, counted from p on; the end of the shorter where it is a
+-- front of the other; none where they are equal
 unfoldable pub differOf : ℕ → List ℕ → List ℕ → List ℕ
 differOf p [] [] = []
 differOf p [] (y ∷ b) = p ∷ []

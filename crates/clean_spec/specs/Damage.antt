@@ -1,5 +1,6 @@
--- What the count of frames behind damage tells: how many accepted frames do not start where the one before them ends. Where it is 0, the accepted
--- frames are the front of the capture, end to end. So none of them lies inside a damaged one.
+-- What the count of frames behind damage tells: how many accepted frames do not start where the one
+-- before them ends. Where it is 0, the accepted frames are the front of the capture, end to end. So
+-- none of them lies inside a damaged one.
 use Prim.Native.Nat.{ℕ, zero, suc, _+_, _≤_, _<_}
 use mathlib.Core.Path.{_≡_, refl, sym, ap, _∙_}
 use mathlib.Core.Logic.{⊎-elim}
@@ -110,7 +111,8 @@ at-front (suc k) s p l none =
 pub undamaged : (s : List ℕ) → foundOf s ≡ 0 → (rest : List ℕ) × (s ≡ joined (acceptedIn s) ++ rest)
 undamaged s none = let f = at-front (length s) s 0 (omega arith) none in (f .0, f .1 ∙ ap (λ (fs : List (List ℕ)). joined fs ++ f .0) (frames-accepted s))
 
--- THE COUNT, told from the places: accepted readings that do not start at `end`, where the accepted one before them ended
+-- THE COUNT, told from the places: accepted readings that do not start at `end`, where the accepted
+-- one before them ended
 unfoldable pub apartFrom : ℕ → List (Sight Seen) → ℕ
 apartFrom end [] = 0
 apartFrom end (x ∷ xs) = pick (eqb (x .read .answer) 0) (pick (eqb (x .place) end) 0 1 + apartFrom (x .place + x .read .size) xs) (apartFrom end xs)

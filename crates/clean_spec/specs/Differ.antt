@@ -43,7 +43,8 @@ pub differ-more : (s : List ℕ) (n : ℕ) → n < length s → differOf n (drop
 unfolding differOf
 differ-more s n h = rw (drop-cons s n 0 h)
 
--- i of the first size bytes of one are alike with s from n on: whatever follows those, the first difference is the one behind the i bytes
+-- i of the first size bytes of one are alike with s from n on: whatever follows those, the first
+-- difference is the one behind the i bytes
 pub record Alike (s one : List ℕ) (n size i : ℕ) : Type 0 where
   pub few : i ≤ size
   pub behind : (rest : List ℕ) → differOf n (drop n s) (take size one ++ rest) ≡ differOf (n + i) (drop (n + i) s) (drop i (take size one) ++ rest)

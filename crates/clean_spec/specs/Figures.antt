@@ -1,4 +1,5 @@
--- A cleaned capture has the walk of the capture, refusals left out: no refusal, as many frames, the same ledger, the same records but for places.
+-- A cleaned capture has the walk of the capture, refusals left out: no refusal, as many frames, the
+-- same ledger, the same records but for places.
 use Prim.Native.Nat.{ℕ, _+_}
 use mathlib.Core.Path.{_≡_, refl, sym, ap, _∙_}
 use mathlib.Core.Logic.{⊎-elim}

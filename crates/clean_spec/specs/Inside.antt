@@ -1,4 +1,5 @@
--- A frame inside private bytes, computed from the definitions: an order whose InvestorName holds the bytes of document 01's frame A.
+-- A frame inside private bytes, computed from the definitions: an M201 whose tail holds the bytes
+-- of document 01's frame A.
 use Prim.Native.Nat.{ℕ}
 use mathlib.Core.Path.{_≡_, refl}
 use mathlib.Core.List.{List, [], _∷_, _++_}
@@ -22,8 +23,9 @@ use Rattle.clean_spec.specs.Clean.{framesIn, cleanOf, foundBy, foundIn, 
 abbrev pub heartbeat : List ℕ
 heartbeat = frameA (0 ∷ 0 ∷ 0 ∷ 0 ∷ []) (0 ∷ 0 ∷ 0 ∷ 0x8E ∷ [])
 
--- an M201 behind the first byte of its MsgType, up to its tail: SendingTime as A's, MsgSeqNum 2, BodyLength 184; SecurityType 13, channel 100,
--- tick 5, MD211, 01234567, 09:30:00.000, ExecType 0, price 1,000,000, quantity 2,000,000
+-- an M201 behind the first byte of its MsgType, up to its tail: SendingTime as A's, MsgSeqNum 2,
+-- BodyLength 73; SecurityType 13, channel 100, tick 5, MD211, 01234567, 09:30:00.000, ExecType 0,
+-- price 1,000,000, quantity 2,000,000
 unfoldable pub fixedPart : List ℕ
 fixedPart =
     0x32 ∷ 0x30 ∷ 0x31 ∷ 0x00 ∷ 0x47 ∷ 0xFA ∷ 0x79 ∷ 0x08 ∷ 0xDA ∷ 0xCB ∷ 0x40 ∷ 0x00 ∷ 0x00 ∷ 0x00 ∷ 0x00 ∷ 0x00 ∷ 0x00 ∷ 0x00 ∷ 0x02 ∷ 0x00 ∷ 0x00 ∷ 0x00 ∷ 0xB8 ∷ 0x0D ∷ 0x00 ∷ 0x64 ∷ 0x00 ∷ 0x00 ∷ 0x00 ∷ 0x00 ∷ 0x00 ∷ 0x00 ∷ 0x00 ∷ 0x05 ∷ 0x4D ∷ 0x44 ∷ 0x32 ∷ 0x31 ∷ 0x31 ∷ 0x30 ∷ 0x31 ∷ 0x32 ∷ 0x33 ∷ 0x34 ∷ 0x35 ∷ 0x36 ∷ 0x37 ∷ 0x05 ∷ 0x8B ∷ 0x11 ∷ 0x40 ∷ 0x30 ∷ 0x00 ∷ 0x00 ∷ 0x00 ∷ 0x00 ∷ 0x00 ∷ 0x0F ∷ 0x42 ∷ 0x40 ∷ 0x00 ∷ 0x00 ∷ 0x00 ∷ 0x00 ∷ 0x00 ∷ 0x1E ∷ 0x84 ∷ 0x80 ∷ []

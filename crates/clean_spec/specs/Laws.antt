@@ -1,4 +1,5 @@
--- What a cleaned capture is, of every capture s. All of it is proved of the definition that the code's promise cites.
+-- What a cleaned capture is, of every capture s. All of it is proved of the definition that the
+-- code's promise cites.
 use Prim.Native.Nat.{ℕ, zero, _+_, _≤_, _<_}
 use mathlib.Core.Path.{_≡_, refl, sym, ap, _∙_}
 use mathlib.Core.List.{List, [], _∷_}

@@ -1,4 +1,5 @@
--- One turn of a pass: how many bytes a reading's frame has, where the next reading is, and what the frame adds to the cleaned capture.
+-- One turn of a pass: how many bytes a reading's frame has, where the next reading is, and what the
+-- frame adds to the cleaned capture.
 use Prim.Native.Nat.{ℕ, _+_, _≤_, _<_}
 use mathlib.Core.Path.{_≡_, refl, sym, ap, _∙_}
 use mathlib.Core.Logic.{⊎-elim}

@@ -51,7 +51,8 @@ nothing = answer 0 []
 unfoldable pub saidIfDigits : List ℕ → Paper
 saidIfDigits t = pick (allDigits t) (number (saidBy t)) nothing
 
--- n bytes from the place at on, of len bytes: one to nineteen, which always fit 64 bits, and none behind the end
+-- n bytes from the place at on, of len bytes: one to nineteen, which always fit 64 bits, and none
+-- behind the end
 abbrev pub readable : ℕ → ℕ → ℕ → Bool
 readable at n len = leb 1 n && leb n 19 && leb (at + n) len
 

@@ -1,4 +1,5 @@
--- Laws of decimal text: what is laid is digits that say its number, and digits laid again as they stood.
+-- Laws of decimal text: what is laid is digits that say its number, and digits laid again
+-- as they stood.
 use Prim.Native.Nat.{ℕ, zero, suc, _+_, _*_, _/_, _%_, _-_, _<_, _≤_, _^_}
 use mathlib.Core.Path.{_≡_, refl, sym, ap, _∙_}
 use mathlib.Core.Bool.{Bool, true, false, _&&_, and-assoc}

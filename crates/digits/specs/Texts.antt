@@ -1,5 +1,5 @@
--- Reading decimal text: a number is given exactly when the bytes say one, what is laid is read, and what is read is laid again as it stood.
--- And no zero is needless.
+-- Reading decimal text: a number is given exactly when the bytes say one, what is laid is read, and
+-- what is read is laid again as it stood. And no zero is needless.
 use Prim.Native.Nat.{ℕ, _+_, _-_, _<_, _≤_, _^_}
 use mathlib.Core.Path.{_≡_, sym, ap, _∙_}
 use mathlib.Core.Bool.{Bool, true, false, not, _&&_, _||_, false-or, or-true}

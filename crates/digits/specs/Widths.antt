@@ -1,4 +1,5 @@
--- How many digits a number has: what `widthOf` means, that there is one such width, and how a loop counts it.
+-- How many digits a number has: what `widthOf` means, that there is one such width, and how a
+-- loop counts it.
 use Prim.Native.Nat.{ℕ, zero, suc, _+_, _/_, _-_, _<_, _≤_, _^_}
 use mathlib.Core.Path.{_≡_, refl}
 use mathlib.Core.Logic.{_⊎_, inl, inr, ⊎-elim}
@@ -57,7 +58,8 @@ width-most {v} {w} a u p h =
 pub width-one : {v a b : ℕ} → Width v a → Width v b → a ≡ b
 width-one {v} {a} {b} p q = le-antisymm (width-most b p (q .some) (q .below)) (width-most a q (p .some) (p .below))
 
--- counting: n - 1 digits are taken off, x is what is left of a number of w digits, and `left` more are room enough
+-- counting: n - 1 digits are taken off, x is what is left of a number of w digits, and `left` more
+-- are room enough
 pub record Counted (n x w : ℕ) : Type 0 where
   pub left : ℕ
   pub room : n + left ≡ 20

@@ -1,5 +1,6 @@
 // Decimal text in ASCII: a number written over lent bytes as its digits, and read back from them.
-// Every function takes all input. Without room nothing is written and the answer is 8; text past the end is no number.
+// Every function takes all input. Without room nothing is written and the answer is 8; text past
+// the end is no number.
 ghost use mathlib.Core.Path.{_≡_};
 ghost use Prim.Native.Nat.{_+_, _≤_};
 ghost use lib.Dec.{leb};
@@ -64,7 +65,8 @@ pub fn width(v: u64) -> usize
     n
 }
 
-// Writes v over d from at on as all its digits, with no needless zero in front, and returns how many they are.
+// Writes v over d from at on as all its digits, with no needless zero in front, and returns how
+// many they are.
 pub fn put_decimal(d: &mut [u8], at: usize, v: u64) -> Written
     ensures { λ r. ⌜ (writtenPaper r ≡ roomFor at (widthOf v) (length (now (d .entry)))) × (now (d .exit) ≡ laidIfRoom at (shownOf v) (now (d .entry))) ⌝ }
 {
@@ -78,7 +80,8 @@ fn digit(b: u8) -> bool
     (48 <= b) & (b <= 57)
 }
 
-// The number that the n bytes of s from at on say, if all of them are digits. Nineteen digits stay below 2^64.
+// The number that the n bytes of s from at on say, if all of them are digits. Nineteen digits
+// stay below 2^64.
 fn said(s: &[u8], at: usize, n: usize) -> Decimal
     requires { ⌜ (at + n ≤ length (now s)) × (n ≤ 19) ⌝ }
     ensures { λ r. ⌜ decimalPaper r ≡ saidIfDigits (take n (drop at (now (s .entry)))) ⌝ }
@@ -96,14 +99,16 @@ fn said(s: &[u8], at: usize, n: usize) -> Decimal
     Decimal::Number(v)
 }
 
-// Whether n bytes from at on, of len bytes, can say a number: they are one to nineteen, and none lies past the end.
+// Whether n bytes from at on, of len bytes, can say a number: they are one to nineteen, and none
+// lies past the end.
 fn can_say(len: usize, at: usize, n: usize) -> bool
     ensures { λ r. ⌜ r ≡ readable at n len ⌝ }
 {
     (1 <= n) & (n <= 19) & has_room(len, at, n)
 }
 
-// The number that the n bytes of s from at on say: one to nineteen digits, all within s. Else there is no number.
+// The number that the n bytes of s from at on say: one to nineteen digits, all within s. Else there
+// is no number.
 pub fn digits_at(s: &[u8], at: usize, n: usize) -> Decimal
     ensures { λ r. ⌜ decimalPaper r ≡ digitsAt at n (now (s .entry)) ⌝ }
 {

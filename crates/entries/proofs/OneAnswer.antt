@@ -1,6 +1,6 @@
--- For each public function: two answers that its promise allows are equal. A function that takes or gives a reader has no
--- `Post` of the checker's: it promises one relation of specs/ and nothing else, and the theorem is over that relation.
--- Assumes nothing.
+-- For each public function: two answers that its promise allows are equal. A function that takes or
+-- gives a reader has no `Post` of the checker's: it promises one relation of specs/ and nothing
+-- else, and the theorem is over that relation. Assumes nothing.
 use Prim.Native.Nat.{ℕ}
 use mathlib.Core.Path.{_≡_, sym, ap, _∙_}
 use mathlib.Core.List.{List}

@@ -1,5 +1,6 @@
--- For each public function: wrong answers that its promise rules out, as tables of what is given and what is then wrong. A function that takes
--- or gives a reader has no `Post` of the checker's: it promises one relation of specs/ and nothing else, and the table is over that. Assumes nothing.
+-- For each public function: wrong answers that its promise rules out, as tables of what is given
+-- and what is then wrong. A function that takes or gives a reader has no `Post` of the checker's:
+-- it promises one relation of specs/ and nothing else, and the table is over that. Assumes nothing.
 use Prim.Native.Nat.{ℕ}
 use mathlib.Core.Path.{_≡_, refl, ap, ap₂}
 use mathlib.Core.List.{List, [], _∷_}
@@ -21,7 +22,8 @@ use Rattle.entries.proofs.open_at.Kinds as open-at-kinds
 use Rattle.entries.proofs.step_from.Reads as step-from
 use Rattle.entries.proofs.step_from.Kinds as step-from-kinds
 
--- a snapshot of stream MD001: the SecurityType, and two entries of 10 bytes, of types 5 and 6 and prices 7 and 8
+-- a snapshot of stream MD001: the SecurityType, and two entries of 10 bytes, of types 5 and 6 and
+-- prices 7 and 8
 abbrev body : ℕ → List ℕ
 body type = snapshotBody type 0x4D44303031 7 8
 

@@ -1,4 +1,5 @@
--- Each number of opening and of a step is answered exactly when its condition holds, for all bodies and places.
+-- Each number of opening and of a step is answered exactly when its condition holds, for all
+-- bodies and places.
 use Prim.Native.Nat.{ℕ, zero, suc, _+_, _<_, _≤_}
 use mathlib.Core.Path.{_≡_, sym, ap, _∙_}
 use mathlib.Core.Bool.{true, false}

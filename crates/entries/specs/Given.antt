@@ -1,5 +1,6 @@
--- When each number is given, in document 01's words: conditions over the bytes of a body b, at its offsets. They cite nothing
--- of what they explain. `LengthRule`, `FieldRules` and `EntrySize` are the document's table and field rules.
+-- When each number is given, in document 01's words: conditions over the bytes of a body b, at its
+-- offsets. They cite nothing of what they explain. `LengthRule`, `FieldRules` and `EntrySize` are
+-- the document's table and field rules.
 use Prim.Native.Nat.{ℕ, zero, suc, _+_, _*_, _<_, _≤_}
 use mathlib.Core.Path.{_≡_}
 use mathlib.Core.List.{List}

@@ -1,4 +1,5 @@
--- An entry is the bytes at its place: its fields, laid out in the document's widths and order, are those bytes again.
+-- An entry is the bytes at its place: its fields, laid out in the document's widths and order, are
+-- those bytes again.
 use Prim.Native.Nat.{ℕ, _+_, _≤_}
 use mathlib.Core.Path.{_≡_, refl, sym, ap, _∙_}
 use mathlib.Core.List.{List, [], _∷_, _++_}

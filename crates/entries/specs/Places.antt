@@ -1,5 +1,5 @@
--- Which places are an entry's: the test of the definition, which looks at every k, and that of the code, which divides, both
--- say what document 01 does.
+-- Which places are an entry's: the test of the definition, which looks at every k, and that of the
+-- code, which divides, both say what document 01 does.
 use Prim.Native.Nat.{ℕ, zero, suc, _+_, _*_, _-_, _/_, _%_, _<_, _≤_}
 use mathlib.Core.Path.{_≡_, sym, _∙_}
 use mathlib.Core.Bool.{Bool, true, false, _&&_}

@@ -1,5 +1,6 @@
--- Document 01 on the M102 entry reader: what opening it and a step of it answer, and what stands beside each answer.
--- `be w p b` is the number in the w bytes of the body b from the offset p on: the stream is at 10, NoMDEntries at 71.
+-- Document 01 on the M102 entry reader: what opening it and a step of it answer, and what stands
+-- beside each answer. `be w p b` is the number in the w bytes of the body b from the offset p on:
+-- the stream is at 10, NoMDEntries at 71.
 use Prim.Native.Nat.{ℕ, zero, suc, _+_, _*_}
 use mathlib.Core.Path.{_≡_}
 use mathlib.Core.Bool.{Bool, false, _&&_, _||_}
@@ -33,7 +34,8 @@ pub record Carries (s : RefT (List ℕ)) (n : ℕ) (m : RefT (List ℕ)) : Type 
   pub bytes : now m ≡ carriedOf n (now s)
   pub whole : n ≡ 0 → m ≡ s
 
--- what opening a slice promises: the answer, what the reader carries, and that it stands at the first entry
+-- what opening a slice promises: the answer, what the reader carries, and that it stands at
+-- the first entry
 pub record Opens (s : RefT (List ℕ)) (o : Opened) : Type 0 where
   pub answered : verdictNumber (o .answer) ≡ openOf (now s)
   pub carries : Carries s (openOf (now s)) (o .reader .body)
@@ -50,8 +52,8 @@ unfoldable pub placed : ℕ → ℕ → ℕ → Bool
 placed zero w p = false
 placed (suc k) w p = placed k w p || eqb p (73 + k * w)
 
--- row 20 has nothing against the place p: the body is not below 73 bytes, p is one of NoMDEntries places, and the entry
--- there does not pass the body's end
+-- row 20 has nothing against the place p: the body is not below 73 bytes, p is one of NoMDEntries
+-- places, and the entry there does not pass the body's end
 unfoldable pub stands : List ℕ → ℕ → Bool
 stands b p = (leb 73 (length b) && placed (be 2 71 b) (sizeIn b) p) && leb (p + sizeIn b) (length b)
 
@@ -63,7 +65,8 @@ entryAt b p =
     (answer 0 (be 2 p b ∷ be 8 (p + 2) b ∷ []))
     (answer 0 (be 2 p b ∷ be 8 (p + 2) b ∷ be 8 (p + 10) b ∷ be 1 (p + 18) b ∷ []))
 
--- a step: the entry, and the reader after it; 20 where there is none (document 01, Frame, paragraph 4)
+-- a step: the entry, and the reader after it; 20 where there is none (document 01, Frame,
+-- paragraph 4)
 unfoldable pub stepOf : List ℕ → ℕ → Paper
 stepOf b p = pick (stands b p) (entryAt b p) (refusal 20)
 

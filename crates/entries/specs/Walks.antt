@@ -1,6 +1,6 @@
--- Walking a body: from an opened reader exactly NoMDEntries steps give entries, the k-th of them the one at 73 + k sizes, and
--- every later step answers 20. By induction over the steps still to come; the invariant is that after k steps the place is
--- 73 + k sizes.
+-- Walking a body: from an opened reader exactly NoMDEntries steps give entries, the k-th of them
+-- the one at 73 + k sizes, and every later step answers 20. By induction over the steps still to
+-- come; the invariant is that after k steps the place is 73 + k sizes.
 use Prim.Native.Nat.{ℕ, zero, suc, _+_, _*_, _<_, _≤_}
 use mathlib.Core.Path.{_≡_, refl, sym, ap, _∙_}
 use mathlib.Core.Bool.{true, false}
@@ -120,7 +120,8 @@ unfolding walked
 turns-walked d _ (none _) = refl
 turns-walked d _ (next _ s xs t r) = rw (t .answered, turns-walked (s .reader) xs r, t .body, t .place)
 
--- FROM AN OPENED READER exactly NoMDEntries steps give entries, all of them in order, and every later one answers 20
+-- FROM AN OPENED READER exactly NoMDEntries steps give entries, all of them in order, and every
+-- later one answers 20
 pub opened-walk : (s : RefT (List ℕ)) (o : Opened) (xs : List Answer) (m : ℕ) → Opens s o → verdictNumber (o .answer) ≡ 0 → Turns (o .reader) xs → length xs ≡ be 2 71 (now s) + m
     → map answerPaper xs ≡ allEntries (now s) ++ replicate m (refusal 20)
 opened-walk s o xs m t z r l =

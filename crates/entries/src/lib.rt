@@ -1,5 +1,6 @@
-// The entries of an M102 body, walked by a small reader that carries the caller's bytes and its place.
-// A struct that holds a reference is proved by hand, so its functions are thin, over covered ones on a plain slice.
+// The entries of an M102 body, walked by a small reader that carries the caller's bytes and its
+// place. A struct that holds a reference is proved by hand, so its functions are thin, over covered
+// ones on a plain slice.
 ghost use mathlib.Core.Path.{_≡_};
 ghost use Prim.Native.Nat.{_+_, _≤_};
 ghost use lib.ListN.{length};
@@ -165,7 +166,8 @@ pub fn step<'a>(r: Entries<'a>) -> Stepped<'a>
     }
 }
 
-// A step of the reader at a place of a body, for a caller that keeps both itself: its proof needs no walk.
+// A step of the reader at a place of a body, for a caller that keeps both itself: its proof
+// needs no walk.
 pub fn step_from(body: &[u8], place: usize) -> Stop
     ensures { λ r. ⌜ Stops (now (body .entry)) place r ⌝ }
 {

@@ -1,4 +1,5 @@
--- For each public function: wrong answers that its promise rules out, as tables of what is given and what is then wrong. Assumes nothing.
+-- For each public function: wrong answers that its promise rules out, as tables of what is given
+-- and what is then wrong. Assumes nothing.
 use Prim.Native.Nat.{ℕ}
 use mathlib.Core.Path.{refl}
 use mathlib.Core.List.{List, [], _∷_, _++_}
@@ -105,7 +106,8 @@ unfolding frameB checked plainOf frameOf writeOf leftOf numeral digitsOf laid su
 write-rules-out =
     ruled lefts (λ (i : Message × List ℕ). left (writeOf (i .0) (length (i .1))) (leftOf (i .0) (i .1))) (λ c p. left-is p) _ refl
 
--- THERE ARE SUCH CALLS: A lent anywhere, under any name, is read at 0 as A, and the promise allows it. So no row above holds for want of calls.
+-- THERE ARE SUCH CALLS: A lent anywhere, under any name, is read at 0 as A, and the promise allows
+-- it. So no row above holds for want of calls.
 pub read-at-allows : (κs : Lfts 1) (at : ℕ × ℕ) (name : GName) → Allows {I = List ℕ × ℕ} (Kept _ read-at-kinds.ps read-at-kinds.r read-at.Post) (λ c. (now (c .args .0), c .args .1 .0)) (λ c. readPaper (c .result)) (A, 0) readA
 unfolding frameA startOfA checked readOf numeral sum8 sumOf kindOf suits measureOf fieldsOk realTime realParts daysIn leap judgeOf
 read-at-allows κs at name =

@@ -55,7 +55,8 @@ found-told Beyond = refl
 pub found-one : (x y : Found) → foundPaper x ≡ foundPaper y → x ≡ y
 found-one x y e = sym (found-told x) ∙ ap foundTold e ∙ found-told y
 
--- what the checks up to the whole length say of the bytes at the front of s: their refusal is reading's, or they are passed
+-- what the checks up to the whole length say of the bytes at the front of s: their refusal is
+-- reading's, or they are passed
 abbrev pub HeadSays : Head → List ℕ → Type 0
 HeadSays (Head.Refused w) s = readOf s ≡ refusal (numberOf w)
 HeadSays (Head.Whole k n) s = (k ≡ kindOf (msgType s)) × (n ≡ bodyLength s) × Whole s

@@ -39,7 +39,8 @@ enum Head {
     Refused(Refusal),
 }
 
-// The checks up to the whole length, of the frame at a place. The type is tested before anything after it is read.
+// The checks up to the whole length, of the frame at a place. The type is tested before anything
+// after it is read.
 fn head_at(bytes: &[u8], at: usize) -> Head
     ensures { λ r. ⌜ HeadSays r (drop at (now (bytes .entry))) ⌝ }
 {
@@ -102,8 +103,8 @@ pub fn read_at(bytes: &[u8], at: usize) -> Read
     }
 }
 
-// The body of the frame at a place, as a part of the caller's bytes; of a frame that does not read, the empty part:
-// no byte of a refused frame is handed on.
+// The body of the frame at a place, as a part of the caller's bytes; of a frame that does not read,
+// the empty part: no byte of a refused frame is handed on.
 pub fn body_at(bytes: &[u8], at: usize) -> &[u8]
     ensures { λ r. ⌜ now r ≡ bodyRead (drop at (now (bytes .entry))) ⌝ }
 {
@@ -163,7 +164,8 @@ fn store(msg_type: u32, sending_time: u64, seq: SessionNumber, body: &[u8], out:
     octets::put(out, end, 4, v as u64);
 }
 
-// Writes a message at the front of out, and returns how many bytes its frame has. A refusal writes nothing.
+// Writes a message at the front of out, and returns how many bytes its frame has. A refusal
+// writes nothing.
 pub fn write(
     msg_type: u32,
     sending_time: u64,
@@ -198,8 +200,8 @@ fn accepts(bytes: &[u8], at: usize, kind: Kind, n: usize, v: u8) -> bool
     }
 }
 
-// The lowest place at or after `from` where a frame reads: start places outside, the bytes of a frame inside, left by
-// label at the first accepted frame.
+// The lowest place at or after `from` where a frame reads: start places outside, the bytes of a
+// frame inside, left by label at the first accepted frame.
 pub fn search(bytes: &[u8], from: usize) -> Found
     ensures { λ r. ⌜ foundPaper r ≡ searchOf (now (bytes .entry)) from ⌝ }
 {

@@ -1,5 +1,6 @@
--- Document 01's marked examples 1 to 7, as one table, computed from the definitions; its bytes are written out as the document
--- prints them, so that they hold the byte order too. The frame B of its listing stands there as well.
+-- Document 01's marked examples 1 to 7, as one table, computed from the definitions; its bytes are
+-- written out as the document prints them, so that they hold the byte order too. The frame B of its
+-- listing stands there as well.
 use Prim.Native.Nat.{ℕ, _+_}
 use mathlib.Core.Path.{_≡_, refl}
 use mathlib.Core.Bool.{Bool, true, false, _&&_}
@@ -89,7 +90,8 @@ timed time type content = frameOf (message type time 1 content)
 abbrev pub framed : ℕ → List ℕ → List ℕ
 framed = timed 20260121093000000
 
--- S003; S001 with its CompIDs and HeartBtInt; P002 of numbers 3 to 5 with ResendStatus and RejectText; M201 with its extension
+-- S003; S001 with its CompIDs and HeartBtInt; P002 of numbers 3 to 5 with ResendStatus and
+-- RejectText; M201 with its extension
 abbrev pub heartbeat : List ℕ
 heartbeat = framed 0x53303033 []
 

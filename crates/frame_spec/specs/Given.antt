@@ -1,5 +1,6 @@
--- "Given exactly when": for each number that reading, writing and the search give, when it is given.
--- The conditions are document 01's, over bytes at its offsets; none cites the function whose answer it explains.
+-- "Given exactly when": for each number that reading, writing and the search give, when it is
+-- given. The conditions are document 01's, over bytes at its offsets; none cites the function whose
+-- answer it explains.
 use Prim.Native.Nat.{ℕ, zero, suc, _+_, _<_, _≤_, _%_}
 use mathlib.Core.Path.{_≡_}
 use mathlib.Core.Logic.{_⊎_}
@@ -11,7 +12,8 @@ use Rattle.rules.specs.declared.Kind.{Kind}
 use Rattle.rules.specs.Rules.{TypeRule, LengthRule, FieldRules}
 use Rattle.frame_spec.specs.Write.{Message}
 
--- READING: each record has the checks passed so far, in document 01's order, for a row k of the table
+-- READING: each record has the checks passed so far, in document 01's order, for a row k
+-- of the table
 
 -- 24 bytes
 pub record Header (s : List ℕ) : Type 0 where

@@ -1,4 +1,5 @@
--- given-0 to given-7 of reading. For any bytes the condition of the number given holds (`told`), and each condition leads to its number.
+-- given-0 to given-7 of reading. For any bytes the condition of the number given holds (`told`),
+-- and each condition leads to its number.
 use Prim.Native.Nat.{ℕ, zero, suc, _+_, _<_, _≤_, _%_}
 use mathlib.Core.Path.{_≡_, _∙_}
 use mathlib.Core.Bool.{true}

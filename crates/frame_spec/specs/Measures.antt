@@ -1,4 +1,5 @@
--- What the checks 2, 3 and 4 leave: a type of the table, a body of at most 8,164 bytes, a length that suits.
+-- What the checks 2, 3 and 4 leave: a type of the table, a body of at most 8,164 bytes, a
+-- length that suits.
 use Prim.Native.Nat.{ℕ, _≤_}
 use mathlib.Core.Path.{_≡_}
 use mathlib.Core.Bool.{true}

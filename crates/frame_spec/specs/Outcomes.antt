@@ -1,4 +1,5 @@
--- Each answer of reading from the facts that lead to it, and the same by cases: every inversion comes from `reading` by a match.
+-- Each answer of reading from the facts that lead to it, and the same by cases: every inversion
+-- comes from `reading` by a match.
 use Prim.Native.Nat.{ℕ, _+_, _<_, _≤_}
 use mathlib.Core.Path.{_≡_, sym, ap, _∙_}
 use mathlib.Core.Logic.{⊎-elim}

@@ -50,7 +50,8 @@ pub body-none : (s : List ℕ) → (readOf s .number ≡ 0 → ⊥) → bodyRead
 unfolding bodyRead
 body-none s ne = rw (ne-eqb (readOf s .number) 0 ne)
 
--- where reading at a place has answered 0: the frame ends within the bytes, and its body is the part behind the 24 header bytes
+-- where reading at a place has answered 0: the frame ends within the bytes, and its body is the
+-- part behind the 24 header bytes
 module _ (at : ℕ) (bytes : List ℕ) (type time seq n : ℕ) (paper : answer 0 (type ∷ time ∷ seq ∷ n ∷ []) ≡ readOf (drop at bytes)) where
   pub read-inside : at + (28 + n) ≤ length bytes
   read-inside = inside-at at bytes n (read-length _ _ _ _ _ paper) (good _ (read-done _ _ _ _ _ paper) .whole .there)

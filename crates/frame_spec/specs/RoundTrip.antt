@@ -1,4 +1,5 @@
--- Demand 2's round trips, byte for byte, over the message with its body; and frame law 2: a frame depends on its own bytes alone.
+-- Demand 2's round trips, byte for byte, over the message with its body; and frame law 2: a frame
+-- depends on its own bytes alone.
 use Prim.Native.Nat.{ℕ, _+_, _<_, _≤_, _^_}
 use mathlib.Core.Path.{_≡_, refl, sym, ap, _∙_}
 use mathlib.Core.List.{List, [], _∷_, _++_, append-assoc, append-nil}
@@ -142,7 +143,8 @@ module _ (s : List ℕ) (b : Bytes s) (z : readOf s .number ≡ 0) where
       let e = body-length s (good s z .whole .there) in
       write-done (messageOf s) room (read-sound .measured) (read-sound .fine) (rw e l) ∙ ap (λ (n : ℕ). answer 0 ((28 + n) ∷ [])) e
 
-  -- LAW 2: an accepted frame depends on its own bytes alone, whatever follows them, and also when cut to them
+  -- LAW 2: an accepted frame depends on its own bytes alone, whatever follows them, and also
+  -- when cut to them
   pub own-bytes : (rest : List ℕ) → readOf (take (28 + bodyLength s) s ++ rest) ≡ readOf s
   own-bytes rest =
       let e = body-length s (good s z .whole .there) in

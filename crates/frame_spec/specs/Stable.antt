@@ -1,4 +1,5 @@
--- Frame laws 1 and 3, on which the layers above lean: an answer other than 1 stays when bytes follow, and 8,192 bytes never answer 1.
+-- Frame laws 1 and 3, on which the layers above lean: an answer other than 1 stays when bytes
+-- follow, and 8,192 bytes never answer 1.
 use Prim.Native.Nat.{ℕ, _+_, _≤_}
 use mathlib.Core.Path.{_≡_, sym, ap, _∙_}
 use mathlib.Core.List.{List, _++_}

@@ -1,4 +1,5 @@
--- Each answer of writing from the facts that lead to it, the same by cases, what it leaves, and the lengths of a frame's parts.
+-- Each answer of writing from the facts that lead to it, the same by cases, what it leaves, and the
+-- lengths of a frame's parts.
 use Prim.Native.Nat.{ℕ, _+_, _<_, _≤_}
 use mathlib.Core.Path.{_≡_, refl, sym, ap, _∙_}
 use mathlib.Core.Logic.{⊎-elim}

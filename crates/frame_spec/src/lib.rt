@@ -1,1 +1,2 @@
-// No code: one BINARY frame as mathematics: what reading, writing and searching answer, and when; both round trips; the five laws.
+// No code: one BINARY frame as mathematics: what reading, writing and searching answer, and when;
+// both round trips; the five laws.

@@ -1,4 +1,5 @@
--- Wrong answers that the promise of `view_of` rules out, as a table of what is given and what is then wrong. Assumes nothing.
+-- Wrong answers that the promise of `view_of` rules out, as a table of what is given and what is
+-- then wrong. Assumes nothing.
 use Prim.Native.Nat.{ℕ}
 use mathlib.Core.Path.{refl, ap}
 use mathlib.Core.List.{List, [], _∷_}

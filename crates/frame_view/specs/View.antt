@@ -1,5 +1,6 @@
--- What an accepted frame's body tells the layers above: its counters, and a resend's status. `view-same` in `private` says that
--- nothing of it is private. `field K i b` is field number i of the table.
+-- What an accepted frame's body tells the layers above: its counters, and a resend's status.
+-- `view-same` in `private` says that nothing of it is private. `field K i b` is field number i
+-- of the table.
 use Prim.Native.Nat.{ℕ}
 use mathlib.Core.Path.{_≡_, refl}
 use mathlib.Core.List.{List, [], _∷_}

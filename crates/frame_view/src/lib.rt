@@ -1,4 +1,5 @@
-// What an accepted frame's body tells the layers above: its counters, and a resend's status. Nothing of it is private.
+// What an accepted frame's body tells the layers above: its counters, and a resend's status.
+// Nothing of it is private.
 ghost use mathlib.Core.Path.{_≡_};
 ghost use Rattle.octets.specs.Octets.{be};
 ghost use Rattle.frame_view.specs.View.{viewed, viewOf};
@@ -29,7 +30,8 @@ fn blank(kind: Kind) -> View
     }
 }
 
-// A view with the channel at a place, and the tick number, which stands at 3 in each type that has one.
+// A view with the channel at a place, and the tick number, which stands at 3 in each type
+// that has one.
 fn ticked(kind: Kind, body: &[u8], channel_at: usize) -> View
     ensures { λ r. ⌜ r ≡ viewed kind (be 2 «channel_at» (now (body .entry))) (be 8 3 (now (body .entry))) 0 0 0 ⌝ }
 {

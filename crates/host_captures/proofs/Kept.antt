@@ -1,4 +1,5 @@
--- What a refusal leaves: the words, the records, the listing's text and the cleaned capture's buffer as they were. Assumes nothing.
+-- What a refusal leaves: the words, the records, the listing's text and the cleaned capture's
+-- buffer as they were. Assumes nothing.
 use Prim.Native.Nat.{ℕ, _+_}
 use mathlib.Core.Path.{_≡_, refl}
 use mathlib.Core.Bool.{true, false}

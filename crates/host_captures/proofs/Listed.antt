@@ -1,4 +1,5 @@
--- rk_walk and then rk_listing of what it left is document 01's listing of the capture, from the promises that the checker makes of the `ensures`. Assumes nothing.
+-- rk_walk and then rk_listing of what it left is document 01's listing of the capture, from the
+-- promises that the checker makes of the `ensures`. Assumes nothing.
 use Prim.Native.Nat.{ℕ, _+_, _*_, _/_, _^_, _≤_, _<_}
 use mathlib.Core.Path.{_≡_, refl, sym, ap, _∙_}
 use mathlib.Core.Bool.{true, false}

@@ -1,4 +1,5 @@
--- What a call on whole captures comes to, from the promises that the checker makes of the `ensures`. Assumes nothing.
+-- What a call on whole captures comes to, from the promises that the checker makes of the
+-- `ensures`. Assumes nothing.
 use Prim.Native.Nat.{ℕ, _+_, _*_, _/_, _≤_, _<_}
 use mathlib.Core.Path.{_≡_, refl, sym, ap, _∙_}
 use mathlib.Core.Bool.{true, false}
@@ -108,7 +109,8 @@ rk-walk-lacks κs a x s p h =
     (p .0 .answered ∙ rw f, (p .1 .1 ∙ rw f, (p .1 .0 ∙ rw f, p .0 .told ∙ rw f)))
 
 module _ (κs : Lfts 4) (a : Dens κs listing-kinds.ps) (y : resT listing-kinds.r κs .Denot) (s : AtExit (endedOf 4 listing-kinds.ps listing-kinds.r) κs) (p : listing.Post κs a y s) where
-  -- the book that the words stand for, and the listing: the line of each record, and the last line with the counts lent and what the book says
+  -- the book that the words stand for, and the listing: the line of each record, and the last line
+  -- with the counts lent and what the book says
   abbrev book : Book
   book = bookIn (now (a .1 .1 .1 .0))
 

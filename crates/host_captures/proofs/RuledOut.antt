@@ -1,5 +1,6 @@
--- For each function that a host may call on whole captures: wrong answers that its promise rules out, as tables of what is given and what is then
--- wrong. What is told is lent by the host: a row gives what stood there before, and what stands there then. Assumes nothing.
+-- For each function that a host may call on whole captures: wrong answers that its promise rules
+-- out, as tables of what is given and what is then wrong. What is told is lent by the host: a row
+-- gives what stood there before, and what stands there then. Assumes nothing.
 use Prim.Native.Nat.{ℕ}
 use mathlib.Core.Path.{_≡_, refl, ap₂}
 use mathlib.Core.List.{List, [], _∷_, _++_}
@@ -65,7 +66,8 @@ tells p was d = shown (p .number) (toldBy p was) d
 said : {p : Paper} {was row d d′ : List ℕ} {n : ℕ} → Tells p was n row × (d ≡ d′) → shown n row d ≡ tells p was d′
 said e = ap₂ (λ (n : ℕ) (r : List ℕ × List ℕ). (n, r)) (e .0 .answered) (ap₂ (λ (t w : List ℕ). (t, w)) (e .0 .told) (e .1))
 
--- RK_WALK: a capture (document 01's 69 bytes A, FF, B), a buffer for records, the ledger's words and the told row before. The buffer then has the words in front.
+-- RK_WALK: a capture (document 01's 69 bytes A, FF, B), a buffer for records, the ledger's words
+-- and the told row before. The buffer then has the words in front.
 abbrev words : ℕ → List ℕ
 words top = 100 ∷ 0 ∷ top ∷ 0 ∷ 0 ∷ 0 ∷ 0 ∷ 0 ∷ 0 ∷ []
 
@@ -87,7 +89,8 @@ rk-walk-rules-out =
     _
     refl
 
--- RK_LISTING: the bytes of records, frames and refused, the ledger's words; a buffer for the text, and the told number before
+-- RK_LISTING: the bytes of records, frames and refused, the ledger's words; a buffer for the text,
+-- and the told number before
 abbrev Listing : Type 0
 Listing = List ℕ × (ℕ × (ℕ × (List ℕ × (List ℕ × ℕ))))
 

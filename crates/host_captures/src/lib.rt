@@ -1,5 +1,6 @@
-// What C and Rust may call on whole captures: code and results as in `host_frames`. A refusal writes nothing: neither a result, nor into a buffer,
-// nor into the nine words of a ledger (crate `host_words`).
+// What C and Rust may call on whole captures: code and results as in `host_frames`. A refusal
+// writes nothing: neither a result, nor into a buffer, nor into the nine words of a ledger (crate
+// `host_words`).
 ghost use mathlib.Core.Path.{_≡_};
 ghost use mathlib.Core.List.{[], _∷_};
 ghost use lib.ListN.{length};
@@ -16,7 +17,8 @@ use ledger::Ledger;
 use listing_text::Summary;
 use octets::Written;
 
-// WHAT AN ANSWER COMES TO: three small functions as `host_ledger` and `host_frames` have them for themselves
+// WHAT AN ANSWER COMES TO: three small functions as `host_ledger` and `host_frames` have them
+// for themselves
 
 fn number_of(a: Answer) -> u32
     ensures { λ r. ⌜ r ≡ paperOf a .number ⌝ }
@@ -27,7 +29,8 @@ fn number_of(a: Answer) -> u32
     }
 }
 
-// Keeps the ledger that stands beside an answer: 0 and 12 store it, any other refusal leaves the words as they were.
+// Keeps the ledger that stands beside an answer: 0 and 12 store it, any other refusal leaves the
+// words as they were.
 fn keep(state: &mut [u64; 9], answer: u32, next: Ledger)
     ensures { λ _. ⌜ now (state .exit) ≡ keptBy answer next (now (state .entry)) ⌝ }
 {
@@ -51,8 +54,9 @@ fn told_bytes(w: Written, told: &mut u64) -> u32
     }
 }
 
-// Walks a capture: a record of 64 bytes for each reading, and channel 100's ledger. Results: how many records, frames, and readings
-// refused. Where the records have no room, 8, and nothing is written anywhere.
+// Walks a capture: a record of 64 bytes for each reading, and channel 100's ledger. Results: how
+// many records, frames, and readings refused. Where the records have no room, 8, and nothing is
+// written anywhere.
 #[no_mangle]
 pub extern "C" fn rk_walk(
     capture: &[u8],
@@ -79,8 +83,8 @@ pub extern "C" fn rk_walk(
     answer
 }
 
-// The listing of what a walk left: the line of each whole record, then the last line. Result: how many bytes. 13 where the words
-// break the state rules, then 8.
+// The listing of what a walk left: the line of each whole record, then the last line. Result: how
+// many bytes. 13 where the words break the state rules, then 8.
 #[no_mangle]
 pub extern "C" fn rk_listing(
     records: &[u8],
@@ -113,8 +117,8 @@ pub extern "C" fn rk_listing(
     told_bytes(laid, told)
 }
 
-// A capture, scrubbed: its accepted frames at the front of out, stray bytes left out. Results: how many bytes, how many frames, and
-// how many of these the search found after damage.
+// A capture, scrubbed: its accepted frames at the front of out, stray bytes left out. Results: how
+// many bytes, how many frames, and how many of these the search found after damage.
 #[no_mangle]
 pub extern "C" fn rk_clean(capture: &[u8], out: &mut [u8], told: &mut [u64; 3]) -> u32
     ensures { λ r. ⌜ Tells (cleanAnswer (now (capture .entry)) (length (now (out .entry)))) (now (told .entry)) r (now (told .exit))
@@ -133,7 +137,8 @@ pub extern "C" fn rk_clean(capture: &[u8], out: &mut [u8], told: &mut [u64; 3]) 
     answer
 }
 
-// Whether a capture is what cleaning it gives. Results: 1 and the first place where the two differ, or 0 and 0 where none does.
+// Whether a capture is what cleaning it gives. Results: 1 and the first place where the two differ,
+// or 0 and 0 where none does.
 #[no_mangle]
 pub extern "C" fn rk_is_clean(capture: &[u8], told: &mut [u64; 2]) -> u32
     ensures { λ r. ⌜ Tells (cleanTold (now (capture .entry))) (now (told .entry)) r (now (told .exit)) ⌝ }

@@ -1,4 +1,5 @@
--- What a call on frames comes to, from the promises that the checker makes of the `ensures`. Assumes nothing.
+-- What a call on frames comes to, from the promises that the checker makes of the `ensures`.
+-- Assumes nothing.
 use Prim.Native.Nat.{ℕ, _+_, _≤_}
 use mathlib.Core.Path.{_≡_, refl, sym, ap, ap₂, _∙_}
 use mathlib.Core.Bool.{true}

@@ -1,4 +1,5 @@
--- Nothing private is told by rk_read: from the promises that the checker makes of the `ensures`. Assumes nothing.
+-- rk_private never refuses, and nothing private is told by rk_read: from the promises that the
+-- checker makes of the `ensures`. Assumes nothing.
 use mathlib.Core.Path.{_≡_, sym, ap, _∙_}
 use contract.Lifetimes.{Lfts}
 use borrow.Fn.Kinds.{Dens, endedOf, resT}
@@ -13,7 +14,8 @@ use Rattle.host_frames.specs.Private.{told-alike}
 use Rattle.host_frames.proofs.rk_read.Reads as read
 use Rattle.host_frames.proofs.rk_read.Kinds as read-kinds
 
--- ======== Nothing private is told: of frames that agree in all but private fields and CheckSum, rk_read tells the same
+-- ======== Nothing private is told: of frames that agree in all but private fields and CheckSum,
+-- rk_read tells the same
 
 module _ (κs : Lfts 2) (a c : Dens κs read-kinds.ps) (x y : resT read-kinds.r κs .Denot) (s t : AtExit (endedOf 2 read-kinds.ps read-kinds.r) κs) (p : read.Post κs a x s) (q : read.Post κs c y t) where
   pub rk-read-tells-alike : Alike (drop (a .1 .0) (now (a .0))) (drop (c .1 .0) (now (c .0))) → x ≡ 0 → y ≡ 0 → now (s .1 .1 .0) ≡ now (t .1 .1 .0)

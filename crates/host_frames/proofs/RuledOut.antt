@@ -1,5 +1,6 @@
--- For each function that a host may call on frames: wrong answers that its promise rules out, as tables of what is given and what is then wrong.
--- What is told is lent by the host: a row gives what stood there before, and what stands there then. Assumes nothing.
+-- For each function that a host may call on frames: wrong answers that its promise rules out, as
+-- tables of what is given and what is then wrong. What is told is lent by the host: a row gives
+-- what stood there before, and what stands there then. Assumes nothing.
 use Prim.Native.Nat.{ℕ}
 use mathlib.Core.Path.{_≡_, refl, ap₂}
 use mathlib.Core.List.{List, [], _∷_, _++_}
@@ -92,7 +93,8 @@ pub rk-private-rules-out : RulesOut (Kept _ rk-private-kinds.ps rk-private-kinds
 unfolding numeral digitsOf kindOf suits measureOf layoutOf suitsTail tailOk tailOf toldBy privateTold
 rk-private-rules-out = ruled (beside numbers lists) (λ (i : ℕ × (List ℕ × (ℕ × List ℕ))). tells (privateTold (i .0) (i .1 .0) (i .1 .1 .0)) (i .1 .1 .1)) (λ c p. said p) _ refl
 
--- ENTRIES: a snapshot of stream MD001 with this SecurityType, and two entries of 10 bytes, of types 5 and 6 and prices 7 and 8
+-- ENTRIES: a snapshot of stream MD001 with this SecurityType, and two entries of 10 bytes, of types
+-- 5 and 6 and prices 7 and 8
 abbrev body : ℕ → List ℕ
 body type = snapshotBody type 0x4D44303031 7 8
 

@@ -41,7 +41,8 @@ privateTold type body i = answer (measureOf (kindOf type) (length body)) (spanNu
 unfoldable pub entriesTold : List ℕ → Paper
 entriesTold body = answer (openOf body) (73 ∷ [])
 
--- an entry of MD001 has type and price alone: 1 before them, 0 for size and position; any other has all four, and 0 before them
+-- an entry of MD001 has type and price alone: 1 before them, 0 for size and position; any other has
+-- all four, and 0 before them
 unfoldable pub entryNumbers : List ℕ → List ℕ
 entryNumbers vs = pick (eqb (length vs) 2) (1 ∷ (vs ++ (0 ∷ 0 ∷ []))) (0 ∷ vs)
 

@@ -1,6 +1,7 @@
--- What a host has after a call on frames, in the words of the crates below: a number of a frame by its offset, an answer by document 01's condition for it.
--- No definition of the promises stands here: proofs/Means.antt says of each function that what its promise allows is this.
--- x is the answer, row or told what is told; a buffer that was lent as d is d′ afterwards.
+-- What a host has after a call on frames, in the words of the crates below: a number of a frame by
+-- its offset, an answer by document 01's condition for it. No definition of the promises stands
+-- here: proofs/Means.antt says of each function that what its promise allows is this. x is the
+-- answer, row or told what is told; a buffer that was lent as d is d′ afterwards.
 use Prim.Native.Nat.{ℕ, _+_, _≤_, _<_}
 use mathlib.Core.Path.{_≡_}
 use mathlib.Core.Logic.{_↔_}
@@ -20,7 +21,8 @@ use Rattle.host_words.specs.Told.{seen}
 
 -- FRAMES
 
--- ApplBegSeqNum, ApplEndSeqNum and ResendStatus of a P002, by their offsets in the frame f; 0 for types without them
+-- ApplBegSeqNum, ApplEndSeqNum and ResendStatus of a P002, by their offsets in the frame f; 0 for
+-- types without them
 abbrev pub firstIn : Kind → List ℕ → ℕ
 firstIn S001 f = 0
 firstIn S002 f = 0
@@ -73,8 +75,8 @@ pub record HostWrote (m : Message) (d : List ℕ) (x told : ℕ) (d′ : List �
   pub writing : seen x (told ∷ []) ≡ writeOf m (length d)
   pub buffer : d′ ≡ leftOf m d
 
--- rk_search: the lowest place from the start on where a frame reads, or none; 9 for a start beyond the end
--- (document 01, Search)
+-- rk_search: the lowest place from the start on where a frame reads, or none; 9 for a start beyond
+-- the end (document 01, Search)
 pub record HostFound (s : List ℕ) (from x : ℕ) (row : List ℕ) : Type 0 where
   pub place : from ≤ length s → (p : ℕ) → ((x ≡ 0) × (row ≡ 1 ∷ p ∷ [])) ↔ LowestPlace s from p
   pub none : from ≤ length s → ((x ≡ 0) × (row ≡ 0 ∷ 0 ∷ [])) ↔ ((j : ℕ) → from ≤ j → ReadsAt s j → ⊥)

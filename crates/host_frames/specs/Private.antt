@@ -1,4 +1,5 @@
--- Nothing private is told of a frame: of frames that agree in all but private fields and checksum, rk_read tells the same.
+-- Nothing private is told of a frame: of frames that agree in all but private fields and checksum,
+-- rk_read tells the same.
 use Prim.Native.Nat.{ℕ, _+_, _≤_}
 use mathlib.Core.Path.{_≡_, sym, ap, _∙_}
 use mathlib.Core.List.{List, _∷_}

@@ -1,6 +1,6 @@
-// What C and Rust may call on frames. Each function returns a code, a number of document 01 or 0; results go to an
-// out-parameter: a fixed row of numbers, in C a struct of 64-bit numbers (host/include/rietknoest.h). A refusal writes
-// nothing there, nor into a buffer.
+// What C and Rust may call on frames. Each function returns a code, a number of document 01 or 0;
+// results go to an out-parameter: a fixed row of numbers, in C a struct of 64-bit numbers
+// (host/include/rietknoest.h). A refusal writes nothing there, nor into a buffer.
 ghost use mathlib.Core.Path.{_≡_};
 ghost use mathlib.Core.List.{[], _∷_, _++_};
 ghost use lib.ListN.{length, drop};
@@ -17,8 +17,9 @@ use octets::Written;
 use terms::SessionNumber;
 use terms::Verdict;
 
-// Reads the frame at a place. Results: MsgType, SendingTime, MsgSeqNum, BodyLength, and what the view has of the body: channel, tick
-// number, a resend's first and last number, and its status; 0 where the type has none.
+// Reads the frame at a place. Results: MsgType, SendingTime, MsgSeqNum, BodyLength, and what the
+// view has of the body: channel, tick number, a resend's first and last number, and its status; 0
+// where the type has none.
 #[no_mangle]
 pub extern "C" fn rk_read(bytes: &[u8], place: usize, told: &mut [u64; 9]) -> u32
     ensures { λ r. ⌜ Tells (readTold (drop place (now (bytes .entry)))) (now (told .entry)) r (now (told .exit)) ⌝ }
@@ -84,7 +85,8 @@ pub extern "C" fn rk_write(
     told_bytes(written, told)
 }
 
-// Finds the lowest place from `from` on at which a frame reads. Results: 1 and the place, or 0 and 0 where there is none.
+// Finds the lowest place from `from` on at which a frame reads. Results: 1 and the place, or 0 and
+// 0 where there is none.
 #[no_mangle]
 pub extern "C" fn rk_search(bytes: &[u8], from: usize, told: &mut [u64; 2]) -> u32
     ensures { λ r. ⌜ Tells (searchTold (now (bytes .entry)) from) (now (told .entry)) r (now (told .exit)) ⌝ }
@@ -112,8 +114,8 @@ pub extern "C" fn rk_scrub(frame: &mut [u8], told: &mut u64) -> u32
     told_bytes(scrubbed, told)
 }
 
-// Private span number i of a body of that type, counted from 0. Results: where it starts in the body, how many bytes it has, and
-// the byte that replaces each; from the last on, an empty one.
+// Private span number i of a body of that type, counted from 0. Results: where it starts in the
+// body, how many bytes it has, and the byte that replaces each; from the last on, an empty one.
 #[no_mangle]
 pub extern "C" fn rk_private(msg_type: u32, body: &[u8], i: usize, told: &mut [u64; 3]) -> u32
     ensures { λ r. ⌜ Tells (privateTold «msg_type» (now (body .entry)) i) (now (told .entry)) r (now (told .exit)) ⌝ }
@@ -158,8 +160,8 @@ fn entry_told(entry: Entry, behind: u64) -> [u64; 6]
     }
 }
 
-// The entry of a body at a place. Results: 1 for an entry of MD001, which has neither size nor position, else 0; type, price, size,
-// position, and the place after it.
+// The entry of a body at a place. Results: 1 for an entry of MD001, which has neither size nor
+// position, else 0; type, price, size, position, and the place after it.
 #[no_mangle]
 pub extern "C" fn rk_entry(body: &[u8], place: usize, told: &mut [u64; 6]) -> u32
     ensures { λ r. ⌜ Tells (entryTold (now (body .entry)) place) (now (told .entry)) r (now (told .exit)) ⌝ }

@@ -1,5 +1,5 @@
--- A ledger call on the ledger that the words stand for is that call through the host: what it answers and tells, and the words after it.
--- Assumes nothing.
+-- A ledger call on the ledger that the words stand for is that call through the host: what it
+-- answers and tells, and the words after it. Assumes nothing.
 use Prim.Native.Nat.{ℕ}
 use mathlib.Core.Path.{_≡_, ap, ap₂, _∙_}
 use mathlib.Core.List.{List}

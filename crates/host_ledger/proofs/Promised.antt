@@ -1,5 +1,6 @@
--- A ledger call through the host is the book's own call, from the promises that the checker makes of the `ensures`; and demand 3 holds of every
--- row of such calls on words that rk_ledger_open wrote. Assumes nothing.
+-- A ledger call through the host is the book's own call, from the promises that the checker makes
+-- of the `ensures`; and demand 3 holds of every row of such calls on words that rk_ledger_open
+-- wrote. Assumes nothing.
 use Prim.Native.Nat.{ℕ, _+_, _%_, _^_, max, _≤_, _<_}
 use native.Mathlib.Nat.{lt-of-lt-of-le, lt-of-le-of-lt, mod-le}
 use lib.Pow.{pow-mono, ones-sub-lt}
@@ -301,7 +302,8 @@ module _ (channel : ℕ) (small : channel ≤ 9999) where
   rules : (calls : Calls) → StateRules (after channel calls)
   rules calls = demand-3 channel small calls .state-rules
 
-  -- the words are those of the ledger after the calls, and what the caller sees are the ledger's answers
+  -- the words are those of the ledger after the calls, and what the caller sees are the
+  -- ledger's answers
   pub host-ran-is-trace : {calls : Calls} {w : List ℕ} {h : History} → HostRan channel calls w h
       → (w ≡ wordsOf (ledgerOf (after channel calls))) × (h ≡ trace channel calls)
   unfolding trace
@@ -317,7 +319,8 @@ module _ (channel : ℕ) (small : channel ≤ 9999) where
     pub host-book : bookIn w ≡ after channel calls
     host-book = ap bookIn (host-ran-is-trace r .0) ∙ book-back (after channel calls) (rules calls)
 
-    -- DEMAND 3, OF EVERY ROW OF CALLS THROUGH THE HOST, refusals included: of what the caller sees, and of the book that the words stand for
+    -- DEMAND 3, OF EVERY ROW OF CALLS THROUGH THE HOST, refusals included: of what the caller sees,
+    -- and of the book that the words stand for
     pub host-ran-demand-3 : Demand3 h channel (bookIn w)
     host-ran-demand-3 = rw (host-ran-is-trace r .1, host-book) (demand-3 channel small calls)
 
@@ -352,7 +355,8 @@ module _ (channel : ℕ) (small : channel ≤ 9999) where
         let e = told-late channel small calls (host-ran-is-trace r .1) n (host-answers _ w′ a c) g in
         (e, c .kept (λ (z : a .number ≡ 0). omega (arith, z, one-number e)) (λ (z : a .number ≡ 12). omega (arith, z, one-number e)))
 
-    -- the seven numbers that rk_ledger_told then tells are those that the calls and answers tell, each counted from them alone
+    -- the seven numbers that rk_ledger_told then tells are those that the calls and answers tell,
+    -- each counted from them alone
     pub host-told : (κs : Lfts 2) (a : Dens κs told-kinds.ps) (x : resT told-kinds.r κs .Denot) (s : AtExit (endedOf 2 told-kinds.ps told-kinds.r) κs) → told.Post κs a x s
         → now (a .0) ≡ w → (x ≡ 0) × (now (s .1 .0) ≡ historyNumbers channel h)
     unfolding valuesOf

@@ -1,5 +1,6 @@
--- For each function that a host may call on a ledger: wrong answers that its promise rules out, as tables of what is given and what is then wrong.
--- A ledger is nine words: channel, floor, top, the map's four, and the pending range. Assumes nothing.
+-- For each function that a host may call on a ledger: wrong answers that its promise rules out, as
+-- tables of what is given and what is then wrong. A ledger is nine words: channel, floor, top, the
+-- map's four, and the pending range. Assumes nothing.
 use Prim.Native.Nat.{ℕ, _+_, _^_}
 use mathlib.Core.Path.{_≡_, refl, ap₂}
 use mathlib.Core.List.{List, [], _∷_}
@@ -29,7 +30,8 @@ use Rattle.host_ledger.proofs.rk_ledger_reply.Kinds as rk-reply-kinds
 use Rattle.host_ledger.proofs.rk_ledger_told.Reads as rk-told
 use Rattle.host_ledger.proofs.rk_ledger_told.Kinds as rk-told-kinds
 
--- the words of channel 100: floor, top, the map's first word (2 ^ 7 is number 7), and the pending range, 0 and 0 where there is none
+-- the words of channel 100: floor, top, the map's first word (2 ^ 7 is number 7), and the pending
+-- range, 0 and 0 where there is none
 abbrev words : ℕ → ℕ → ℕ → ℕ → ℕ → List ℕ
 words floor top held first last = 100 ∷ floor ∷ top ∷ held ∷ 0 ∷ 0 ∷ 0 ∷ first ∷ last ∷ []
 
@@ -101,7 +103,8 @@ pub rk-ledger-announce-rules-out : RulesOut (Kept _ rk-announce-kinds.ps rk-anno
 unfolding bookOf ledgerOf nextBy rotated mapOf valueOf numberTo ownNumber checkedOf soundOf mapRules rangeRules has passes taken reach leaps gaveUp handed replied raised waiting asked done missingCount heldCount valuesOf answerTo fresh openOf run trailingZeros ones wordsOf pendingIn ledgerIn keptBy wordsAfter toldBy openWords ledgerTold settledRow
 rk-ledger-announce-rules-out = ruled (beside numbers (beside lists lists)) (λ (i : List ℕ × Call). shown (callTold (i .0) (i .1) .number) [] (wordsAfter (i .0) (i .1))) (λ c p. plain p) _ refl
 
--- A REPLY tells nine words: the number that both sets count from, then a map of the given-up numbers and one of those passed, number n at place n % 256
+-- A REPLY tells nine words: the number that both sets count from, then a map of the given-up
+-- numbers and one of those passed, number n at place n % 256
 abbrev sets : ℕ → ℕ → ℕ → List ℕ
 sets first givenUp passed = first ∷ givenUp ∷ 0 ∷ 0 ∷ 0 ∷ passed ∷ 0 ∷ 0 ∷ 0 ∷ []
 

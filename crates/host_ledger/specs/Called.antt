@@ -1,5 +1,6 @@
--- A ledger call through the host in the book's words, and a row of such calls on words that rk_ledger_open wrote. No definition of the
--- promises stands here: proofs/Promised.antt says of each function that what its promise allows is such a call.
+-- A ledger call through the host in the book's words, and a row of such calls on words that
+-- rk_ledger_open wrote. No definition of the promises stands here: proofs/Promised.antt says of
+-- each function that what its promise allows is such a call.
 use Prim.Native.Nat.{ℕ}
 use mathlib.Core.Path.{_≡_}
 use mathlib.Core.List.{List, [], _∷_}
@@ -19,7 +20,8 @@ use Rattle.host_words.specs.Words.{wordsOf, bookIn}
 abbrev pub counted : ℕ → ℕ → Paper
 counted number count = answer number (pick (eqb number 0) count 0 ∷ [])
 
--- and of a reply's two sets, told as nine words: each is read round from the place of the number that both count from. 0 and two empty sets beside a refusal
+-- and of a reply's two sets, told as nine words: each is read round from the place of the number
+-- that both count from. 0 and two empty sets beside a refusal
 abbrev pub setsIn : List ℕ → List ℕ
 setsIn row =
     getD row 0 0
@@ -30,7 +32,8 @@ setsIn row =
 abbrev pub settledBy : ℕ → List ℕ → Paper
 settledBy number row = answer number (pick (eqb number 0) (setsIn row) (0 ∷ 0 ∷ 0 ∷ []))
 
--- A CALL on the words w, which leaves w′ and of which the caller sees a: it is the book's own call on the book that w stands for
+-- A CALL on the words w, which leaves w′ and of which the caller sees a: it is the book's own call
+-- on the book that w stands for
 pub record Called (w : List ℕ) (call : Call) (w′ : List ℕ) (a : Paper) : Type 0 where
   pub number : a .number ≡ numberTo (bookIn w) call
   pub answer-is : a ≡ answerTo (bookIn w) call
@@ -41,13 +44,15 @@ pub record Called (w : List ℕ) (call : Call) (w′ : List ℕ) (a : Paper) : T
   -- a refusal other than 12 leaves the very words
   pub kept : (a .number ≡ 0 → ⊥) → (a .number ≡ 12 → ⊥) → w′ ≡ w
 
--- A ROW OF CALLS: the words w and the history h come of these calls, on what a call of rk_ledger_open left
+-- A ROW OF CALLS: the words w and the history h come of these calls, on what a call of
+-- rk_ledger_open left
 pub data HostRan (channel : ℕ) : Calls → List ℕ → History → Type 0 where
   opening : {w : List ℕ} → w ≡ wordsOf (ledgerOf (fresh channel)) → HostRan channel none w start
   one-more : {calls : Calls} {w w′ : List ℕ} {h : History} {a : Paper} (call : Call) → HostRan channel calls w h → Called w call w′ a
       → HostRan channel (calls ▸ call) w′ (h ▸ call ⇒ a)
 
--- WHAT A LEDGER HAS TO TELL: channel, floor, top, how many numbers are missing, how many are held, and the pending request, 0 and 0 where there is none
+-- WHAT A LEDGER HAS TO TELL: channel, floor, top, how many numbers are missing, how many are held,
+-- and the pending request, 0 and 0 where there is none
 abbrev pub askedNumbers : Asked → List ℕ
 askedNumbers nothing = 0 ∷ 0 ∷ []
 askedNumbers (range first last) = first ∷ last ∷ []

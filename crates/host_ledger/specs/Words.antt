@@ -19,15 +19,17 @@ use Rattle.host_words.specs.Calls.{keptBy, callTold}
 unfoldable pub openWords : ℕ → List ℕ → List ℕ
 openWords channel was = keptBy (openNumber channel) (ledgerOf (openOf channel)) was
 
--- channel, floor, top, how many are missing, how many are held, the pending request's first and last number; or 13
+-- channel, floor, top, how many are missing, how many are held, the pending request's first and
+-- last number; or 13
 unfoldable pub ledgerTold : List ℕ → Paper
 ledgerTold w =
     answer (callTold w Missing .number)
     (ledgerIn w .channel .0 ∷ ledgerIn w .floor .0 ∷ ledgerIn w .top .0
     ∷ (callTold w Missing .values ++ (callTold w Held .values ++ (firstAsked (ledgerIn w .pending) ∷ lastAsked (ledgerIn w .pending) ∷ []))))
 
--- A REPLY'S TWO SETS as nine words: the number that they count from, the four words of a map with the given-up numbers, and of one with the
--- received numbers newly passed. A number's place in either is its remainder by 256, as in the ledger's own map.
+-- A REPLY'S TWO SETS as nine words: the number that they count from, the four words of a map with
+-- the given-up numbers, and of one with the received numbers newly passed. A number's place in
+-- either is its remainder by 256, as in the ledger's own map.
 abbrev pub rowOf : ℕ → Map → Map → List ℕ
 rowOf first givenUp passed =
     first ∷ getD (givenUp .words) 0 0 ∷ getD (givenUp .words) 1 0 ∷ getD (givenUp .words) 2 0 ∷ getD (givenUp .words) 3 0

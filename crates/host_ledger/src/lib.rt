@@ -1,5 +1,6 @@
-// What C and Rust may call on a ledger: code and results as in `host_frames`. A ledger is nine numbers, those of the crate `host_words`. A refusal writes
-// nothing; only 12 changes a ledger, and only its top.
+// What C and Rust may call on a ledger: code and results as in `host_frames`. A ledger is nine
+// numbers, those of the crate `host_words`. A refusal writes nothing; only 12 changes a ledger, and
+// only its top.
 ghost use mathlib.Core.Path.{_≡_};
 ghost use Rattle.ledger_spec.specs.Calls.{Tick, Announce, Request, Reply, openNumber};
 ghost use Rattle.ledger.specs.Papers.{paperOf};
@@ -24,7 +25,8 @@ fn number_of(a: Answer) -> u32
     }
 }
 
-// Keeps the ledger that stands beside an answer: 0 and 12 store it, any other refusal leaves the words as they were.
+// Keeps the ledger that stands beside an answer: 0 and 12 store it, any other refusal leaves the
+// words as they were.
 fn keep(state: &mut [u64; 9], answer: u32, next: Ledger)
     ensures { λ _. ⌜ now (state .exit) ≡ keptBy answer next (now (state .entry)) ⌝ }
 {
@@ -48,7 +50,8 @@ pub extern "C" fn rk_ledger_open(channel: u16, state: &mut [u64; 9]) -> u32
     answer
 }
 
-// Offers a tick. Results: the first number that the floor has newly passed and how many, perhaps none. 12 raises the top.
+// Offers a tick. Results: the first number that the floor has newly passed and how many, perhaps
+// none. 12 raises the top.
 #[no_mangle]
 pub extern "C" fn rk_ledger_tick(
     state: &mut [u64; 9],
@@ -138,8 +141,9 @@ fn settled_row(first: TickNumber, given_up: Map, passed: Map) -> [u64; 9]
     ]
 }
 
-// The exchange's reply to the pending request, which is cleared. Results: the floor + 1 as it was, the numbers given up, and the received ones that the
-// floor has newly passed, for delivery; both sets are empty but on status 4.
+// The exchange's reply to the pending request, which is cleared. Results: the floor + 1 as it was,
+// the numbers given up, and the received ones that the floor has newly passed, for delivery; both
+// sets are empty but on status 4.
 #[no_mangle]
 pub extern "C" fn rk_ledger_reply(
     state: &mut [u64; 9],
@@ -175,8 +179,8 @@ pub extern "C" fn rk_ledger_reply(
     }
 }
 
-// What a ledger holds. Results: channel, floor, top, how many numbers are missing and how many are held, and the pending
-// request's first and last number, 0 and 0 where nothing is pending.
+// What a ledger holds. Results: channel, floor, top, how many numbers are missing and how many are
+// held, and the pending request's first and last number, 0 and 0 where nothing is pending.
 #[no_mangle]
 pub extern "C" fn rk_ledger_told(state: &[u64; 9], told: &mut [u64; 7]) -> u32
     ensures { λ r. ⌜ Tells (ledgerTold (now (state .entry))) (now (told .entry)) r (now (told .exit)) ⌝ }

@@ -1,5 +1,6 @@
-// What C and Rust may call on STEP frames. Each function returns a code, a number of document 01 or 02 or 0; results go to
-// an out-parameter: a fixed row of numbers (host/include/rietknoest.h). A refusal writes nothing there, nor into a buffer.
+// What C and Rust may call on STEP frames. Each function returns a code, a number of document 01 or
+// 02 or 0; results go to an out-parameter: a fixed row of numbers (host/include/rietknoest.h). A
+// refusal writes nothing there, nor into a buffer.
 ghost use mathlib.Core.Path.{_≡_};
 ghost use mathlib.Core.List.{[], _∷_};
 ghost use lib.ListN.{length, drop};
@@ -31,7 +32,8 @@ fn number(why: StepRefusal) -> u32
     }
 }
 
-// Reads the frame at a place. Results: its type, the place of the fields after the frame's start, their length, the frame's length.
+// Reads the frame at a place. Results: its type, the place of the fields after the frame's start,
+// their length, the frame's length.
 #[no_mangle]
 pub extern "C" fn rk_step_read(bytes: &[u8], place: usize, told: &mut [u64; 4]) -> u32
     ensures { λ r. ⌜ Tells (stepReadOf (drop place (now (bytes .entry)))) (now (told .entry)) r (now (told .exit)) ⌝ }
@@ -50,7 +52,8 @@ pub extern "C" fn rk_step_read(bytes: &[u8], place: usize, told: &mut [u64; 4]) 
     }
 }
 
-// The field at a place among fields. Results: its tag, the place and the length of its value, the place after it; 26 where none stands there.
+// The field at a place among fields. Results: its tag, the place and the length of its value, the
+// place after it; 26 where none stands there.
 #[no_mangle]
 pub extern "C" fn rk_step_field(fields: &[u8], place: usize, told: &mut [u64; 4]) -> u32
     ensures { λ r. ⌜ Tells (fieldAt place (now (fields .entry))) (now (told .entry)) r (now (told .exit)) ⌝ }
@@ -82,7 +85,8 @@ fn told_bytes(w: StepWritten, told: &mut u64) -> u32
     }
 }
 
-// Writes a message at the front of out: a type and its fields, `tag=value` SOH one after the other. Result: how many bytes.
+// Writes a message at the front of out: a type and its fields, `tag=value` SOH one after the other.
+// Result: how many bytes.
 #[no_mangle]
 pub extern "C" fn rk_step_write(kind: u8, fields: &[u8], out: &mut [u8], told: &mut u64) -> u32
     ensures { λ r. ⌜ Tells (stepWriteOf kind (now (fields .entry)) (length (now (out .entry)))) (now (told .entry) ∷ []) r (now (told .exit) ∷ [])

@@ -1,5 +1,6 @@
--- A call through the host, from the promises that the checker makes of the `ensures`, opens or goes on a row of calls; it is answered 13 exactly where
--- what is lent breaks the rules, and opening is answered 0. Assumes nothing.
+-- A call through the host, from the promises that the checker makes of the `ensures`, opens or goes
+-- on a row of calls; it is answered 13 exactly where what is lent breaks the rules, and opening is
+-- answered 0. Assumes nothing.
 use mathlib.Core.Path.{_≡_}
 use mathlib.Core.Logic.{_↔_}
 use contract.Lifetimes.{Lfts}

@@ -1,5 +1,7 @@
--- For each function that a host may call on a stream: wrong answers that its promise rules out, as tables of what is given and what is then wrong.
--- A stream is six words (place, seeking, closed, how many bytes wait, frames, refused), the ledger's nine, and the bytes that wait. Assumes nothing.
+-- For each function that a host may call on a stream: wrong answers that its promise rules out, as
+-- tables of what is given and what is then wrong. A stream is six words (place, seeking, closed,
+-- how many bytes wait, frames, refused), the ledger's nine, and the bytes that wait.
+-- Assumes nothing.
 use mathlib.Core.Path.{_≡_, refl, ap, ap₂}
 use Rattle.terms.specs.Paper.{Paper}
 use Rattle.terms.specs.RuledOut.{Row, _never_, _only_, Kept, RulesOut, ruled, numbers, lists, beside}
@@ -46,7 +48,8 @@ use Rattle.host_stream.proofs.rk_stream_feed.Kinds as rk-feed-kinds
 use Rattle.host_stream.proofs.rk_stream_close.Reads as rk-close
 use Rattle.host_stream.proofs.rk_stream_close.Kinds as rk-close-kinds
 
--- what is seen of a stream: its six words, the ledger's channel, floor and top, and the first 20 of the bytes that wait
+-- what is seen of a stream: its six words, the ledger's channel, floor and top, and the first 20 of
+-- the bytes that wait
 abbrev seen : Lent → List ℕ
 seen k = k .state ++ (take 3 (k .ledger) ++ take 20 (k .kept))
 

@@ -1,5 +1,6 @@
-// A stream for C and Rust: bytes that arrive in cuts, to records, counts and ledger. Between two calls the host keeps it as six numbers,
-// the nine words of its ledger, and the bytes that wait. Each call returns a code, 0 where all is well. A refusal writes nothing.
+// A stream for C and Rust: bytes that arrive in cuts, to records, counts and ledger. Between two
+// calls the host keeps it as six numbers, the nine words of its ledger, and the bytes that wait.
+// Each call returns a code, 0 where all is well. A refusal writes nothing.
 ghost use mathlib.Core.Path.{_≡_};
 ghost use lib.ListN.{length};
 ghost use Rattle.stream_spec.specs.State.{opened};
@@ -12,10 +13,12 @@ use stream_spec::Fed;
 use stream_spec::Stream;
 use stream_spec::Tally;
 
-// THE STREAM, AS SIX NUMBERS: the place of the first byte that waits, or of the next to come; 1 where the search is under way; 1 where the
-// stream is closed; how many bytes wait; how many frames and refused readings there were.
+// THE STREAM, AS SIX NUMBERS: the place of the first byte that waits, or of the next to come; 1
+// where the search is under way; 1 where the stream is closed; how many bytes wait; how many frames
+// and refused readings there were.
 
-// How many bytes wait. A flag above 1 is none, and stands for more of them than the state rules let wait.
+// How many bytes wait. A flag above 1 is none, and stands for more of them than the state
+// rules let wait.
 fn waiting_in(seeking: u64, closed: u64, waiting: u64) -> usize
     ensures { λ r. ⌜ r ≡ waitingIn seeking closed waiting ⌝ }
 {
@@ -72,7 +75,8 @@ fn keep(state: &mut [u64; 6], ledger: &mut [u64; 9], kept: &mut [u8; 8191], next
     *kept = held;
 }
 
-// What a call returns: its number; beside 0 the stream after it is kept, and its numbers are the results.
+// What a call returns: its number; beside 0 the stream after it is kept, and its numbers are
+// the results.
 fn settle(
     state: &mut [u64; 6],
     ledger: &mut [u64; 9],
@@ -114,8 +118,9 @@ pub extern "C" fn rk_stream_open(
     0
 }
 
-// One more cut, perhaps of no bytes: a record of 64 bytes for each reading that it decides. Results: how many records; frames and refused
-// readings so far; the place of the first byte that waits, or of the next to come; how many bytes wait. Refusals 13, 19, 29, 8.
+// One more cut, perhaps of no bytes: a record of 64 bytes for each reading that it decides.
+// Results: how many records; frames and refused readings so far; the place of the first byte that
+// waits, or of the next to come; how many bytes wait. Refusals 13, 19, 29, 8.
 #[no_mangle]
 pub extern "C" fn rk_stream_feed(
     state: &mut [u64; 6],
@@ -133,7 +138,8 @@ pub extern "C" fn rk_stream_feed(
     settle(state, ledger, kept, told, fed)
 }
 
-// No more bytes come: what remains is walked as the end of a closed capture is. Results as for a cut. Refusals 13, 19, 8.
+// No more bytes come: what remains is walked as the end of a closed capture is. Results as for a
+// cut. Refusals 13, 19, 8.
 #[no_mangle]
 pub extern "C" fn rk_stream_close(
     state: &mut [u64; 6],

@@ -1,5 +1,5 @@
--- The words and bytes of a sound stream stand for it, and those that keep the rules are of the stream that they stand for. A flag above 1 breaks the
--- rules. Assumes nothing.
+-- The words and bytes of a sound stream stand for it, and those that keep the rules are of the
+-- stream that they stand for. A flag above 1 breaks the rules. Assumes nothing.
 use Prim.Native.Nat.{ℕ, _≤_, _<_}
 use mathlib.Core.Path.{_≡_, refl, sym}
 use mathlib.Core.Bool.{Bool, true, false, _&&_}

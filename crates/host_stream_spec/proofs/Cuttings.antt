@@ -1,5 +1,5 @@
--- A call through the host on the words and bytes of a sound stream is the stream's call; and CR 1 holds of every row of such calls.
--- Assumes nothing.
+-- A call through the host on the words and bytes of a sound stream is the stream's call; and CR 1
+-- holds of every row of such calls. Assumes nothing.
 use Prim.Native.Nat.{ℕ, _+_}
 use mathlib.Core.Path.{_≡_, refl, sym, ap, _∙_}
 use mathlib.Core.Bool.{Bool, true, false}

@@ -1,4 +1,5 @@
--- A call is answered 13 exactly where the words and bytes lent break the rules, word by word (`LentRules`). Assumes nothing.
+-- A call is answered 13 exactly where the words and bytes lent break the rules, word by word
+-- (`LentRules`). Assumes nothing.
 use Prim.Native.Nat.{ℕ}
 use mathlib.Core.Path.{_≡_, sym, _∙_}
 use mathlib.Core.Bool.{false}

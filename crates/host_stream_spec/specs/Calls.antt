@@ -14,8 +14,9 @@ use Rattle.stream_spec.specs.CallLaws.{Promised}
 use Rattle.host_words.specs.Told.{Tells, retold, both, Refuses, tells-as, tells-kept}
 use Rattle.host_stream_spec.specs.Lent.{Lent, asOne, lentOf, streamIn}
 
--- TOLD: how many records this call gave, then the numbers of the stream after it: frames and refused readings so far, the place of the first byte
--- that waits, or of the next to come, and how many bytes wait
+-- TOLD: how many records this call gave, then the numbers of the stream after it: frames and
+-- refused readings so far, the place of the first byte that waits, or of the next to come, and how
+-- many bytes wait
 abbrev pub numbers : Stream → List ℕ
 numbers x = x .tally .frames ∷ x .tally .refused ∷ x .place ∷ x .len ∷ []
 
@@ -32,7 +33,8 @@ keptBeside number next was = pick (eqb number 0) (lentOf next) was
 unfoldable pub lentAfter : Lent → Call → ℕ → Lent
 lentAfter k call room = keptBeside (answerTo (streamIn k) call room .number) (nextOf (streamIn k) call room) k
 
--- A CALL: the promise of one that is lent k, the told row and the buffer d, answers n and leaves k′, row and d′
+-- A CALL: the promise of one that is lent k, the told row and the buffer d, answers n and leaves
+-- k′, row and d′
 abbrev pub Called : Lent → Call → List ℕ → List ℕ → ℕ → Lent → List ℕ → List ℕ → Type 0
 Called k call was d n k′ row d′ =
     Tells (callTold k call (length d)) was n row × ((k′ ≡ lentAfter k call (length d)) × (d′ ≡ leaves (streamIn k) call d))

@@ -1,4 +1,5 @@
--- A row of calls through the host on a stream that rk_stream_open wrote; and CR 1's sentences, of what the host then has and sees.
+-- A row of calls through the host on a stream that rk_stream_open wrote; and CR 1's sentences, of
+-- what the host then has and sees.
 use Prim.Native.Nat.{ℕ}
 use mathlib.Core.Path.{_≡_}
 use mathlib.Core.Bool.{true}
@@ -22,7 +23,8 @@ pub data Followed : Calls → Lent → Type 0 where
   one-more : {calls : Calls} {k : Lent} (call : Call) (was d : List ℕ) (n : ℕ) (k′ : Lent) (row d′ : List ℕ) → Followed calls k → Called k call was d n k′ row d′
       → Followed (calls ▸ record { call = call; room = length d }) k′
 
--- after the closing call: frames, refused readings and ledger are those of the closed walk over s, no byte waits, and the store is blank
+-- after the closing call: frames, refused readings and ledger are those of the closed walk over s,
+-- no byte waits, and the store is blank
 pub record Ended (s : List ℕ) (k : Lent) : Type 0 where
   pub place : getD (k .state) 0 0 ≡ length s
   pub closed : getD (k .state) 2 0 ≡ 1
@@ -32,8 +34,9 @@ pub record Ended (s : List ℕ) (k : Lent) : Type 0 where
   pub ledger : k .ledger ≡ wordsOf (ledgerOf (walkOf s .ledger))
   pub blank : k .kept ≡ replicate 8191 0
 
--- a call answered 0 behind these calls gives these records: they stand at the front of the buffer, and behind those given before they are what is
--- decided; told are their number, and the numbers that the words have now
+-- a call answered 0 behind these calls gives these records: they stand at the front of the buffer,
+-- and behind those given before they are what is decided; told are their number, and the numbers
+-- that the words have now
 pub record Gives (calls : Calls) (call : Call) (d : List ℕ) (records : List Record) (k′ : Lent) (row d′ : List ℕ) : Type 0 where
   pub written : d′ ≡ laid 0 (tableOf records) d
   pub makes-up : given calls ++ records ≡ decided (ended (calls ▸ record { call = call; room = length d })) (taken (calls ▸ record { call = call; room = length d }))
@@ -41,10 +44,12 @@ pub record Gives (calls : Calls) (call : Call) (d : List ℕ) (records : List Re
 
 -- CR 1'S SENTENCES, of what a host has after the calls
 pub record HostFollows (calls : Calls) (k : Lent) : Type 0 where
-  -- words and bytes are those of the stream after the calls, of which the sentences of CR 1 hold (`Follows`)
+  -- words and bytes are those of the stream after the calls, of which the sentences of CR 1
+  -- hold (`Follows`)
   pub stands : k ≡ lentOf (after calls)
   pub rules : StreamRules (streamIn k)
-  -- one more call: its number is told from the bytes taken alone; where it is 0, its share of the records is given
+  -- one more call: its number is told from the bytes taken alone; where it is 0, its share of the
+  -- records is given
   pub number : (call : Call) (was d : List ℕ) (n : ℕ) (k′ : Lent) (row d′ : List ℕ) → Called k call was d n k′ row d′ → n ≡ answered calls call (length d)
   pub gives : (call : Call) (was d : List ℕ) (n : ℕ) (k′ : Lent) (row d′ : List ℕ) → Called k call was d n k′ row d′ → n ≡ 0 → Gives calls call d (share (after calls) call) k′ row d′
   -- after the closing call all records were given, and the words are those of the closed walk

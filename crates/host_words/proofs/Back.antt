@@ -1,4 +1,5 @@
--- The words of a sound ledger stand for it, and words that keep the rules are those of the ledger that they stand for. Assumes nothing.
+-- The words of a sound ledger stand for it, and words that keep the rules are those of the ledger
+-- that they stand for. Assumes nothing.
 use Prim.Native.Nat.{ℕ, zero, suc, min, _+_, _≤_, _<_}
 use mathlib.Core.Path.{_≡_, refl, sym, ap, _∙_}
 use mathlib.Core.Logic.{⊎-elim}

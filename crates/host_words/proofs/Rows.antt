@@ -1,4 +1,5 @@
--- The words of a sound ledger stand for it (`words-back`), so a call through the host is that call on the ledger. Words that break the state rules are refused by 13. Assumes nothing.
+-- The words of a sound ledger stand for it (`words-back`), so a call through the host is that call
+-- on the ledger. Words that break the state rules are refused by 13. Assumes nothing.
 use Prim.Native.Nat.{ℕ, max, _<_}
 use mathlib.Core.Path.{_≡_, ap, ap₂, _∙_}
 use mathlib.Core.Bool.{true, false}

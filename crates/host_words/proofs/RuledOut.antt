@@ -1,4 +1,5 @@
--- For each public function: wrong answers that its promise rules out, as tables of what is given and what is then wrong. Assumes nothing.
+-- For each public function: wrong answers that its promise rules out, as tables of what is given
+-- and what is then wrong. Assumes nothing.
 use Prim.Native.Nat.{ℕ, _^_}
 use mathlib.Core.Path.{refl, ap}
 use mathlib.Core.List.{List, [], _∷_}
@@ -22,7 +23,8 @@ use Rattle.host_words.proofs.first_asked.Kinds as first-asked-kinds
 use Rattle.host_words.proofs.last_asked.Reads as last-asked
 use Rattle.host_words.proofs.last_asked.Kinds as last-asked-kinds
 
--- a ledger as a row of numbers: channel, floor, top, the places held as one number, and the pending range
+-- a ledger as a row of numbers: channel, floor, top, the places held as one number, and the
+-- pending range
 abbrev pending : Asked → List ℕ
 pending nothing = []
 pending (range first last) = first ∷ last ∷ []

@@ -10,7 +10,8 @@ use Rattle.ledger.specs.declared.Ledger.{Ledger}
 use Rattle.ledger.specs.State.{nextIn}
 use Rattle.host_words.specs.Words.{wordsOf, ledgerIn, bookIn}
 
--- the words after an answer beside which the ledger next stands: 0 and 12 store it, any other refusal leaves them as they were
+-- the words after an answer beside which the ledger next stands: 0 and 12 store it, any other
+-- refusal leaves them as they were
 unfoldable pub keptBy : ℕ → Ledger → List ℕ → List ℕ
 keptBy number next was = pick (eqb number 0) (wordsOf next) (pick (eqb number 12) (wordsOf next) was)
 

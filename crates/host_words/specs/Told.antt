@@ -1,4 +1,5 @@
--- What a call through the host answers and tells: a paper's number, and its values in a lent row of numbers.
+-- What a call through the host answers and tells: a paper's number, and its values in a lent
+-- row of numbers.
 use Prim.Native.Nat.{ℕ}
 use mathlib.Core.Path.{_≡_, refl, sym, ap, _∙_}
 use mathlib.Core.List.{List, [], _∷_, _++_}
@@ -10,7 +11,8 @@ use Rattle.terms.specs.Paper.{Paper, answer, pick, one-number}
 use Rattle.terms.specs.Refusals.{numberOf, refusal-pos}
 use Rattle.terms.specs.declared.Refusal.{Refusal}
 
--- what the row holds after the call: the paper's values where its number is 0, else what it held before
+-- what the row holds after the call: the paper's values where its number is 0, else what
+-- it held before
 unfoldable pub toldBy : Paper → List ℕ → List ℕ
 toldBy p was = pick (eqb (p .number) 0) (p .values) was
 
@@ -36,7 +38,8 @@ perhaps (place ∷ more) = 1 ∷ place ∷ []
 abbrev pub retold : (List ℕ → List ℕ) → Paper → Paper
 retold f p = answer (p .number) (f (p .values))
 
--- two things lent as one list, which tells each of them: how many numbers the first has stands before it
+-- two things lent as one list, which tells each of them: how many numbers the first has
+-- stands before it
 abbrev pub both : List ℕ → List ℕ → List ℕ
 both a b = length a ∷ (a ++ b)
 

@@ -33,7 +33,8 @@ wordsOf l =
 unfoldable pub pendingIn : ℕ → ℕ → Pending
 pendingIn first last = pick (eqb first 0 && eqb last 0) Nothing (Range (tickOf first) (tickOf last))
 
--- the ledger that nine words stand for, sound or not; a channel above two bytes stands for 65,535, which breaks the state rules too
+-- the ledger that nine words stand for, sound or not; a channel above two bytes stands for 65,535,
+-- which breaks the state rules too
 unfoldable pub ledgerIn : List ℕ → Ledger
 ledgerIn w =
     record {

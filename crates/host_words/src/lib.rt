@@ -1,5 +1,6 @@
-// A ledger as nine numbers, for C and Rust: channel, floor, top, the map's four words, the pending request's first and last number, 0
-// and 0 where nothing is pending. They are the host's to keep and not to read: the calls return all there is to know.
+// A ledger as nine numbers, for C and Rust: channel, floor, top, the map's four words, the pending
+// request's first and last number, 0 and 0 where nothing is pending. They are the host's to keep
+// and not to read: the calls return all there is to know.
 ghost use mathlib.Core.Path.{_≡_};
 ghost use Prim.Native.Nat.{min};
 ghost use Rattle.terms.specs.Counters.{channelOf};

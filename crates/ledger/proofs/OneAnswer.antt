@@ -1,4 +1,5 @@
--- For each public function: two answers that its promise allows are equal. An answer is told from its paper. Assumes nothing.
+-- For each public function: two answers that its promise allows are equal. An answer is told from
+-- its paper. Assumes nothing.
 use mathlib.Core.Path.{_≡_, sym, ap, ap₂, _∙_}
 use Prim.Native.Nat.{ℕ}
 use Rattle.terms.specs.OneAnswer.{OneAnswer}

@@ -1,5 +1,6 @@
--- The code's promises are the steps that `trace` uses: a lemma for each call, over the promise that the checker makes of its `ensures`; and so
--- what the code gives, call by call from opening on, is the row of books and answers that the theorems speak of. Assumes nothing.
+-- The code's promises are the steps that `trace` uses: a lemma for each call, over the promise that
+-- the checker makes of its `ensures`; and so what the code gives, call by call from opening on, is
+-- the row of books and answers that the theorems speak of. Assumes nothing.
 use mathlib.Core.Path.{_≡_, refl, sym, ap, ap₂, _∙_}
 use mathlib.Core.List.{[]}
 use mathlib.Core.Bool.{true, false}
@@ -79,7 +80,8 @@ unfolding answerTo
 refused-gives-back l next call paper p e f =
     p .next-is ∙ same-by bookOf ledgerOf l call (ap (λ (a : Paper). answered a 0) (sym (p .paper-is)) ∙ e) (ap (λ (a : Paper). answered a 12) (sym (p .paper-is)) ∙ f)
 
--- a tick answered 12 gives back the ledger that was passed in, its top raised to the tick if it was lower
+-- a tick answered 12 gives back the ledger that was passed in, its top raised to the tick if
+-- it was lower
 pub far-raises-top : (l next : Ledger) (channel n : ℕ) (paper : Paper) → Promise l (Tick channel n) next paper
     → answered paper 12 ≡ true → next ≡ topped l (max (l .top .0) n)
 unfolding answerTo
@@ -107,7 +109,8 @@ pub ran-is-trace : (channel : ℕ) → channel ≤ 9999 → {calls : Calls} {l :
     → (l ≡ ledgerOf (after channel calls)) × (h ≡ trace channel calls)
 ran-is-trace channel small r = ran-by-is-trace bookOf ledgerOf book-of topped-of channel small r
 
--- For every row of calls of the code on a ledger that it opened, refusals included, demand 3 holds of the calls and answers and of the ledger.
+-- For every row of calls of the code on a ledger that it opened, refusals included, demand 3 holds
+-- of the calls and answers and of the ledger.
 pub ran-demand-3 : (channel : ℕ) → channel ≤ 9999 → {calls : Calls} {l : Ledger} {h : History} → Ran channel calls l h → Demand3 h channel (bookOf l)
 ran-demand-3 channel small {calls} {l} {h} r =
     let q = ran-is-trace channel small r in

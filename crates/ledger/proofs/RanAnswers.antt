@@ -1,5 +1,6 @@
--- Demand 3 of the code's own answers: what a further call of the code is answered, told from the calls and answers before it; and request 7's sentences
--- of the code's replies. Each is the book's theorem, read at the paper that the promise fixes. Assumes nothing.
+-- Demand 3 of the code's own answers: what a further call of the code is answered, told from the
+-- calls and answers before it; and request 7's sentences of the code's replies. Each is the book's
+-- theorem, read at the paper that the promise fixes. Assumes nothing.
 use mathlib.Core.Path.{_≡_, sym, ap, _∙_}
 use mathlib.Core.Logic.{_↔_}
 use mathlib.Core.Bool.{true, false}

@@ -1,4 +1,5 @@
--- For each call of a ledger: wrong answers that its promise rules out, as tables of what is given and what is then wrong. Assumes nothing.
+-- For each call of a ledger: wrong answers that its promise rules out, as tables of what is given
+-- and what is then wrong. Assumes nothing.
 use Prim.Native.Nat.{ℕ, _+_, _-_, _^_}
 use mathlib.Core.Path.{_≡_, refl, ap, ap₂, _∙_}
 use mathlib.Core.List.{List, [], _∷_}
@@ -32,7 +33,8 @@ use Rattle.ledger.proofs.Ledger.held.Kinds as held-kinds
 use Rattle.ledger.proofs.Ledger.opened.Reads as opened-reads
 use Rattle.ledger.proofs.Ledger.opened.Kinds as opened-kinds
 
--- a ledger of channel 100: floor, top, the places held as one number (number n has place n % 256, so that 2 ^ 7 is number 7), and the pending range
+-- a ledger of channel 100: floor, top, the places held as one number (number n has place n % 256,
+-- so that 2 ^ 7 is number 7), and the pending range
 abbrev ledger : ℕ → ℕ → ℕ → Asked → Ledger
 ledger floor top places pending = record { channel = channelOf 100; floor = tickOf floor; top = tickOf top; map = mapOf places; pending = pendingOf pending }
 
@@ -111,7 +113,8 @@ unfolding bookOf ledgerOf nextBy rotated mapOf valueOf numberTo ownNumber checke
 Ledger-request-rules-out = ruled (beside papers lists) answered (λ c p. both p) _ refl
 
 -- A REPLY names two sets, each as one number whose digit i stands for the first value + i.
--- 1 to 6 was asked for and 1 and 2 came; 4, 7 and 10 are held: 3, 5 and 6 are to be given up, 4 and 7 passed, and 10 stays held.
+-- 1 to 6 was asked for and 1 and 2 came; 4, 7 and 10 are held: 3, 5 and 6 are to be given up, 4 and
+-- 7 passed, and 10 stays held.
 abbrev waits : Asked → Ledger
 waits pending = ledger 2 12 (2 ^ 4 + 2 ^ 7 + 2 ^ 10) pending
 

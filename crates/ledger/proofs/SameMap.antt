@@ -1,5 +1,6 @@
--- Request 9: a number's place is its remainder by 256, places are cleared as the floor passes them, and each call answers as it did with the map that
--- moved and then holds the same numbers: of one call on any state, and of every row of calls from opening on. Assumes nothing.
+-- Request 9: a number's place is its remainder by 256, places are cleared as the floor passes them,
+-- and each call answers as it did with the map that moved and then holds the same numbers: of one
+-- call on any state, and of every row of calls from opening on. Assumes nothing.
 use mathlib.Core.Path.{_≡_, refl, sym, ap, ap₂, _∙_, subst}
 use mathlib.Core.Bool.{Bool, true, false, _&&_}
 use Prim.Native.Nat.{ℕ, _+_, _-_, _/_, _%_, _^_, _≤_, _<_, max}
@@ -43,7 +44,8 @@ use Rattle.ledger.proofs.Promised.{ran-by-is-trace}
 place-set : (l : Ledger) → Words (l .map .words) → (p : ℕ) → p < 256 → isSet (bitsIn (l .map)) p ≡ placeSet l p
 place-set l w p h = ap (λ (x : ℕ). eqb x 1) (list-bit (l .map .words) w p h)
 
--- a number's place is "its remainder by 256": of the numbers that a map has places for, n is held where bit n % 64 of word n % 256 / 64 is set
+-- a number's place is "its remainder by 256": of the numbers that a map has places for, n is held
+-- where bit n % 64 of word n % 256 / 64 is set
 pub place-is : (l : Ledger) → Words (l .map .words) → (n : ℕ) → l .floor .0 < n → n ≤ l .floor .0 + 256
     → has (bookOf l) n ≡ isSet (getD (l .map .words) (n % 256 / 64) 0) (n % 64)
 unfolding has bookOf
@@ -97,7 +99,8 @@ next-places b call h =
     (λ e. done-places b call h (eqb-true _ 0 e))
     (λ e. pick-cases (λ (x : Book). x .bits < 2 ^ 256) (eqb (numberTo b call) 12) (raised b (offered call)) b (λ f. raised-places b (offered call) h) (λ f. h))
 
--- a number that the floor has passed, and the one 256 above it: that one has the place now, and is not held
+-- a number that the floor has passed, and the one 256 above it: that one has the place now,
+-- and is not held
 record Freed (b : Book) (n : ℕ) : Type 0 where
   above : b .floor < n + 256
   not-held : has b (n + 256) ≡ false
@@ -139,7 +142,8 @@ book-floor : (l : Ledger) → bookOf l .floor ≡ l .floor .0
 unfolding bookOf
 book-floor l = refl
 
--- places are cleared "as the floor passes them": after a call answered 0 the place of each number that the floor has newly passed is clear
+-- places are cleared "as the floor passes them": after a call answered 0 the place of each number
+-- that the floor has newly passed is clear
 pub passed-cleared : (l next : Ledger) (call : Call) (paper : Paper) → Words (l .map .words) → Promise l call next paper → answered paper 0 ≡ true
     → (n : ℕ) → l .floor .0 < n → n ≤ next .floor .0 → isSet (getD (next .map .words) (n % 256 / 64) 0) (n % 64) ≡ false
 unfolding answerTo
@@ -281,7 +285,8 @@ one-call-as-old now old next oldNext call paper oldPaper w v s p q =
 
 -- ---- every row of calls on a channel that opens
 
--- a ledger that calls reach has four words of 64 bits: so `place-is`, `passed-cleared` and `one-call-as-old` hold of it
+-- a ledger that calls reach has four words of 64 bits: so `place-is`, `passed-cleared` and
+-- `one-call-as-old` hold of it
 pub ran-words : (channel : ℕ) → channel ≤ 9999 → {calls : Calls} {l : Ledger} {h : History} → Ran channel calls l h → Words (l .map .words)
 ran-words channel small {calls} r =
     subst (λ (x : Ledger). Words (x .map .words)) (sym (ran-by-is-trace bookOf ledgerOf book-of topped-of channel small r .0)) (ledger-words (after channel calls))

@@ -1,4 +1,5 @@
--- Where the code's types meet the book: a ledger that code holds is the ledger of its book, and an answer with its number is the call's answer. Assumes nothing.
+-- Where the code's types meet the book: a ledger that code holds is the ledger of its book, and an
+-- answer with its number is the call's answer. Assumes nothing.
 use mathlib.Core.Path.{_≡_, refl, sym, ap, ap₂, _∙_, subst}
 use mathlib.Core.Bool.{Bool, true, false, _&&_, not}
 use mathlib.Core.Logic.{⊎-elim}
@@ -152,7 +153,8 @@ module _ (l : Ledger) (w : Words (l .map .words)) where
         ap (rotated s) (is ∙ ap (λ (x : ℕ). bitOr (bitsIn (l .map)) (2 ^ x)) at) ∙ rotated-set s (bitsIn (l .map)) (n - l .floor .0 - 1) (list-lt (l .map .words) w) h,
       )
 
-  -- without the places that the floor passes it reads, from the next one on, as the book's map shifted down
+  -- without the places that the floor passes it reads, from the next one on, as the book's map
+  -- shifted down
   pub taken-of : (n k : ℕ) (f t : TickNumber) (m d : Map) → bitsIn m < 2 ^ 256 → rotated (l .floor .0 + 1) (bitsIn m) ≡ marked (bookOf l) n
       → k ≡ run 256 (rotated (l .floor .0 + 1) (bitsIn m)) → f ≡ tickOf (l .floor .0 + k) → t ≡ tickOf (max (l .top .0) n)
       → d ≡ mapOf (without (l .floor .0 + 1) k (bitsIn m))

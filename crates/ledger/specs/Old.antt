@@ -1,4 +1,5 @@
--- The map before request 9: place i stood for floor + 1 + i, and moved as the floor did. No code keeps it any more.
+-- The map before request 9: place i stood for floor + 1 + i, and moved as the floor did. No code
+-- keeps it any more.
 use Rattle.terms.specs.Counters.{tickOf, channelOf}
 use Rattle.tick_map.specs.Bits.{bitsIn, mapOf}
 use Rattle.ledger_spec.specs.State.{Book}

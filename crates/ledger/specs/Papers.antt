@@ -1,4 +1,5 @@
--- Document 01's number and values for each case of the code's answers; and that each case can be told from its paper.
+-- Document 01's number and values for each case of the code's answers; and that each case can be
+-- told from its paper.
 use mathlib.Core.Path.{_≡_, refl, sym, ap, ap₂, _∙_}
 use mathlib.Core.List.{List, [], _∷_}
 use Prim.Native.Nat.{ℕ}
@@ -35,7 +36,8 @@ abbrev pub requestPaper : RequestAnswer → Paper
 requestPaper (request.Granted first last) = answer 0 (first .0 ∷ last .0 ∷ [])
 requestPaper (request.Refused r) = refusal (numberOf r)
 
--- a reply's two sets stand beside its answer, beside a refused one too: each read round from the first number
+-- a reply's two sets stand beside its answer, beside a refused one too: each read round from the
+-- first number
 abbrev replyNumber : ReplyAnswer → ℕ
 replyNumber reply.Cleared = 0
 replyNumber (reply.Refused r) = numberOf r

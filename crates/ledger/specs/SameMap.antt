@@ -1,4 +1,5 @@
--- Request 9: the map that does not move beside the one that did. Which numbers each holds, read from its four words.
+-- Request 9: the map that does not move beside the one that did. Which numbers each holds, read
+-- from its four words.
 use mathlib.Core.Path.{_≡_}
 use mathlib.Core.Bool.{Bool, _&&_}
 use Prim.Native.Nat.{ℕ, _+_, _-_, _/_, _%_}
@@ -25,7 +26,8 @@ heldNow l n = within l n && placeSet l (n % 256)
 unfoldable pub heldOld : Ledger → ℕ → Bool
 heldOld l n = within l n && placeSet l (n - l .floor .0 - 1)
 
--- "the same set of numbers": a ledger now and one before request 9 that differ in nothing but the places
+-- "the same set of numbers": a ledger now and one before request 9 that differ in nothing
+-- but the places
 pub record SameHeld (now old : Ledger) : Type 0 where
   pub channel-same : now .channel ≡ old .channel
   pub floor-same : now .floor ≡ old .floor

@@ -1,5 +1,6 @@
--- How the code keeps a book: only `bookOf` and `ledgerOf` know it. A number's place in the map is its remainder by 256, so that the map is read
--- round from the place of floor + 1, and laid back so; `place-is` of proofs/SameMap.antt says it of each number.
+-- How the code keeps a book: only `bookOf` and `ledgerOf` know it. A number's place in the map is
+-- its remainder by 256, so that the map is read round from the place of floor + 1, and laid back
+-- so; `place-is` of proofs/SameMap.antt says it of each number.
 use Rattle.terms.specs.Counters.{tickOf, channelOf}
 use Prim.Native.Nat.{ℕ, _+_, max}
 use lib.Dec.{eqb}
@@ -48,8 +49,8 @@ ledgerOf b =
 abbrev pub topped : Ledger → ℕ → Ledger
 topped l n = record { channel = l .channel; floor = l .floor; top = tickOf n; map = l .map; pending = l .pending }
 
--- however a ledger keeps a book: a call that is done gives the ledger of its book. A refused one gives back the very ledger, sound or not, save that
--- 12 gives it with its top raised.
+-- however a ledger keeps a book: a call that is done gives the ledger of its book. A refused one
+-- gives back the very ledger, sound or not, save that 12 gives it with its top raised.
 unfoldable pub nextBy : (Ledger → Book) → (Book → Ledger) → Ledger → Call → Ledger
 nextBy read keep l call =
     pick (eqb (numberTo (read l) call) 0) (keep (done (read l) call))
@@ -58,6 +59,7 @@ nextBy read keep l call =
 abbrev pub nextIn : Ledger → Call → Ledger
 nextIn l call = nextBy bookOf ledgerOf l call
 
--- a set of numbers beside an answer, read round from `first` and laid back: the map itself, where it is made of four words
+-- a set of numbers beside an answer, read round from `first` and laid back: the map itself, where
+-- it is made of four words
 abbrev pub laidFrom : TickNumber → Map → Map
 laidFrom first m = mapOf (laid (first .0) (rotated (first .0) (bitsIn m)))

@@ -9,12 +9,14 @@ use Rattle.ledger.specs.State.{bookOf, ledgerOf, nextBy}
 use Rattle.ledger.specs.Old.{oldBookOf, oldLedgerOf}
 use Rattle.ledger.specs.declared.Ledger.{Ledger}
 
--- what a call on the ledger l promises of its answer and of the next ledger, where `read` and `keep` say how a ledger keeps a book
+-- what a call on the ledger l promises of its answer and of the next ledger, where `read` and
+-- `keep` say how a ledger keeps a book
 pub record PromiseBy (read : Ledger → Book) (keep : Book → Ledger) (l : Ledger) (call : Call) (next : Ledger) (paper : Paper) : Type 0 where
   pub paper-is : paper ≡ answerTo (read l) call
   pub next-is : next ≡ nextBy read keep l call
 
--- the ledger l and the history h come of calls of the code on a freshly opened channel, each meeting its promise
+-- the ledger l and the history h come of calls of the code on a freshly opened channel, each
+-- meeting its promise
 pub data RanBy (read : Ledger → Book) (keep : Book → Ledger) (channel : ℕ) : Calls → Ledger → History → Type 0 where
   opening : {l : Ledger} → l ≡ keep (fresh channel) → RanBy read keep channel none l start
   one-more : {calls : Calls} {l next : Ledger} {h : History} {paper : Paper} (call : Call) → RanBy read keep channel calls l h

@@ -1,5 +1,6 @@
-// The gap ledger of one tick channel: which numbers were received, which are handed out, and what to ask for.
-// Every call takes the ledger, sound or not, and gives back the next one beside its answer.
+// The gap ledger of one tick channel: which numbers were received, which are handed out, and what
+// to ask for. Every call takes the ledger, sound or not, and gives back the next one
+// beside its answer.
 ghost use mathlib.Core.Path.{_≡_};
 ghost use mathlib.Core.Bool.{true, not};
 ghost use mathlib.Core.List.{[], _∷_};
@@ -31,7 +32,8 @@ pub struct Ledger {
     pub floor: TickNumber,
     // The largest number announced, or offered and not refused by 18 or 10.
     pub top: TickNumber,
-    // A number's place is its remainder by 256: of the numbers above the floor, for the 256 next ones.
+    // A number's place is its remainder by 256: of the numbers above the floor, for the
+    // 256 next ones.
     pub map: Map,
     pub pending: Pending,
 }
@@ -62,8 +64,9 @@ pub enum ReplyAnswer {
     Refused(Refusal),
 }
 
-// Beside the answer two sets, each a map whose places are read as the ledger's are: a number's place is its remainder by 256. They hold numbers from
-// `first`, the floor + 1 as it was before the call, to 256 after it. Beside a refusal `first` is 0, and both are empty.
+// Beside the answer two sets, each a map whose places are read as the ledger's are: a number's
+// place is its remainder by 256. They hold numbers from `first`, the floor + 1 as it was before the
+// call, to 256 after it. Beside a refusal `first` is 0, and both are empty.
 pub struct Replied {
     pub next: Ledger,
     pub answer: ReplyAnswer,
@@ -147,8 +150,9 @@ fn right(first: u64, last: u64, floor: u64, top: u64) -> bool
     last - first < 200
 }
 
-// Whether the map, read round from `from`, keeps the state rules, where `known` numbers lie above the floor and not above the top.
-// A map has 256 places: where fewer numbers are known, one scan from the place after them round to `from` finds all places clear.
+// Whether the map, read round from `from`, keeps the state rules, where `known` numbers lie above
+// the floor and not above the top. A map has 256 places: where fewer numbers are known, one scan
+// from the place after them round to `from` finds all places clear.
 fn map_sound(map: Map, from: u64, known: u64) -> bool
     ensures { λ r. ⌜ r ≡ mapRules (rotated from (bitsIn map)) known ⌝ }
 {
@@ -321,7 +325,8 @@ impl Ledger {
         Verdict::Fine
     }
 
-    // A tick that is taken: its place is marked, and the floor passes the run of held places above it, which are then free for the numbers 256 above.
+    // A tick that is taken: its place is marked, and the floor passes the run of held places above
+    // it, which are then free for the numbers 256 above.
     fn taken(self, n: u64) -> Ticked
         requires { ⌜ (self .floor .0 < n) × (n ≤ self .floor .0 + 256) × (n ≤ largest) ⌝ }
         ensures { λ r. ⌜ (tickPaper (r .answer) ≡ answer 0 ((self .floor .0 + 1) ∷ passes (bookOf self) n ∷ []))
@@ -366,7 +371,8 @@ impl Ledger {
         }
     }
 
-    // Marks the tick received, and moves the floor up as far as no number is missing. Refusals 13, 18, 10, 11, 12.
+    // Marks the tick received, and moves the floor up as far as no number is missing. Refusals 13,
+    // 18, 10, 11, 12.
     pub fn tick(self, channel: ChannelNumber, number: TickNumber) -> Ticked
         ensures { λ r. ⌜ (tickPaper (r .answer) ≡ answerTo (bookOf self) (Tick (channel .0) (number .0)))
             × (r .next ≡ nextIn self (Tick (channel .0) (number .0))) ⌝ }
@@ -426,7 +432,8 @@ impl Ledger {
         }
     }
 
-    // The range from floor + 1 on: it ends before the first held number, at the top, or after 200 numbers.
+    // The range from floor + 1 on: it ends before the first held number, at the top, or after
+    // 200 numbers.
     fn granted(self) -> Requested
         requires { ⌜ (self .floor .0 ≤ self .top .0) × (self .top .0 ≤ largest) ⌝ }
         ensures { λ r. ⌜ (requestPaper (r .answer) ≡ answer 0 ((self .floor .0 + 1) ∷ (self .floor .0 + asked (bookOf self)) ∷ []))
@@ -487,8 +494,9 @@ impl Ledger {
         pending.reach(floor)
     }
 
-    // The pending request is cleared, and the floor passes the w numbers above it and the run of held ones after them: floor + 1 is not held, so that run
-    // ends before it comes round. Those of the w not held are given up; the held ones passed are named apart.
+    // The pending request is cleared, and the floor passes the w numbers above it and the run of
+    // held ones after them: floor + 1 is not held, so that run ends before it comes round. Those of
+    // the w not held are given up; the held ones passed are named apart.
     fn replied(self, w: u64) -> Replied
         requires { ⌜ (soundOf (bookOf self) ≡ true) × (w ≤ 256) × (w ≤ self .top .0 - self .floor .0) ⌝ }
         ensures { λ r. ⌜ (replyPaper (r .answer) (r .first) (r .«given_up») (r .passed) ≡ answer 0 ((self .floor .0 + 1) ∷ gaveUp (bookOf self) w ∷ handed (bookOf self) w ∷ []))
@@ -530,7 +538,8 @@ impl Ledger {
         }
     }
 
-    // The pending request is cleared; on status 4 what is missing of it is given up, and the floor goes on. Refusals 13, 18, 17, 16.
+    // The pending request is cleared; on status 4 what is missing of it is given up, and the floor
+    // goes on. Refusals 13, 18, 17, 16.
     pub fn reply(self, channel: ChannelNumber, first: TickNumber, status: u8) -> Replied
         ensures { λ r. ⌜ (replyPaper (r .answer) (r .first) (r .«given_up») (r .passed) ≡ answerTo (bookOf self) (Reply (channel .0) (first .0) status))
             × (r .next ≡ nextIn self (Reply (channel .0) (first .0) status))

@@ -1,4 +1,5 @@
--- The invariant of every row of calls: the book agrees with the history. It holds at the start, and every `Step` keeps it. Assumes nothing.
+-- The invariant of every row of calls: the book agrees with the history. It holds at the start, and
+-- every `Step` keeps it. Assumes nothing.
 use mathlib.Core.Path.{_≡_, refl, sym, ap, ap₂, _∙_}
 use mathlib.Core.Logic.{⊎-elim}
 use mathlib.Core.Bool.{Bool, true, false}

@@ -1,4 +1,5 @@
--- What each call is answered, told from the history alone: each case is one `given-N`, read at a book that agrees with the history. Assumes nothing.
+-- What each call is answered, told from the history alone: each case is one `given-N`, read at a
+-- book that agrees with the history. Assumes nothing.
 use mathlib.Core.Path.{_≡_, refl, sym, ap, ap₂, _∙_}
 use mathlib.Core.Logic.{_⊎_, inl, inr}
 use mathlib.Core.Bool.{Bool, true, false, _&&_, not}

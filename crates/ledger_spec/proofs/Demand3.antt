@@ -1,4 +1,5 @@
--- Demand 3, proved for every row of calls on a fresh ledger. Each sentence follows from the invariant `Agrees` alone. Assumes nothing.
+-- Demand 3, proved for every row of calls on a fresh ledger. Each sentence follows from the
+-- invariant `Agrees` alone. Assumes nothing.
 use mathlib.Core.Path.{_≡_, refl, sym, ap, ap₂, _∙_, subst}
 use mathlib.Core.Logic.{_⊎_, inl, inr}
 use mathlib.Core.Bool.{Bool, true, false, _&&_, not}
@@ -403,6 +404,7 @@ module _ (h : History) (channel : ℕ) (b : Book) (a : Agrees h channel b) where
         state-rules = a .rules;
       }
 
--- For every row of calls on the fresh ledger of a channel that opens, refusals included, demand 3 holds.
+-- For every row of calls on the fresh ledger of a channel that opens, refusals included,
+-- demand 3 holds.
 pub demand-3 : (channel : ℕ) → channel ≤ 9999 → (calls : Calls) → Demand3 (trace channel calls) channel (after channel calls)
 demand-3 channel small calls = demand (trace channel calls) channel (after channel calls) (agrees channel small calls)

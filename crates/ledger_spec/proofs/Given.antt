@@ -1,5 +1,6 @@
--- When each number is given, both ways, for every state. A row of checks answers m where those before pass and the one of m fails;
--- each test of the row is the fact that the document names. Assumes nothing.
+-- When each number is given, both ways, for every state. A row of checks answers m where those
+-- before pass and the one of m fails; each test of the row is the fact that the document names.
+-- Assumes nothing.
 use mathlib.Core.Path.{_≡_, refl, sym, ap, _∙_}
 use mathlib.Core.Logic.{_⊎_, inl, inr, _↔_}
 use mathlib.Core.Bool.{Bool, true, false, _&&_, not}

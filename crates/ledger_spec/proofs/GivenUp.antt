@@ -1,5 +1,6 @@
--- Request 7: each sentence of specs/GivenUp.antt, for every row of calls. The book after the calls agrees with the history, and a reply
--- answered 0 does what `gives-in`, `gives-out`, `hands-in` and `hands-out` of Steps.antt say. Assumes nothing.
+-- Request 7: each sentence of specs/GivenUp.antt, for every row of calls. The book after the calls
+-- agrees with the history, and a reply answered 0 does what `gives-in`, `gives-out`, `hands-in` and
+-- `hands-out` of Steps.antt say. Assumes nothing.
 use mathlib.Core.Path.{_≡_, refl, sym, ap, ap₂, _∙_}
 use mathlib.Core.Logic.{_⊎_, inl, inr, _↔_}
 use mathlib.Core.Bool.{Bool, true, false, _&&_, not}
@@ -243,7 +244,8 @@ values-0 : (b : Book) → StateRules b → (gaveUp b 0 ≡ 0) × (handed b 0 ≡
 unfolding gaveUp handed
 values-0 b r = (omega arith, ap (λ (k : ℕ). b .bits % 2 ^ k) (leaps-0 b r) ∙ mod-one (b .bits))
 
--- status 3 "only clears", and so does every status but 4: both sets are empty, and nothing but the pending request changes
+-- status 3 "only clears", and so does every status but 4: both sets are empty, and nothing but the
+-- pending request changes
 pub only-4-gives-up : (b : Book) (channel first status : ℕ) → StateRules b → answered (answerTo b (Reply channel first status)) 0 ≡ true → (status ≡ 4 → ⊥)
     → OnlyClears b (answerTo b (Reply channel first status)) (nextOf b (Reply channel first status))
 only-4-gives-up b channel first status r e other =

@@ -1,5 +1,6 @@
--- Places are free again: ticks 1, 2, 3 and so on are each passed at once, so the floor reaches every number of at most 18 digits with the map empty
--- at each step. Invariant: after n ticks floor and top are n and nothing is held. Assumes nothing.
+-- Places are free again: ticks 1, 2, 3 and so on are each passed at once, so the floor reaches
+-- every number of at most 18 digits with the map empty at each step. Invariant: after n ticks floor
+-- and top are n and nothing is held. Assumes nothing.
 use mathlib.Core.Path.{_≡_, refl, sym, ap, ap₂, _∙_}
 use Prim.Native.Nat.{ℕ, zero, suc, _+_, _-_, _/_, _^_, _≤_, max}
 use native.Mathlib.Omega.{arith}

@@ -1,4 +1,5 @@
--- The state rules: the computed test is true exactly where the facts hold; and what a sound state says of its map. Assumes nothing.
+-- The state rules: the computed test is true exactly where the facts hold; and what a sound state
+-- says of its map. Assumes nothing.
 use mathlib.Core.Path.{_≡_, refl, sym, ap, _∙_, subst}
 use mathlib.Core.Bool.{true, false, _&&_, not}
 use Prim.Native.Nat.{ℕ, _+_, _-_, _/_, _^_, _≤_, _<_, min}

@@ -1,6 +1,7 @@
--- What one call does to a sound book, told in the words of demand 3: `Step`. The invariant of every row of calls is built from it.
--- A refusal leaves all as it was; a taken tick is received, and the floor passes the run of held numbers above it; a reply of status 4 gives up what
--- is missing of the pending range, and the floor passes it and the run behind it. Assumes nothing.
+-- What one call does to a sound book, told in the words of demand 3: `Step`. The invariant of every
+-- row of calls is built from it. A refusal leaves all as it was; a taken tick is received, and the
+-- floor passes the run of held numbers above it; a reply of status 4 gives up what is missing of
+-- the pending range, and the floor passes it and the run behind it. Assumes nothing.
 use mathlib.Core.Path.{_≡_, refl, sym, ap, ap₂, _∙_, subst}
 use mathlib.Core.Logic.{_⊎_, inl, inr}
 use mathlib.Core.Bool.{Bool, true, false, _&&_, not}

@@ -1,5 +1,6 @@
--- Of a history that is the row of the calls so far, and an answer that is the definition's: what each call is answered, told from the history alone, and
--- request 7's sentences of it. Whatever makes such rows, the code's own calls or those through a host, cites these. Assumes nothing.
+-- Of a history that is the row of the calls so far, and an answer that is the definition's: what
+-- each call is answered, told from the history alone, and request 7's sentences of it. Whatever
+-- makes such rows, the code's own calls or those through a host, cites these. Assumes nothing.
 use mathlib.Core.Path.{_≡_, sym, ap, _∙_}
 use mathlib.Core.Logic.{_↔_}
 use mathlib.Core.Bool.{true}

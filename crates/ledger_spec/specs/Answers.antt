@@ -1,6 +1,7 @@
--- What a call on a freshly opened ledger is answered, told from the calls and answers before it alone; what a broken state is answered; what a
--- refusal leaves; and that places are free again. (13 is never answered after opening: the state rules always hold. 14, 15 and the counts
--- stand in Demand3.antt.)
+-- What a call on a freshly opened ledger is answered, told from the calls and answers before it
+-- alone; what a broken state is answered; what a refusal leaves; and that places are free again.
+-- (13 is never answered after opening: the state rules always hold. 14, 15 and the counts stand in
+-- Demand3.antt.)
 use mathlib.Core.Path.{_≡_}
 use mathlib.Core.Bool.{true, false, _&&_, not}
 use mathlib.Core.List.{[], _∷_}
@@ -37,8 +38,9 @@ pub record AnnounceAnswers (n : ℕ) (a : Paper) : Type 0 where
   pub number-10 : largest < n → a ≡ refusal 10
   pub done-0 : n ≤ largest → a ≡ answer 0 []
 
--- beside a reply's number: the floor + 1 that its two sets count from; of the range granted, up to `last`, what was not received, on status 4 alone;
--- and the received numbers newly passed, which `names-apart` of proofs/GivenUp.antt tells
+-- beside a reply's number: the floor + 1 that its two sets count from; of the range granted, up to
+-- `last`, what was not received, on status 4 alone; and the received numbers newly passed, which
+-- `names-apart` of proofs/GivenUp.antt tells
 pub record Names (h : History) (status last : ℕ) (a : Paper) : Type 0 where
   pub given-up : ℕ
   pub passed : ℕ
@@ -60,7 +62,8 @@ pub record Answers (channel : ℕ) (calls : Calls) : Type 0 where
   pub announcement : (n : ℕ) → AnnounceAnswers n (answerTo (after channel calls) (Announce channel n))
   pub reply : (first status : ℕ) → ReplyAnswers (trace channel calls) first status (answerTo (after channel calls) (Reply channel first status))
 
--- What a call on a broken state is answered: 13 and nothing beside it, and a count of 0. For every call, whatever channel and number it names.
+-- What a call on a broken state is answered: 13 and nothing beside it, and a count of 0. For every
+-- call, whatever channel and number it names.
 pub record Broken (b : Book) : Type 0 where
   pub tick : (channel n : ℕ) → answerTo b (Tick channel n) ≡ refusal 13
   pub announcement : (channel n : ℕ) → answerTo b (Announce channel n) ≡ refusal 13
@@ -69,8 +72,8 @@ pub record Broken (b : Book) : Type 0 where
   pub missing-0 : answerTo b Missing ≡ answer 13 (0 ∷ [])
   pub held-0 : answerTo b Held ≡ answer 13 (0 ∷ [])
 
--- a refusal changes nothing, but 12 may raise the top (document 01, Numbers, paragraph 2); for every state,
--- sound or not
+-- a refusal changes nothing, but 12 may raise the top (document 01, Numbers, paragraph 2); for
+-- every state, sound or not
 pub record OnlyTop (b next : Book) (n : ℕ) : Type 0 where
   pub top-is : next .top ≡ max (b .top) n
   pub channel-same : next .channel ≡ b .channel
@@ -82,7 +85,8 @@ pub record Keeps (b : Book) (call : Call) (next : Book) (a : Paper) : Type 0 whe
   pub same : answered a 0 ≡ false → answered a 12 ≡ false → next ≡ b
   pub far : answered a 12 ≡ true → OnlyTop b next (offered call)
 
--- no map place is used up "for good" (document 01, What we have been burnt by): calls that bring the floor to n
+-- no map place is used up "for good" (document 01, What we have been burnt by): calls that bring
+-- the floor to n
 pub record Reaches (channel n : ℕ) : Type 0 where
   pub calls : Calls
   pub floor-is : after channel calls .floor ≡ n

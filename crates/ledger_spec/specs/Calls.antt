@@ -56,7 +56,8 @@ elsewhere b Missing = false
 elsewhere b Held = false
 
 -- the checks of each call after 13 and 18, in their order (document 01, Numbers, paragraph 2)
--- (15: nothing is missing where the top is the floor, since floor + 1 is not held. `given-15` says it in the document's words.)
+-- (15: nothing is missing where the top is the floor, since floor + 1 is not held. `given-15` says
+-- it in the document's words.)
 unfoldable pub ownNumber : Book → Call → ℕ
 ownNumber b (Tick channel n) = pick (not (tickNumber n)) 10 (pick (has b n) 11 (pick (ltb (b .floor + 256) n) 12 0))
 ownNumber b (Announce channel n) = pick (ltb largest n) 10 0
@@ -78,7 +79,8 @@ numberTo b call = checkedOf b (elsewhere b call) (ownNumber b call)
 abbrev pub moved : Book → (k m top : ℕ) → Asked → Book
 moved b k m top pending = record { channel = b .channel; floor = b .floor + k; top = top; bits = m / 2 ^ k; pending = pending }
 
--- the map with the tick's place, and how many numbers the floor then passes: the run of held ones above it
+-- the map with the tick's place, and how many numbers the floor then passes: the run of held
+-- ones above it
 abbrev pub marked : Book → ℕ → ℕ
 marked b n = bitOr (b .bits) (2 ^ (n - b .floor - 1))
 
@@ -99,14 +101,16 @@ lastOf (range first last) = last
 unfoldable pub reach : Book → ℕ → ℕ
 reach b status = pick (eqb status 4) (lastOf (b .pending) - b .floor) 0
 
--- the map with all of them, and how many numbers the floor then passes: these, and the received ones that follow
+-- the map with all of them, and how many numbers the floor then passes: these, and the received
+-- ones that follow
 abbrev pub covered : Book → ℕ → ℕ
 covered b w = bitOr (b .bits) (2 ^ w - 1)
 
 unfoldable pub leaps : Book → ℕ → ℕ
 leaps b w = run 256 (covered b w)
 
--- the given-up numbers, and the received ones newly passed: each as one number, whose digit i stands for floor + 1 + i
+-- the given-up numbers, and the received ones newly passed: each as one number, whose digit i
+-- stands for floor + 1 + i
 unfoldable pub gaveUp : Book → ℕ → ℕ
 gaveUp b w = (2 ^ w - 1) - b .bits % 2 ^ w
 
@@ -149,8 +153,9 @@ heldCount b = ones (b .bits)
 unfoldable pub missingCount : Book → ℕ
 missingCount b = b .top - b .floor - ones (b .bits)
 
--- a tick's answer: the first number newly passed, and how many; a request's: first and last number; a count's: the count;
--- a reply's: the floor + 1 that both its sets count from, the given-up numbers, and the received ones newly passed
+-- a tick's answer: the first number newly passed, and how many; a request's: first and last number;
+-- a count's: the count; a reply's: the floor + 1 that both its sets count from, the given-up
+-- numbers, and the received ones newly passed
 unfoldable pub valuesOf : Book → Call → List ℕ
 valuesOf b (Tick channel n) = (b .floor + 1) ∷ passes b n ∷ []
 valuesOf b (Announce channel n) = []
@@ -159,7 +164,8 @@ valuesOf b (Reply channel first status) = (b .floor + 1) ∷ gaveUp b (reach b s
 valuesOf b Missing = missingCount b ∷ []
 valuesOf b Held = heldCount b ∷ []
 
--- beside a refusal: nothing; beside a refused count, 0, and beside a refused reply 0 and two empty sets
+-- beside a refusal: nothing; beside a refused count, 0, and beside a refused reply 0 and
+-- two empty sets
 abbrev pub beside : Call → List ℕ
 beside (Tick channel n) = []
 beside (Announce channel n) = []

@@ -1,7 +1,9 @@
--- Demand 3, sentence by sentence, of a history and the book after it. `demand-3` of proofs/Demand3.antt proves it for every row of calls on the
--- fresh ledger of every channel that opens, and `ran-demand-3` of `ledger` for every such row of the code. Words.antt tells each
--- word (received, givenUp, settled, handedOut, floorOf, knownTop, pending, missing, delivered, held, count) from the calls and their answers alone; only where
--- a sentence speaks of the ledger does the book after the calls stand here.
+-- Demand 3, sentence by sentence, of a history and the book after it. `demand-3` of
+-- proofs/Demand3.antt proves it for every row of calls on the fresh ledger of every channel that
+-- opens, and `ran-demand-3` of `ledger` for every such row of the code. Words.antt tells each word
+-- (received, givenUp, settled, handedOut, floorOf, knownTop, pending, missing, delivered, held,
+-- count) from the calls and their answers alone; only where a sentence speaks of the ledger does
+-- the book after the calls stand here.
 use mathlib.Core.Path.{_≡_}
 use mathlib.Core.Logic.{_⊎_}
 use mathlib.Core.Bool.{Bool, true, false, _&&_, not}
@@ -15,8 +17,9 @@ use Rattle.ledger_spec.specs.Calls.{Request, Missing, Held, answerTo}
 use Rattle.ledger_spec.specs.Trace.{History}
 use Rattle.ledger_spec.specs.Words.{answered, received, givenUp, settled, numbers, chosen, handedOut, knownTop, pending, delivered, held, missing, ticksTaken, count, floorOf}
 
--- "the numbers handed out rise, each once; every number up to the floor was either received and delivered, or given up, never both; the floor
--- stands just below the first number neither received nor given up"
+-- "the numbers handed out rise, each once; every number up to the floor was either received and
+-- delivered, or given up, never both; the floor stands just below the first number neither received
+-- nor given up"
 pub record Deliveries (h : History) (b : Book) : Type 0 where
   pub rising : handedOut h ≡ chosen (received h) (numbers 1 (b .floor))
   pub delivered-or-given-up : (n : ℕ) → 1 ≤ n → n ≤ b .floor → ((received h n ≡ true) × (delivered h n ≡ true)) ⊎ (givenUp h n ≡ true)
@@ -24,7 +27,8 @@ pub record Deliveries (h : History) (b : Book) : Type 0 where
   pub next-neither : settled h (b .floor + 1) ≡ false
 
 -- "The missing are exactly those up to the known top that are neither."
--- For a book, a number is missing where it lies above the floor and not above the top, and is not held.
+-- For a book, a number is missing where it lies above the floor and not above the top, and
+-- is not held.
 unfoldable pub missingIn : Book → ℕ → Bool
 missingIn b n = ltb (b .floor) n && (leb n (b .top) && not (has b n))
 
@@ -40,7 +44,8 @@ pub record LowestRun (h : History) (first last : ℕ) : Type 0 where
   pub at-most-200 : last < first + 200
   pub whole-or-cut : (missing h (last + 1) ≡ false) ⊎ (last + 1 ≡ first + 200)
 
--- "Asked on its own channel, the ledger gives a resend request exactly when one is missing and none is pending"
+-- "Asked on its own channel, the ledger gives a resend request exactly when one is missing and
+-- none is pending"
 pub record SomeMissing (h : History) : Type 0 where
   pub number : ℕ
   pub is-missing : missing h number ≡ true
@@ -58,8 +63,9 @@ pub record Requests (h : History) (a : Paper) : Type 0 where
   pub else-15 : pending h ≡ nothing → ((n : ℕ) → missing h n ≡ false) → a ≡ refusal 15
 
 -- "Delivered, held, missing and given up, each counted from the calls, add up to the top."
--- None lies above the top. Counted call by call it is the same: the numbers handed out, and the ticks answered 0.
--- And these counts are those that the ledger gives: its floor, and its answers to the two counts.
+-- None lies above the top. Counted call by call it is the same: the numbers handed out, and the
+-- ticks answered 0. And these counts are those that the ledger gives: its floor, and its answers to
+-- the two counts.
 pub record Counts (h : History) (b : Book) : Type 0 where
   pub sum : count (delivered h) (knownTop h) + count (held h) (knownTop h) + count (missing h) (knownTop h) + count (givenUp h) (knownTop h) ≡ knownTop h
   pub none-above : (n : ℕ) → knownTop h < n → settled h n ≡ false
@@ -69,8 +75,9 @@ pub record Counts (h : History) (b : Book) : Type 0 where
   pub held-is : answerTo b Held ≡ answer 0 (count (held h) (knownTop h) ∷ [])
   pub missing-is : answerTo b Missing ≡ answer 0 (count (missing h) (knownTop h) ∷ [])
 
--- What the ledger shows of itself is told by the calls and their answers: the channel that was opened; the floor, which is how many numbers
--- were handed out or given up, and so just below the first that was neither; the known top; and the pending request, the whole range that was granted.
+-- What the ledger shows of itself is told by the calls and their answers: the channel that was
+-- opened; the floor, which is how many numbers were handed out or given up, and so just below the
+-- first that was neither; the known top; and the pending request, the whole range that was granted.
 pub record Shown (h : History) (channel : ℕ) (b : Book) : Type 0 where
   pub channel-is : b .channel ≡ channel
   pub floor-is : b .floor ≡ floorOf h

@@ -1,5 +1,6 @@
--- Document 01, "What each number says": when a call on any state, sound or not, is answered 0 or 10 to 18. A record for each number: the checks
--- before it in the document's order pass, and its own fails. proofs/Given.antt proves each by a theorem `given-N`, both ways.
+-- Document 01, "What each number says": when a call on any state, sound or not, is answered 0 or 10
+-- to 18. A record for each number: the checks before it in the document's order pass, and its own
+-- fails. proofs/Given.antt proves each by a theorem `given-N`, both ways.
 use mathlib.Core.Path.{_≡_}
 use mathlib.Core.Logic.{_⊎_}
 use Prim.Native.Nat.{ℕ, _+_, _-_, _≤_, _<_}

@@ -1,5 +1,6 @@
--- Request 7, sentence by sentence: what a reply of status 4 gives up and names, told from the calls and answers before it; and what becomes of a number
--- given up. proofs/GivenUp.antt proves each for every row of calls on the fresh ledger of every channel that opens.
+-- Request 7, sentence by sentence: what a reply of status 4 gives up and names, told from the calls
+-- and answers before it; and what becomes of a number given up. proofs/GivenUp.antt proves each for
+-- every row of calls on the fresh ledger of every channel that opens.
 use mathlib.Core.Path.{_≡_}
 use mathlib.Core.Logic.{_⊎_}
 use mathlib.Core.Bool.{true, false}
@@ -15,7 +16,8 @@ use Rattle.ledger_spec.specs.Words.{valueAt, answered, received, givesUp
 abbrev pub reply : ℕ → Calls → ℕ → ℕ → Paper
 reply channel calls first status = answerTo (after channel calls) (Reply channel first status)
 
--- status 4 gives up the numbers of the pending range "not received so far", and the answer names them
+-- status 4 gives up the numbers of the pending range "not received so far", and the
+-- answer names them
 pub record InRange (h : History) (n : ℕ) : Type 0 where
   pub first : ℕ
   pub last : ℕ
@@ -24,8 +26,8 @@ pub record InRange (h : History) (n : ℕ) : Type 0 where
   pub to : n ≤ last
   pub not-received : received h n ≡ false
 
--- the floor passes these and the received ones that follow, and the answer names those "apart": the numbers
--- from the old floor + 1 to the new floor, split in two
+-- the floor passes these and the received ones that follow, and the answer names those "apart": the
+-- numbers from the old floor + 1 to the new floor, split in two
 pub record NamesApart (h next : History) (call : Call) (a : Paper) : Type 0 where
   pub split : (n : ℕ) → floorOf h < n → n ≤ floorOf next → (givesUp call a n ≡ true) ⊎ (isIn n (namedBy call a) ≡ true)
   pub no-other : (n : ℕ) → (givesUp call a n ≡ true) ⊎ (isIn n (namedBy call a) ≡ true) → (floorOf h < n) × (n ≤ floorOf next)
@@ -45,7 +47,8 @@ pub record Late (b : Book) (channel n : ℕ) : Type 0 where
   pub answer-11 : answerTo b (Tick channel n) ≡ refusal 11
   pub same : nextOf b (Tick channel n) ≡ b
 
--- status 3 "only clears": a reply that names two empty sets, and changes nothing but the pending request
+-- status 3 "only clears": a reply that names two empty sets, and changes nothing but the
+-- pending request
 pub record OnlyClears (b : Book) (a : Paper) (next : Book) : Type 0 where
   pub no-sets : a ≡ answer 0 ((b .floor + 1) ∷ 0 ∷ 0 ∷ [])
   pub cleared : next ≡ waiting b nothing

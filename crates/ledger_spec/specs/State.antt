@@ -43,11 +43,13 @@ unfoldable pub rangeRules : Asked → ℕ → ℕ → Bool
 rangeRules nothing floor top = true
 rangeRules (range first last) floor top = leb 1 first && (leb first (floor + 1) && (leb first last && (leb last top && ltb last (first + 200))))
 
--- neither floor + 1 nor a number above the top is held, where `known` numbers lie above the floor and not above the top; the map has 256 places
+-- neither floor + 1 nor a number above the top is held, where `known` numbers lie above the floor
+-- and not above the top; the map has 256 places
 unfoldable pub mapRules : ℕ → ℕ → Bool
 mapRules bits known = not (isSet bits 0) && eqb (bits / 2 ^ min known 256) 0
 
--- the state rules: the bounds of channel, floor and top, and the two above (document 01, Ledger, paragraph 1)
+-- the state rules: the bounds of channel, floor and top, and the two above (document 01, Ledger,
+-- paragraph 1)
 unfoldable pub soundOf : Book → Bool
 soundOf b =
     leb (b .channel) 9999 && (leb (b .floor) (b .top) && (leb (b .top) largest

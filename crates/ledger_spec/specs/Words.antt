@@ -1,4 +1,5 @@
--- The words of demand 3, each told from a history alone: the calls and their answers, and no ledger.
+-- The words of demand 3, each told from a history alone: the calls and their answers,
+-- and no ledger.
 use mathlib.Core.Bool.{Bool, true, false, _&&_, not}
 use mathlib.Core.List.{List, [], _∷_, _++_}
 use Prim.Native.Nat.{ℕ, zero, suc, _+_, _-_, max}
@@ -35,7 +36,8 @@ received (before ▸ call ⇒ a) n = orElse (receives call a n) (received before
 abbrev pub inSet : ℕ → ℕ → ℕ → Bool
 inSet first set n = leb first n && isSet set (n - first)
 
--- "It is given up once a reply answered 0 names it so": the reply's first value is the number that both sets count from, the second the set given up
+-- "It is given up once a reply answered 0 names it so": the reply's first value is the number that
+-- both sets count from, the second the set given up
 abbrev pub givesUp : Call → Paper → ℕ → Bool
 givesUp (Tick channel m) a n = false
 givesUp (Announce channel m) a n = false
@@ -62,7 +64,8 @@ unfoldable pub chosen : (ℕ → Bool) → List ℕ → List ℕ
 chosen so [] = []
 chosen so (x ∷ xs) = pick (so x) (x ∷ chosen so xs) (chosen so xs)
 
--- the numbers that an answer names for delivery, if it was answered 0: a tick's run; a reply's set of received numbers newly passed, rising
+-- the numbers that an answer names for delivery, if it was answered 0: a tick's run; a reply's set
+-- of received numbers newly passed, rising
 unfoldable pub namedBy : Call → Paper → List ℕ
 namedBy (Tick channel n) a = pick (answered a 0) (numbers (valueAt a 0) (valueAt a 1)) []
 namedBy (Announce channel n) a = []
@@ -76,7 +79,8 @@ unfoldable pub handedOut : History → List ℕ
 handedOut start = []
 handedOut (before ▸ call ⇒ a) = handedOut before ++ namedBy call a
 
--- the known top: the largest number of a tick not refused by 18 or 10, or of an announcement answered 0
+-- the known top: the largest number of a tick not refused by 18 or 10, or of an
+-- announcement answered 0
 unfoldable pub offers : Call → Paper → ℕ
 offers (Tick channel n) a = pick (orElse (answered a 18) (answered a 10)) 0 n
 offers (Announce channel n) a = pick (answered a 0) n 0
@@ -102,7 +106,8 @@ unfoldable pub pending : History → Asked
 pending start = nothing
 pending (before ▸ call ⇒ a) = stillPending call a (pending before)
 
--- delivered: handed out; held: received and not handed out; missing: up to the known top and not settled
+-- delivered: handed out; held: received and not handed out; missing: up to the known top
+-- and not settled
 abbrev pub isIn : ℕ → List ℕ → Bool
 isIn n [] = false
 isIn n (x ∷ xs) = orElse (eqb n x) (isIn n xs)

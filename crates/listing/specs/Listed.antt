@@ -1,4 +1,5 @@
--- From the walk's records to the listing: what the text of the walk's records and counts is, and how long it is at most.
+-- From the walk's records to the listing: what the text of the walk's records and counts is, and
+-- how long it is at most.
 use Prim.Native.Nat.{ℕ, _+_, _*_, _/_, _≤_}
 use mathlib.Core.Path.{_≡_, ap}
 use mathlib.Core.List.{List}

@@ -15,8 +15,8 @@ use walk::Walked;
 // The largest capture that is taken. One byte more is read, which tells a capture that is too long.
 const MOST: usize = 65536;
 
-// A capture of so many bytes has at most 2 * (65536 / 29) + 2 = 4520 records, of 64 bytes each; their lines have at most 127 bytes
-// each, and the last line 138.
+// A capture of so many bytes has at most 2 * (65536 / 29) + 2 = 4520 records, of 64 bytes each;
+// their lines have at most 127 bytes each, and the last line 138.
 const RECORDS: usize = 289280;
 
 const TEXT: usize = 574178;

@@ -1,5 +1,6 @@
--- For each public function: two answers that its promise allows are equal, so are two later contents of the buffer lent, and a refusal leaves
--- it as it was. Both promise in one shape, an answer's paper and the contents. Assumes nothing.
+-- For each public function: two answers that its promise allows are equal, so are two later
+-- contents of the buffer lent, and a refusal leaves it as it was. Both promise in one shape, an
+-- answer's paper and the contents. Assumes nothing.
 use mathlib.Core.Path.{refl, sym, _∙_}
 use denote.Ref.{now}
 use Rattle.terms.specs.OneAnswer.{OneAnswer}

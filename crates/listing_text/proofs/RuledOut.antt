@@ -1,4 +1,5 @@
--- For each public function: wrong answers that its promise rules out, as tables of what is given and what is then wrong. Assumes nothing.
+-- For each public function: wrong answers that its promise rules out, as tables of what is given
+-- and what is then wrong. Assumes nothing.
 use Prim.Native.Nat.{ℕ}
 use mathlib.Core.Path.{refl}
 use mathlib.Core.List.{List, [], _∷_, _++_}
@@ -23,7 +24,8 @@ use Rattle.listing_text.specs.Whole.{recordsFrom, recordsIn, linesOf, li
 use Rattle.listing_text.proofs.put_listing.Reads as put-listing
 use Rattle.listing_text.proofs.put_listing.Kinds as put-listing-kinds
 
--- A LINE: a buffer, a place and a record. Document 01's line of the byte FF is "28 ---- 2 0 0 0 0 0".
+-- A LINE: a buffer, a place and a record. Document 01's line of the byte FF is
+-- "28 ---- 2 0 0 0 0 0".
 abbrev pub put-line-wrong : List (Row (List ℕ × (ℕ × Record)) Left)
 put-line-wrong =
     (replicate 20 7, (0, recordFF)) only left (answer 0 (20 ∷ [])) (0x32 ∷ 0x38 ∷ 0x20 ∷ 0x2D ∷ 0x2D ∷ 0x2D ∷ 0x2D ∷ 0x20 ∷ 0x32 ∷ 0x20 ∷ 0x30 ∷ 0x20 ∷ 0x30 ∷ 0x20 ∷ 0x30 ∷ 0x20 ∷ 0x30 ∷ 0x20 ∷ 0x30 ∷ 0x0A ∷ [])  -- dashes where the type is blank

@@ -1,4 +1,5 @@
--- How many digits a number has at most; and a number laid as text where there is room for them: it is laid whole.
+-- How many digits a number has at most; and a number laid as text where there is room for them: it
+-- is laid whole.
 use Prim.Native.Nat.{ℕ, _+_, _<_, _≤_, _^_}
 use mathlib.Core.Path.{_≡_, sym, ap, _∙_}
 use mathlib.Core.List.{[], _∷_}

@@ -1,4 +1,5 @@
--- The numbers of each record of document 01's walk fit their widths, so that no record loses a digit in its 64 bytes.
+-- The numbers of each record of document 01's walk fit their widths, so that no record loses a
+-- digit in its 64 bytes.
 use Prim.Native.Nat.{ℕ, zero, suc, _+_, _^_, _<_, _≤_}
 use mathlib.Core.Path.{_≡_, refl}
 use mathlib.Core.Bool.{Bool, true, false, not}

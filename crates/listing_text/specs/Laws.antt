@@ -1,4 +1,5 @@
--- Records put one behind the other are read as they were put; how long a listing is at most; and document 01's four lines.
+-- Records put one behind the other are read as they were put; how long a listing is at most; and
+-- document 01's four lines.
 use Prim.Native.Nat.{ℕ, zero, suc, _+_, _*_, _/_, _^_, _<_, _≤_}
 use mathlib.Core.Path.{_≡_, refl, sym, ap, _∙_}
 use mathlib.Core.List.{List, [], _∷_, _++_, append-assoc}
@@ -125,7 +126,8 @@ module _ (s : List ℕ) (b : Bytes s) where
       simp length-append
       (omega (arith, lines-most (recordsFrom 0 (length s / 64) s) (from-fit 0 (length s / 64)), from-many 0 (length s / 64), summary-most last (f .frames) (f .refused) (f .floor) (f .top) (f .missing)))
 
--- DOCUMENT 01'S EXAMPLE: the records of A, FF and B, and what the ledger says in the end. "the whole output is:"
+-- DOCUMENT 01'S EXAMPLE: the records of A, FF and B, and what the ledger says in the end. "the
+-- whole output is:"
 pub four-lines : listingOf (tableOf (recordA ∷ recordFF ∷ recordB ∷ [])) summary
     -- 0 S003 0 1 0 0 0 0
     ≡ 0x30 ∷ 0x20 ∷ 0x53 ∷ 0x30 ∷ 0x30 ∷ 0x33 ∷ 0x20 ∷ 0x30 ∷ 0x20 ∷ 0x31 ∷ 0x20 ∷ 0x30 ∷ 0x20 ∷ 0x30 ∷ 0x20 ∷ 0x30 ∷ 0x20 ∷ 0x30 ∷ 0x0A

@@ -44,7 +44,8 @@ pub listing : Listing
 unfolding lineOf firstColumns lastColumns summaryOf typeColumn column named blankOf decimalOf digitsOf widthIn
 listing = record { line-1 = refl; line-2 = refl; line-3 = refl; line-4 = refl }
 
--- In document 01's lines some numbers are equal. A record and a last line whose numbers all differ tell each column from every other.
+-- In document 01's lines some numbers are equal. A record and a last line whose numbers all differ
+-- tell each column from every other.
 abbrev pub recordC : Record
 recordC =
     record {

@@ -1,4 +1,5 @@
--- Document 01, "Fault records and the listing": the text of a whole listing, from the bytes of its records.
+-- Document 01, "Fault records and the listing": the text of a whole listing, from the bytes of
+-- its records.
 use Prim.Native.Nat.{ℕ, zero, suc, _+_, _*_, _/_}
 use mathlib.Core.List.{List, [], _∷_, _++_}
 use lib.ListN.{length}

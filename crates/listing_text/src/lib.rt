@@ -1,5 +1,6 @@
 // The text of the listing: a record's line, and the last line.
-// Every function takes all input. What is written is made aside first: without room nothing is written and the answer is 8.
+// Every function takes all input. What is written is made aside first: without room nothing is
+// written and the answer is 8.
 ghost use mathlib.Core.Path.{_≡_};
 ghost use Prim.Native.Nat.{_+_, _≤_, _*_};
 ghost use lib.ListN.{length, take};
@@ -36,7 +37,8 @@ fn lay_front(out: &mut [u8], at: usize, src: &[u8], n: usize) -> Written
     octets::lay(out, at, &src[..n])
 }
 
-// Writes a number and the byte after it over d from at on, and returns the place after both. No number has more than 20 digits.
+// Writes a number and the byte after it over d from at on, and returns the place after both. No
+// number has more than 20 digits.
 fn store_column(d: &mut [u8], at: usize, v: u64, behind: u8) -> usize
     requires { ⌜ at + 21 ≤ length (now d) ⌝ }
     ensures { λ e. ⌜ Stored at (column v behind) (now (d .entry)) (now (d .exit)) e × (e ≤ at + 21) ⌝ }
@@ -94,7 +96,8 @@ fn store_last(d: &mut [u8], at: usize, r: Record) -> usize
     store_column(d, c, r.top.value(), b'\n')
 }
 
-// Writes the record's line, with its newline, over out from at on, and returns how many bytes it has.
+// Writes the record's line, with its newline, over out from at on, and returns how many
+// bytes it has.
 pub fn put_line(out: &mut [u8], at: usize, r: Record) -> Written
     ensures { λ w. ⌜ (writtenPaper w ≡ roomFor at (length (lineOf r)) (length (now (out .entry)))) × (now (out .exit) ≡ laidIfRoom at (lineOf r) (now (out .entry))) ⌝ }
 {
@@ -104,7 +107,8 @@ pub fn put_line(out: &mut [u8], at: usize, r: Record) -> Written
     lay_front(out, at, &d, e)
 }
 
-// Writes a word, its number and the byte after it over d from at on, and returns the place after them.
+// Writes a word, its number and the byte after it over d from at on, and returns the
+// place after them.
 fn store_named(d: &mut [u8], at: usize, word: &[u8], v: u64, behind: u8) -> usize
     requires { ⌜ at + (length (now word) + 21) ≤ length (now d) ⌝ }
     ensures { λ e. ⌜ Stored at (named (now (word .entry)) v behind) (now (d .entry)) (now (d .exit)) e × (e ≤ at + (length (now (word .entry)) + 21)) ⌝ }
@@ -125,7 +129,8 @@ fn store_summary(d: &mut [u8], s: Summary) -> usize
     store_named(d, e, b"missing ", s.missing, b'\n')
 }
 
-// Writes the listing's last line, with its newline, over out from at on, and returns how many bytes it has.
+// Writes the listing's last line, with its newline, over out from at on, and returns how many
+// bytes it has.
 pub fn put_summary(out: &mut [u8], at: usize, s: Summary) -> Written
     ensures { λ w. ⌜ (writtenPaper w ≡ roomFor at (length (summaryOf s)) (length (now (out .entry)))) × (now (out .exit) ≡ laidIfRoom at (summaryOf s) (now (out .entry))) ⌝ }
 {
@@ -203,8 +208,9 @@ fn store(out: &mut [u8], records: &[u8], s: Summary) -> usize
     store_last(out, at, s)
 }
 
-// Writes the lines of all whole records of `records` (64 bytes each; what is left over at its end is passed over) and then the last
-// line over the front of out, and returns how many bytes that took. 8, and nothing is written, where out is shorter.
+// Writes the lines of all whole records of `records` (64 bytes each; what is left over at its end
+// is passed over) and then the last line over the front of out, and returns how many bytes that
+// took. 8, and nothing is written, where out is shorter.
 pub fn put_listing(out: &mut [u8], records: &[u8], s: Summary) -> Written
     ensures { λ w. ⌜ (writtenPaper w ≡ roomFor 0 (length (listingOf (now (records .entry)) s)) (length (now (out .entry))))
         × (now (out .exit) ≡ laidIfRoom 0 (listingOf (now (records .entry)) s) (now (out .entry))) ⌝ }

@@ -9,7 +9,8 @@ ghost use Rattle.market.specs.Papers.{faultNumber, verdictPaper};
 use digits::Decimal;
 use market_columns::Amount;
 
-// What is wrong: CR 10's numbers 40 to 47, in its order; and 8, too small a buffer, which no check gives.
+// What is wrong: CR 10's numbers 40 to 47, in its order; and 8, too small a buffer, which no
+// check gives.
 pub enum Fault {
     CutShort,
     Header,
@@ -22,7 +23,8 @@ pub enum Fault {
     Room,
 }
 
-// What a check finds: nothing wrong, and a number (the lines of a file, or the place after a part of it); or what is wrong, and where.
+// What a check finds: nothing wrong, and a number (the lines of a file, or the place after a part
+// of it); or what is wrong, and where.
 pub enum Verdict {
     Fine(usize),
     Refused(Fault, usize),
@@ -42,7 +44,8 @@ pub fn due(i: usize, last: usize) -> u8
     if i + 1 == last { 10 } else { 124 }
 }
 
-// The columns of the rows from first up to last, in s from at on: the place after them, or the first fault.
+// The columns of the rows from first up to last, in s from at on: the place after them, or the
+// first fault.
 fn line_at(s: &[u8], at: usize, first: usize, last: usize, wrong: Fault) -> Verdict
     requires { ⌜ (at ≤ length (now s)) × (last ≤ 58) ⌝ }
     ensures { λ r. ⌜ verdictPaper r ≡ lineFault (faultNumber wrong) (columns first last) at (now (s .entry)) ⌝ }
@@ -102,7 +105,8 @@ const WORDS: [u8; 27] = [
     82,
 ];
 
-// 1 where the w bytes of WORDS from start on stand in s at a place, 2 where the file ends within them, 0 else.
+// 1 where the w bytes of WORDS from start on stand in s at a place, 2 where the file ends within
+// them, 0 else.
 fn begins(s: &[u8], at: usize, start: usize, w: usize) -> u8
     requires { ⌜ (at ≤ length (now s)) × (start + w ≤ 27) ⌝ }
     ensures { λ r. ⌜ r ≡ beginsAt (wordOf start w) at (now (s .entry)) ⌝ }
@@ -120,7 +124,8 @@ fn begins(s: &[u8], at: usize, start: usize, w: usize) -> u8
     1
 }
 
-// What stands at a line's start: 1 to 4 for a line's type, 5 for the trailer, 6 for one of these cut short, 0 else.
+// What stands at a line's start: 1 to 4 for a line's type, 5 for the trailer, 6 for one of these
+// cut short, 0 else.
 fn type_at(s: &[u8], at: usize) -> u8
     requires { ⌜ at ≤ length (now s) ⌝ }
     ensures { λ r. ⌜ r ≡ typeAt at (now (s .entry)) ⌝ }

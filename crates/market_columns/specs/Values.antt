@@ -1,4 +1,5 @@
--- What a column, a line and a file say beside their constants, blanks, bars, count and sum; and the bytes made of that.
+-- What a column, a line and a file say beside their constants, blanks, bars, count and sum; and the
+-- bytes made of that.
 use Prim.Native.Nat.{ℕ, zero, suc, _+_, _-_, _<_, _≤_}
 use mathlib.Core.Path.{_≡_, refl, sym, ap, _∙_}
 use mathlib.Core.Bool.{Bool, true, false, not, _&&_, _||_}

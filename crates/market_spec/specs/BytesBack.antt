@@ -1,4 +1,5 @@
--- Values as bytes, both ways: fitting values are read back from their bytes; and values that pass fit, and give their bytes again.
+-- Values as bytes, both ways: fitting values are read back from their bytes; and values that pass
+-- fit, and give their bytes again.
 use Prim.Native.Nat.{ℕ, zero, suc, _+_, _-_, _<_, _≤_, _^_}
 use mathlib.Core.Path.{_≡_, refl, sym, ap, _∙_}
 use mathlib.Core.Bool.{Bool, true, false, not, _&&_}

@@ -1,4 +1,5 @@
--- CR 10: each of 40 to 47 given exactly when. 44 and 46 only where nothing else is wrong, 44 before 46; 47 by length alone.
+-- CR 10: each of 40 to 47 given exactly when. 44 and 46 only where nothing else is wrong, 44 before
+-- 46; 47 by length alone.
 use Prim.Native.Nat.{ℕ, _+_, _<_, _≤_}
 use mathlib.Core.Path.{_≡_, refl, sym, ap, _∙_}
 use mathlib.Core.Bool.{true, false}

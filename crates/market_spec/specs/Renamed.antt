@@ -1,5 +1,5 @@
--- CR 10, columns are "never split at bars": two files that differ in the bytes of names alone have the same answer, whatever bars
--- and newlines the names hold, unless one of the two is 46.
+-- CR 10, columns are "never split at bars": two files that differ in the bytes of names alone have
+-- the same answer, whatever bars and newlines the names hold, unless one of the two is 46.
 use Prim.Native.Nat.{ℕ, zero, suc, _+_, _-_, _<_, _≤_}
 use mathlib.Core.Path.{_≡_, refl, sym, ap, ap₂, _∙_}
 use mathlib.Core.Bool.{Bool, true, false, not, _&&_, _||_}
@@ -26,7 +26,8 @@ use Rattle.market_spec.specs.Types.{file-large, file-header, file-lines}
 use Rattle.market_spec.specs.Told.{Told, at-place, refused, line-told, type-most}
 use Rattle.market_spec.specs.Walk.{line-not}
 
--- from a line's start on: the same bytes, or a line whose type, code and all behind the name are the same, and so on
+-- from a line's start on: the same bytes, or a line whose type, code and all behind the name are
+-- the same, and so on
 pub data ButNames : List ℕ → List ℕ → Type 0 where
   alike-all : {x : List ℕ} → ButNames x x
   but-name : {x y : List ℕ} → isLine (typeAt 0 x) ≡ true → take 12 x ≡ take 12 y → drop 44 (take (lengthOf (layoutOf (typeAt 0 x))) x) ≡ drop 44 (take (lengthOf (layoutOf (typeAt 0 x))) y)

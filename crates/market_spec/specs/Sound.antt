@@ -1,5 +1,5 @@
--- CR 10: a sound file's values give "the same bytes" again. A file is sound exactly if it is made of values that fit,
--- and those are the values that are read from it.
+-- CR 10: a sound file's values give "the same bytes" again. A file is sound exactly if it is made
+-- of values that fit, and those are the values that are read from it.
 use Prim.Native.Nat.{ℕ, zero, suc, _+_, _-_, _<_, _≤_}
 use mathlib.Core.Path.{_≡_, refl, sym, ap, _∙_}
 use mathlib.Core.Bool.{Bool, true, false, not, _&&_, _||_}
@@ -31,7 +31,8 @@ use Rattle.market_spec.specs.Told.{Told, at-place, refused, not-fine, li
 use Rattle.market_spec.specs.LinesValues.{Line, isLine, textOfLine, linesText, linesFit, linesValues, LinesBack, lines-back, LinesMade, lines-made}
 use Rattle.market_spec.specs.TrailerText.{sumText, trailerText, trailer-is, trailer-bytes, trailer-made}
 
--- what a file says: of the header MDTime, MDUpdateType (sign and units) and MktStatus, then the lines. Count and sum follow from these
+-- what a file says: of the header MDTime, MDUpdateType (sign and units) and MktStatus, then the
+-- lines. Count and sum follow from these
 pub record Values : Type 0 where
   pub time : List ℕ
   pub sign : ℕ
@@ -255,7 +256,8 @@ Sound s = (n : ℕ) × (faultOf s ≡ fine n)
 abbrev pub MadeOf : List ℕ → Values → Type 0
 MadeOf s v = (valuesFit v ≡ true) × (s ≡ fileOf v)
 
--- a file is sound exactly if it is made of values that fit, and those are the ones that are read from it
+-- a file is sound exactly if it is made of values that fit, and those are the ones that are
+-- read from it
 pub sound-exactly : (s : List ℕ) → Sound s → MadeOf s (valuesOf s)
 sound-exactly s (n, p) = let b = sound-back s n p in (b .fitting, b .same-bytes)
 

@@ -1,4 +1,5 @@
--- Value bytes are read back: for a column, and for the columns of a line. And what the values of a line are that pass.
+-- Value bytes are read back: for a column, and for the columns of a line. And what the values of a
+-- line are that pass.
 use Prim.Native.Nat.{ℕ, zero, suc, _+_, _-_, _<_, _≤_, _^_}
 use mathlib.Core.Path.{_≡_, refl, sym, ap, _∙_}
 use mathlib.Core.Bool.{Bool, true, false, not, _&&_}

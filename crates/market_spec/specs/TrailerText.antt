@@ -1,4 +1,5 @@
--- The trailer both ways: where it is sound its bytes are TRAILER, a bar, the sum in three digits and a newline; and those are sound.
+-- The trailer both ways: where it is sound its bytes are TRAILER, a bar, the sum in three digits
+-- and a newline; and those are sound.
 use Prim.Native.Nat.{ℕ, zero, suc, _+_, _-_, _<_, _≤_, _^_}
 use mathlib.Core.Path.{_≡_, refl, sym, ap, _∙_}
 use mathlib.Core.Bool.{Bool, true, false, not, _&&_, _||_}

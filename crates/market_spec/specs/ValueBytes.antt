@@ -1,4 +1,5 @@
--- Values as bytes: a number has nine, its sign and its units high byte first; text and name have their own; constants and blanks none.
+-- Values as bytes: a number has nine, its sign and its units high byte first; text and name have
+-- their own; constants and blanks none.
 use Prim.Native.Nat.{ℕ, zero, suc, _+_, _-_, _<_, _≤_, _^_}
 use mathlib.Core.Path.{_≡_, refl, sym, ap, _∙_}
 use mathlib.Core.Bool.{Bool, true, false, not, _&&_, _||_}
@@ -55,7 +56,8 @@ unfoldable pub takenLine : List Column → List ℕ → List Value
 takenLine [] x = []
 takenLine (c ∷ cs) x = takenOf c x ∷ takenLine cs (drop (sizeOf c) x)
 
--- the values of the columns cs, from the place p on: 40 at the end where more is due, 43 at a value that does not fit
+-- the values of the columns cs, from the place p on: 40 at the end where more is due, 43 at a value
+-- that does not fit
 unfoldable pub takenFault : List Column → ℕ → List ℕ → Paper
 takenFault [] p s = fine p
 takenFault (c ∷ cs) p s =

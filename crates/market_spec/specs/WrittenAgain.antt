@@ -1,5 +1,5 @@
--- CR 10, both round trips over bytes: what is written from the values of a sound file is that file; and the values of a file that was
--- written are those that it was written from.
+-- CR 10, both round trips over bytes: what is written from the values of a sound file is that file;
+-- and the values of a file that was written are those that it was written from.
 use Prim.Native.Nat.{ℕ, zero, suc, _+_, _-_, _<_, _≤_, _^_, _/_}
 use mathlib.Core.Path.{_≡_, refl, sym, ap, _∙_}
 use mathlib.Core.Bool.{Bool, true, false, not, _&&_}

@@ -53,7 +53,8 @@ linesJudged s = andThen (linesTaken (length s + 1) 38 s) (λ (e : ℕ). goodOf (
 unfoldable pub judgedOf : List ℕ → Paper
 judgedOf s = andThen (valuesTaken s) (λ (e : ℕ). goodOf (valuesGiven s .lines))
 
--- THE LOOP THAT JUDGES: k lines of n bytes in all are passed, header and trailer among the bytes, and what is left gives the same answer
+-- THE LOOP THAT JUDGES: k lines of n bytes in all are passed, header and trailer among the bytes,
+-- and what is left gives the same answer
 
 pub record JudgeLeft (s : List ℕ) (p k n : ℕ) : Type 0 where
   pub inside : p ≤ length s

@@ -59,7 +59,8 @@ fn value_fits(s: &[u8], p: usize, i: usize) -> bool
     true
 }
 
-// Writes the column of row i over out from at on, made of the value that stands in s from p on and fits it.
+// Writes the column of row i over out from at on, made of the value that stands in s from p on
+// and fits it.
 fn put_column(out: &mut [u8], at: usize, s: &[u8], p: usize, i: usize)
     requires { ⌜ (at + wide (rowOf i) ≤ length (now out)) × ((p + sizeOf (rowOf i) ≤ length (now s)) × (fits (rowOf i) (takenOf (rowOf i) (drop p (now s))) ≡ true)) ⌝ }
     ensures { λ _. ⌜ now (out .exit) ≡ laid at (textOf (rowOf i) (takenOf (rowOf i) (drop p (now (s .entry))))) (now (out .entry)) ⌝ }
@@ -79,7 +80,8 @@ fn put_column(out: &mut [u8], at: usize, s: &[u8], p: usize, i: usize)
     octets::lay(out, at, &s[p..e]);
 }
 
-// The values of the rows from first up to last, in s from p on: the place after them, or the first that is cut short or does not fit.
+// The values of the rows from first up to last, in s from p on: the place after them, or the first
+// that is cut short or does not fit.
 fn values_fit(s: &[u8], at: usize, first: usize, last: usize) -> Verdict
     requires { ⌜ (at ≤ length (now s)) × (last ≤ 58) ⌝ }
     ensures { λ r. ⌜ verdictPaper r ≡ takenFault (columns first last) at (now (s .entry)) ⌝ }
@@ -100,7 +102,8 @@ fn values_fit(s: &[u8], at: usize, first: usize, last: usize) -> Verdict
     Verdict::Fine(p)
 }
 
-// Writes the line of the rows from first up to last over out from at on, made of the values that stand in s from `from` on, all of which fit.
+// Writes the line of the rows from first up to last over out from at on, made of the values that
+// stand in s from `from` on, all of which fit.
 fn put_line(out: &mut [u8], at: usize, s: &[u8], from: usize, first: usize, last: usize)
     requires { ⌜ (last ≤ 58) × ((at + lengthOf (columns first last) ≤ length (now out)) × AllFit (columns first last) from (now s)) ⌝ }
     ensures { λ _. ⌜ now (out .exit) ≡ laid at (lineText (columns first last) (takenLine (columns first last) (drop from (now (s .entry))))) (now (out .entry)) ⌝ }
@@ -154,7 +157,8 @@ fn give_column(out: &mut [u8], at: usize, s: &[u8], p: usize, i: usize)
     octets::lay(out, at, &s[p..e]);
 }
 
-// Writes the values of the rows from first up to last, a line of s from a place on with nothing wrong, over out from at on.
+// Writes the values of the rows from first up to last, a line of s from a place on with nothing
+// wrong, over out from at on.
 fn give_line(out: &mut [u8], at: usize, s: &[u8], from: usize, first: usize, last: usize)
     requires { ⌜ (last ≤ 58) × ((at + sizesOf (columns first last) ≤ length (now out)) × Right (columns first last) from (now s)) ⌝ }
     ensures { λ _. ⌜ now (out .exit) ≡ laid at (rowBytes (lineValues (columns first last) (drop from (now (s .entry))))) (now (out .entry)) ⌝ }
@@ -280,8 +284,8 @@ fn give_all(out: &mut [u8], s: &[u8])
     give_lines(out, s);
 }
 
-// Takes the values out of a file, and returns how many bytes they are. What the check refuses is refused so,
-// and where they have no room the answer is 8; nothing is written then.
+// Takes the values out of a file, and returns how many bytes they are. What the check refuses is
+// refused so, and where they have no room the answer is 8; nothing is written then.
 pub fn values(file: &[u8], out: &mut [u8]) -> Verdict
     ensures { λ r. ⌜ (verdictPaper r ≡ valuesAnswer (length (now (out .entry))) (now (file .entry))) × (now (out .exit) ≡ laidIf0 (valuesAnswer (length (now (out .entry))) (now (file .entry))) (valuesBytes (valuesOf (now (file .entry)))) (now (out .entry))) ⌝ }
 {
@@ -373,7 +377,8 @@ fn put_lines(out: &mut [u8], s: &[u8])
     }
 }
 
-// Writes the trailer over out at a place: TRAILER, a bar, the sum of all bytes up to there, a newline.
+// Writes the trailer over out at a place: TRAILER, a bar, the sum of all bytes up to
+// there, a newline.
 fn put_trailer(out: &mut [u8], at: usize)
     requires { ⌜ at + 12 ≤ length (now out) ⌝ }
     ensures { λ _. ⌜ now (out .exit) ≡ laid at (trailerText (sum8 (take (at + 8) (laid at trailerFront (now (out .entry)))))) (now (out .entry)) ⌝ }
@@ -394,8 +399,9 @@ fn put_file(out: &mut [u8], s: &[u8], n: usize, k: usize)
     put_trailer(out, n - 12);
 }
 
-// Writes the file that values make, and returns how long it is. Refused are, by rising place among the values, 40, 42 and 43;
-// then 47 for too long a file, then 8 for too small a buffer; nothing is written then.
+// Writes the file that values make, and returns how long it is. Refused are, by rising place among
+// the values, 40, 42 and 43; then 47 for too long a file, then 8 for too small a buffer; nothing is
+// written then.
 pub fn written(values: &[u8], out: &mut [u8]) -> Verdict
     ensures { λ r. ⌜ (verdictPaper r ≡ writtenAnswer (length (now (out .entry))) (now (values .entry))) × (now (out .exit) ≡ laidIf0 (writtenAnswer (length (now (out .entry))) (now (values .entry))) (fileOf (valuesGiven (now (values .entry)))) (now (out .entry))) ⌝ }
 {

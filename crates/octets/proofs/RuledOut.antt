@@ -1,4 +1,5 @@
--- For each public function: wrong answers that its promise rules out, as tables of what is given and what is then wrong. Assumes nothing.
+-- For each public function: wrong answers that its promise rules out, as tables of what is given
+-- and what is then wrong. Assumes nothing.
 use Prim.Native.Nat.{ℕ}
 use mathlib.Core.Path.{refl}
 use mathlib.Core.List.{List, [], _∷_}
@@ -103,7 +104,8 @@ pub sum-rules-out : RulesOut (Kept _ sum-kinds.ps sum-kinds.r sum.Post) (λ c. (
 unfolding sum8 sumOf
 sum-rules-out = ruled numbers (λ (i : List ℕ × (ℕ × ℕ)). sum8 (take (i .1 .1) (drop (i .1 .0) (i .0)))) (λ c p. p) _ refl
 
--- a sum, bytes, a place, a length and a byte; the sum after it was put in their places. The bytes' own sum is 0x449, kept as 0x49.
+-- a sum, bytes, a place, a length and a byte; the sum after it was put in their places. The bytes'
+-- own sum is 0x449, kept as 0x49.
 abbrev pub sum-after-wrong : List (Row (ℕ × (List ℕ × (ℕ × (ℕ × ℕ)))) ℕ)
 sum-after-wrong =
     (0x49, (bytes, (1, (2, 0x20)))) only 0xFF  -- 0x49 - 0x34 - 0x56 + 0x20 + 0x20

@@ -1,5 +1,6 @@
-// Bytes in lent slices: numbers high byte first, bytes written over bytes, a part filled, and the one-byte sum.
-// Every function takes all input. Past the end reads 0; without room nothing is written and the answer is 8.
+// Bytes in lent slices: numbers high byte first, bytes written over bytes, a part filled, and the
+// one-byte sum. Every function takes all input. Past the end reads 0; without room nothing is
+// written and the answer is 8.
 ghost use mathlib.Core.Path.{_≡_};
 ghost use Prim.Native.Nat.{_+_, _-_, _≤_, _<_, _^_, min};
 ghost use lib.Dec.{leb};
@@ -31,7 +32,8 @@ fn byte(s: &[u8], at: usize, i: usize) -> u8
     }
 }
 
-// The number in the n bytes of s from at on, all of which it has: no byte is asked for by itself, so that the compiler can load them at once.
+// The number in the n bytes of s from at on, all of which it has: no byte is asked for by itself,
+// so that the compiler can load them at once.
 fn whole_at(s: &[u8], at: usize, n: usize) -> u64
     requires { ⌜ (n ≤ 8) × (at + n ≤ length (now s)) ⌝ }
     ensures { λ r. ⌜ (r ≡ be n at (now (s .entry))) × (r < 256 ^ n) ⌝ }
@@ -174,7 +176,8 @@ pub fn fill(part: &mut [u8], b: u8)
     }
 }
 
-// The sum of the n bytes of s from at on, in one byte that rolls over; bytes past the end add nothing.
+// The sum of the n bytes of s from at on, in one byte that rolls over; bytes past the end
+// add nothing.
 pub fn sum(s: &[u8], at: usize, n: usize) -> u8
     ensures { λ r. ⌜ r ≡ sum8 (take n (drop at (now (s .entry)))) ⌝ }
 {
@@ -188,8 +191,9 @@ pub fn sum(s: &[u8], at: usize, n: usize) -> u8
     v
 }
 
-// The sum v after each of the n bytes of s from at on became b: that byte taken off, b added. Bytes past the end count for nothing.
-// Only those bytes are loaded, so that a sum that is known need not be made again.
+// The sum v after each of the n bytes of s from at on became b: that byte taken off, b added. Bytes
+// past the end count for nothing. Only those bytes are loaded, so that a sum that is known need not
+// be made again.
 pub fn sum_after(v: u8, s: &[u8], at: usize, n: usize, b: u8) -> u8
     ensures { λ r. ⌜ r ≡ sumAfter v (take n (drop at (now (s .entry)))) b ⌝ }
 {

@@ -1,4 +1,5 @@
--- Scrubbing into another buffer: when each number is given, and that what stands there is what scrubbing leaves of the frame where it stands.
+-- Scrubbing into another buffer: when each number is given, and that what stands there is what
+-- scrubbing leaves of the frame where it stands.
 use Prim.Native.Nat.{ℕ, _+_, _<_, _≤_}
 use mathlib.Core.Path.{_≡_, refl, sym, ap, _∙_}
 use mathlib.Core.Logic.{_↔_, ⊎-elim}

@@ -1,5 +1,6 @@
--- Demand 2, second half: a scrubbed frame reads, holds the fill in each private field and a checksum set anew, and has every
--- other byte of the original. And two frames that agree in all but private fields and checksum scrub to the same bytes.
+-- Demand 2, second half: a scrubbed frame reads, holds the fill in each private field and a
+-- checksum set anew, and has every other byte of the original. And two frames that agree in all but
+-- private fields and checksum scrub to the same bytes.
 use Prim.Native.Nat.{ℕ, _+_, _-_, _<_, _≤_}
 use mathlib.Core.Bool.{true}
 use mathlib.Core.Path.{_≡_, refl, sym, ap, _∙_}
@@ -294,8 +295,8 @@ module _ (d : List ℕ) (z : readOf d .number ≡ 0) where
   unfolding scrubAnswer
   answer-as n q = rw (eq-eqb (readOf d .number) 0 z, q)
 
-  -- of a frame that reads, told its own type and length: it is there, its length suits, CheckSum's last byte is its sum, and as
-  -- one of that type it is scrubbed
+  -- of a frame that reads, told its own type and length: it is there, its length suits, CheckSum's
+  -- last byte is its sum, and as one of that type it is scrubbed
   module _ (k : Kind) (n : ℕ) (p : k ≡ kindOf (msgType d)) (q : n ≡ bodyLength d) where
     pub read-there : 28 + n ≤ length d
     read-there = rw q (good d z .whole .there)

@@ -1,4 +1,5 @@
--- The private spans of document 01: where they lie, that they are few and within the body, and that they depend on public bytes alone.
+-- The private spans of document 01: where they lie, that they are few and within the body, and that
+-- they depend on public bytes alone.
 use Prim.Native.Nat.{ℕ, _+_, _-_, _<_, _≤_}
 use mathlib.Core.Path.{_≡_, refl, sym, _∙_}
 use mathlib.Core.Bool.{true, false}
@@ -251,7 +252,8 @@ pub judged-same : (k : Kind) (time : ℕ) (a b : List ℕ) → Agree (privateOf 
 unfolding judgeOf
 judged-same k time a b g = rw (fields-same k a b g)
 
--- WHAT THE LAYERS ABOVE SEE IS PUBLIC: bodies that agree outside the private spans have the same view
+-- WHAT THE LAYERS ABOVE SEE IS PUBLIC: bodies that agree outside the private spans have
+-- the same view
 pub view-same : (k : Kind) (a b : List ℕ) → Agree (privateOf k a) a b → viewOf k a ≡ viewOf k b
 unfolding viewOf
 view-same S001 a b g = refl

@@ -26,8 +26,8 @@ cleanBody s = painted (spansOf s) (body s)
 unfoldable pub summed : ℕ → List ℕ → List ℕ
 summed n d = laid n (bytesOf 4 (sum8 (take n d))) d
 
--- the buffer after scrubbing: a frame that reads is painted over and its sum set anew; else nothing changes
--- (document 01, Scrubber)
+-- the buffer after scrubbing: a frame that reads is painted over and its sum set anew; else nothing
+-- changes (document 01, Scrubber)
 unfoldable pub scrubbed : List ℕ → List ℕ
 scrubbed s = pick (reads s) (summed (24 + bodyLength s) (laid 24 (cleanBody s) s)) s
 

@@ -35,7 +35,8 @@ span-third (suc (suc i)) p q ps h = let e : suc (suc i) - 2 ≡ i = omega arith 
 pub span-second : (i : ℕ) (p q : Span) (ps : List Span) → i ≡ 1 → q ≡ spanAt i (p ∷ q ∷ ps)
 span-second i p q ps e = rw e
 
--- THE LOOP OVER THE SPANS, of a body of n bytes within d: after i of them, d is what it was with the body so far painted
+-- THE LOOP OVER THE SPANS, of a body of n bytes within d: after i of them, d is what it was with
+-- the body so far painted
 module _ (k : Kind) (n : ℕ) (d : List ℕ) (h : 24 + n ≤ length d) (m : suits k n ≡ true) where
   abbrev soFar : ℕ → List ℕ
   soFar i = painted (take i (privateOf k (bodyIn n d))) (bodyIn n d)

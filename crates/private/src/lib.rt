@@ -7,7 +7,8 @@ ghost use Rattle.private.specs.Private.{spaces, tailOf, tailSpans, priva
 use rules::Kind;
 use rules::Layout;
 
-// A private part of a body: where it starts, how many bytes it has, and the byte that replaces each of them.
+// A private part of a body: where it starts, how many bytes it has, and the byte that replaces
+// each of them.
 pub struct Span {
     pub place: usize,
     pub len: usize,

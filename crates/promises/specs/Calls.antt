@@ -1,5 +1,6 @@
--- What a call of reading, writing and scrubbing promises, in words that a demand can use: for each a record, and a lemma that whatever the
--- function may answer by the checker's promise of its `ensures` is told by that record. The demands speak of these records alone.
+-- What a call of reading, writing and scrubbing promises, in words that a demand can use: for each
+-- a record, and a lemma that whatever the function may answer by the checker's promise of its
+-- `ensures` is told by that record. The demands speak of these records alone.
 use Prim.Native.Nat.{ℕ}
 use mathlib.Core.Path.{_≡_}
 use mathlib.Core.List.{List}
@@ -29,7 +30,8 @@ use Rattle.private.specs.Scrub.{scrubbed, scrubAnswer}
 use Rattle.scrub.proofs.scrub.Reads as scrub
 use Rattle.scrub.proofs.scrub.Kinds as scrub-kinds
 
--- whatever a function may answer by its promise is told by `what`: its arguments, its answer, what it leaves in lent buffers
+-- whatever a function may answer by its promise is told by `what`: its arguments, its answer, what
+-- it leaves in lent buffers
 abbrev pub Promises : (n : ℕ) (ps : List (PK n)) (r : RK n) → Out n ps r → ((κs : Lfts n) → Dens κs ps → resT r κs .Denot → AtExit (endedOf n ps r) κs → Type 0) → Type 0
 Promises n ps r post what = (κs : Lfts n) (a : Dens κs ps) (x : resT r κs .Denot) (s : AtExit (endedOf n ps r) κs) → post κs a x s → what κs a x s
 

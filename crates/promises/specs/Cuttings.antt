@@ -1,6 +1,8 @@
--- CR 1, of every row of calls of the code on a stream that it opened, refused calls and empty cuts among them. `Row calls x`
--- says that the stream x comes of the calls, each meeting its promise. `taken` has "the joined bytes of the calls not refused", `ended` says whether
--- the closing call is among those, and `heard` has what a host then has from its buffers. No capture is too long: `answered` knows no such number.
+-- CR 1, of every row of calls of the code on a stream that it opened, refused calls and empty cuts
+-- among them. `Row calls x` says that the stream x comes of the calls, each meeting its promise.
+-- `taken` has "the joined bytes of the calls not refused", `ended` says whether the closing call is
+-- among those, and `heard` has what a host then has from its buffers. No capture is too long:
+-- `answered` knows no such number.
 use Prim.Native.Nat.{ℕ, _^_, _≤_, _<_}
 use mathlib.Core.Path.{_≡_, sym, ap, _∙_}
 use mathlib.Core.Bool.{true}
@@ -39,7 +41,8 @@ use Rattle.host_stream.proofs.Promised as Follow
 use Rattle.host_stream_spec.proofs.Cuttings.{every-host-cutting}
 use Rattle.stream.proofs.Promised.{ran-rules, ran-few, ran-heard, ran-closed, ran-number}
 
--- a place that "waits for more": `waitAt` is such a place, or the end, and every one before it lies inside a frame that was read
+-- a place that "waits for more": `waitAt` is such a place, or the end, and every one before it lies
+-- inside a frame that was read
 pub waits-for-more : (s : List ℕ) → waitAt s < length s → readOf (drop (waitAt s) s) .number ≡ 1
 waits-for-more = waits-there
 
@@ -55,7 +58,8 @@ module _ {calls : Calls} {x : Stream} (row : Row calls x) where
   taken-fits : length (taken calls) < 256 ^ 8
   taken-fits = omega (arith, every-cutting calls .places, rules-facts (after calls) (every-cutting calls .rules) .places)
 
-  -- after the closing call ledger, records and listing are those of the closed walk over the bytes taken
+  -- after the closing call ledger, records and listing are those of the closed walk over
+  -- the bytes taken
   module _ (e : ended calls ≡ true) where
     pub same-ledger : x .tally .ledger ≡ ledgerOf (literalWalk (taken calls) .ledger)
     same-ledger = ran-closed row e .1 .ledger ∙ ap (λ (w : Walk). ledgerOf (w .ledger)) (sym (literal-walk (taken calls)))
@@ -104,7 +108,8 @@ module _ {calls : Calls} {x : Stream} (row : Row calls x) where
     pub nothing-changes : (r .answer ≡ Fine → ⊥) → (r .stream ≡ x) × (d′ ≡ d)
     nothing-changes w = (refused-stream x (closes call) (cutOf call) d d′ r p w, refused-leaves x (closes call) (cutOf call) d d′ r p w)
 
--- "for every cutting", before the closing call too: the same bytes taken leave one stream, and one row of records
+-- "for every cutting", before the closing call too: the same bytes taken leave one stream, and one
+-- row of records
 pub one-outcome : {calls others : Calls} {x y : Stream} (row : Row calls x) (other : Row others y) → taken calls ≡ taken others → ended calls ≡ ended others
     → (x ≡ y) × (heard row ≡ heard other)
 one-outcome {calls} {others} row other t e =
@@ -114,7 +119,8 @@ one-outcome {calls} {others} row other t e =
 pub through-follow : {calls : Calls} {k : Lent} → Followed calls k → HostFollows calls k
 through-follow = every-host-cutting
 
--- that opening and each call of the code, by the checker's promise of its `ensures`, begin such a row and lengthen it
+-- that opening and each call of the code, by the checker's promise of its `ensures`, begin such a
+-- row and lengthen it
 data Named : Type 0 where
   named : Named
 

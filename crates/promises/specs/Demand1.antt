@@ -1,6 +1,7 @@
--- Demand 1, sentence by sentence. "Every public entry point takes all input, ends": no public function has a `requires` (the gate's
--- tools/promises looks), and the checker accepts a function only where it ends and does nothing undefined for all input that its contract
--- admits. What is left to say are the answers.
+-- Demand 1, sentence by sentence. "Every public entry point takes all input, ends": no public
+-- function has a `requires` (the gate's tools/promises looks), and the checker accepts a function
+-- only where it ends and does nothing undefined for all input that its contract admits. What is
+-- left to say are the answers.
 use Prim.Native.Nat.{ℕ, zero, suc, max}
 use mathlib.Core.Path.{_≡_, refl}
 use mathlib.Core.Bool.{Bool, true, false, _&&_, _||_}
@@ -87,8 +88,8 @@ use Rattle.step_scrub.proofs.OneAnswer as step_scrub
 use Rattle.step_tags.proofs.OneAnswer as step_tags
 use Rattle.host_market.proofs.OneAnswer as host_market
 
--- "EVERY PUBLIC ENTRY POINT TAKES ALL INPUT": of each public function, the theorem that its promise fixes the answer for all input.
--- (tools/promises compares these lists with the public functions.)
+-- "EVERY PUBLIC ENTRY POINT TAKES ALL INPUT": of each public function, the theorem that its promise
+-- fixes the answer for all input. (tools/promises compares these lists with the public functions.)
 
 -- a list of theorems: naming one that does not stand, or stands unproved, is refused
 data Named : Type 0 where
@@ -411,7 +412,8 @@ host-market-answers =
 
 -- "AND REFUSES WHAT IT CAN'T USE WITH A NUMBER FROM DOCUMENT 01"
 
--- the numbers of document 01's table, 1 to 6, 8 to 18 and 20, and of the requests: 7 (CR 6), 19 and 29 (CR 1)
+-- the numbers of document 01's table, 1 to 6, 8 to 18 and 20, and of the requests: 7 (CR 6), 19
+-- and 29 (CR 1)
 unfoldable pub inTable : ℕ → Bool
 inTable n = (leb 1 n && leb n 20) || eqb n 29
 
@@ -504,7 +506,8 @@ plain-numbered (plain.Refused w) = refused (refusal-in-table w)
 pub stream-numbered : (x : Fed) → Numbered (fedPaper x .number)
 stream-numbered x = verdict-numbered (x .answer)
 
--- "A REFUSAL WRITES NOTHING INTO A LENT BUFFER": of each function that is lent one, that its later contents are fixed, and that a refusal leaves them.
+-- "A REFUSAL WRITES NOTHING INTO A LENT BUFFER": of each function that is lent one, that its later
+-- contents are fixed, and that a refusal leaves them.
 
 octets-buffers : Named
 octets-buffers =
@@ -582,7 +585,8 @@ clean-buffers =
     let clean-refused-keeps = clean.clean-refused-keeps in
     named
 
--- of all that a function of host_frames, host_ledger and host_captures is lent: told row, words and buffer
+-- of all that a function of host_frames, host_ledger and host_captures is lent: told row,
+-- words and buffer
 host-buffers : Named
 host-buffers =
     let rk-read-one-buffer = host_frames.rk-read-one-buffer in
@@ -692,8 +696,9 @@ host-market-buffers =
     named
 
 -- "ONLY A TICK NUMBER TOO FAR AHEAD CHANGES THE LEDGER, AND ONLY ITS KNOWN TOP."
--- For every state that is passed in, sound or not, and every call of the ledger that meets its promise: a refusal other than 12 gives back the
--- very ledger; 12 gives it back with its top raised to that tick if it was lower, and nothing else changed.
+-- For every state that is passed in, sound or not, and every call of the ledger that meets its
+-- promise: a refusal other than 12 gives back the very ledger; 12 gives it back with its top raised
+-- to that tick if it was lower, and nothing else changed.
 
 pub refusals-keep-the-ledger : (l next : Ledger) (call : Call) (paper : Paper) → Promise l call next paper
     → answered paper 0 ≡ false → answered paper 12 ≡ false → next ≡ l
@@ -703,6 +708,7 @@ pub far-raises-the-top : (l next : Ledger) (channel n : ℕ) (paper : Paper) →
     → answered paper 12 ≡ true → next ≡ record { channel = l .channel; floor = l .floor; top = tickOf (max (l .top .0) n); map = l .map; pending = l .pending }
 far-raises-the-top = far-raises-top
 
--- and of any call answered 12 on any state: the top is raised to the number offered, and nothing else changes
+-- and of any call answered 12 on any state: the top is raised to the number offered, and nothing
+-- else changes
 pub far-changes-the-top-alone : (b : Book) (call : Call) → answered (answerTo b call) 12 ≡ true → OnlyTop b (nextOf b call) (offered call)
 far-changes-the-top-alone b call = keeps b call .far

@@ -1,5 +1,6 @@
--- Demand 2, sentence by sentence, of whatever the functions may answer by their promises. A list of bytes has numbers below 256 (`Bytes`), and a
--- message's numbers fit their widths (`Widths`): both hold of every value that the code can pass.
+-- Demand 2, sentence by sentence, of whatever the functions may answer by their promises. A list of
+-- bytes has numbers below 256 (`Bytes`), and a message's numbers fit their widths (`Widths`): both
+-- hold of every value that the code can pass.
 use Prim.Native.Nat.{ℕ, _+_, _-_, _<_, _≤_}
 use mathlib.Core.Path.{_≡_, refl, sym, ap, _∙_}
 use mathlib.Core.Logic.{⊎-elim, _↔_}
@@ -35,7 +36,8 @@ use Rattle.promises.specs.Calls.{Reading, Body, Writing, Searching, Scru
 small-drop : (at : ℕ) (s : List ℕ) → Bytes s → Bytes (drop at s)
 small-drop at s small i = rw (getD-drop at s i 0) (small (at + i))
 
--- "A frame reads exactly if it meets IS120 0.62 as document 01 sets it out." And each refusal is given exactly when its row says.
+-- "A frame reads exactly if it meets IS120 0.62 as document 01 sets it out." And each refusal is
+-- given exactly when its row says.
 pub record ReadsExactly (bytes : List ℕ) (at : ℕ) (x : Read) : Type 0 where
   pub meets : (readPaper x .number ≡ 0) ↔ Reads0 (drop at bytes)
   pub each-number : (n : ℕ) → (readPaper x .number ≡ n) ↔ Reads n (drop at bytes)
@@ -98,8 +100,9 @@ same-message t time q b out left x widths w z y c r p =
       body-same = p .part ∙ ap bodyRead (w .buffer) ∙ write-then-body m out widths done;
     }
 
--- "A scrubbed frame reads, holds the fill in each private field and a checksum set anew, and has every other byte of the original."
--- PrivateByte has the places outright: 0 to 63 of an S001's body, 4 to 259 of an S002's, 20 to 51 of a P002's, 45 to the end of an M201's.
+-- "A scrubbed frame reads, holds the fill in each private field and a checksum set anew, and has
+-- every other byte of the original." PrivateByte has the places outright: 0 to 63 of an S001's
+-- body, 4 to 259 of an S002's, 20 to 51 of a P002's, 45 to the end of an M201's.
 pub record ScrubbedFrame (buf left : List ℕ) (x : Written) : Type 0 where
   pub answered : writtenPaper x ≡ answer 0 ((28 + bodyLength buf) ∷ [])
   pub reads : readOf left ≡ readOf buf
@@ -129,8 +132,8 @@ pub record PassedOn (buf left : List ℕ) (x : Written) : Type 0 where
 pub passed-on : (buf left : List ℕ) (x : Written) → Scrubbing buf x left → (readOf buf .number ≡ 0 → ⊥) → PassedOn buf left x
 passed-on buf left x c n = record { number = one-number (c .paper) ∙ scrub-number buf; same = c .buffer ∙ refused-same buf n }
 
--- The search rule (document 01, Search): the lowest place from the start on where a frame reads, or none; 9 for a
--- start beyond the end.
+-- The search rule (document 01, Search): the lowest place from the start on where a frame reads, or
+-- none; 9 for a start beyond the end.
 pub record FindsLowest (bytes : List ℕ) (from : ℕ) (x : Found) : Type 0 where
   pub place : from ≤ length bytes → (p : ℕ) → (foundPaper x ≡ answer 0 (p ∷ [])) ↔ LowestPlace bytes from p
   pub none : from ≤ length bytes → (foundPaper x ≡ answer 0 []) ↔ ((j : ℕ) → from ≤ j → ReadsAt bytes j → ⊥)

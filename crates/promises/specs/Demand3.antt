@@ -1,5 +1,6 @@
--- Demand 3, of every row of calls of the code on a ledger that it opened. `Ran channel calls l h` says that the ledger l and the history h come of
--- the calls, each meeting its promise; h has the calls and their answers alone. Words.antt of `ledger_spec` tells each word from h.
+-- Demand 3, of every row of calls of the code on a ledger that it opened. `Ran channel calls l h`
+-- says that the ledger l and the history h come of the calls, each meeting its promise; h has the
+-- calls and their answers alone. Words.antt of `ledger_spec` tells each word from h.
 use Prim.Native.Nat.{ℕ, _≤_}
 use mathlib.Core.List.{List, [], _∷_}
 use mathlib.Core.Path.{_≡_}
@@ -25,8 +26,9 @@ module _ (channel : ℕ) (opens : channel ≤ 9999) {calls : Calls} {l : Ledger}
   all : Demand3 h channel (bookOf l)
   all = ran-demand-3 channel opens ran
 
-  -- "For every sequence of calls on a fresh ledger, refusals included: the numbers handed out rise, each once; every number up to the floor was either
-  -- received and delivered, or given up, never both; the floor stands just below the first number neither received nor given up."
+  -- "For every sequence of calls on a fresh ledger, refusals included: the numbers handed out rise,
+  -- each once; every number up to the floor was either received and delivered, or given up, never
+  -- both; the floor stands just below the first number neither received nor given up."
   pub handed-out : Deliveries h (bookOf l)
   handed-out = all .deliveries
 
@@ -34,8 +36,9 @@ module _ (channel : ℕ) (opens : channel ≤ 9999) {calls : Calls} {l : Ledger}
   pub the-missing : MissingNumbers h (bookOf l)
   the-missing = all .missing-numbers
 
-  -- "Asked on its own channel, the ledger gives a resend request exactly when one is missing and none is pending: the lowest unbroken run of
-  -- missing numbers, cut to its first 200." Of whatever the code may answer
+  -- "Asked on its own channel, the ledger gives a resend request exactly when one is missing and
+  -- none is pending: the lowest unbroken run of missing numbers, cut to its first 200." Of whatever
+  -- the code may answer
   pub resend-request : (next : Ledger) (paper : Paper) → Promise l (Request channel) next paper → Requests h paper
   resend-request = Ran.ran-request channel opens ran
 
@@ -50,8 +53,9 @@ module _ (channel : ℕ) (opens : channel ≤ 9999) {calls : Calls} {l : Ledger}
   pub state-rules : StateRules (bookOf l)
   state-rules = all .state-rules
 
-  -- "A number is received once its tick is answered 0": and what the code answers to a further call is told by the calls and answers before it, so that a
-  -- ledger which answers 12 to every tick, or nods after the first, does not meet it
+  -- "A number is received once its tick is answered 0": and what the code answers to a further call
+  -- is told by the calls and answers before it, so that a ledger which answers 12 to every tick, or
+  -- nods after the first, does not meet it
   pub tick-answers : (n : ℕ) (next : Ledger) (paper : Paper) → Promise l (Tick channel n) next paper → TickAnswers h n paper
   tick-answers = Ran.ran-tick channel opens ran
 
@@ -67,7 +71,8 @@ module _ (channel : ℕ) (opens : channel ≤ 9999) {calls : Calls} {l : Ledger}
   pub held-answer : (next : Ledger) (paper : Paper) → Promise l Held next paper → paper ≡ answer 0 (count (held h) (knownTop h) ∷ [])
   held-answer = Ran.ran-held channel opens ran
 
-  -- whatever a further call of the code is answered is what the ledger after the calls before it answers
+  -- whatever a further call of the code is answered is what the ledger after the calls
+  -- before it answers
   pub code-answers : (call : Call) (next : Ledger) (paper : Paper) → Promise l call next paper → paper ≡ answerTo (after channel calls) call
   code-answers = Ran.ran-paper channel opens ran
 
@@ -75,8 +80,9 @@ module _ (channel : ℕ) (opens : channel ≤ 9999) {calls : Calls} {l : Ledger}
 pub each-answer : (channel : ℕ) → channel ≤ 9999 → (calls : Calls) → Answers channel calls
 each-answer = Answered.answers
 
--- The same through the host, on the nine words that rk_ledger_open wrote: `HostRan channel calls w h` says that the words w and the history h
--- come of such calls. What rk_ledger_told then tells are the numbers of h (`host-told` of `host_ledger`).
+-- The same through the host, on the nine words that rk_ledger_open wrote: `HostRan channel calls w
+-- h` says that the words w and the history h come of such calls. What rk_ledger_told then tells are
+-- the numbers of h (`host-told` of `host_ledger`).
 pub through-the-host : (channel : ℕ) → channel ≤ 9999 → {calls : Calls} {w : List ℕ} {h : History} → HostRan channel calls w h → Demand3 h channel (bookIn w)
 through-the-host = Hosted.host-ran-demand-3
 
@@ -99,7 +105,8 @@ module _ (channel : ℕ) (opens : channel ≤ 9999) {calls : Calls} {w : List �
   pub host-reply : (first status : ℕ) (w′ : List ℕ) (a : Paper) → Called w (Reply channel first status) w′ a → ReplyAnswers h first status a
   host-reply = Hosted.host-reply channel opens ran
 
--- that opening and each call of the code, by the checker's promise of its `ensures`, are the start and the steps that `Ran` and `HostRan` are made of
+-- that opening and each call of the code, by the checker's promise of its `ensures`, are the start
+-- and the steps that `Ran` and `HostRan` are made of
 data Named : Type 0 where
   named : Named
 

@@ -1,5 +1,7 @@
--- Request 7, sentence by sentence: when the exchange has no data. Of every row of calls of the code on a ledger that it opened, and of whatever the promise of a
--- further call allows; then of the calls through the host. The words are those of GivenUp.antt and Words.antt of `ledger_spec`, told from the calls and answers alone.
+-- Request 7, sentence by sentence: when the exchange has no data. Of every row of calls of the code
+-- on a ledger that it opened, and of whatever the promise of a further call allows; then of the
+-- calls through the host. The words are those of GivenUp.antt and Words.antt of `ledger_spec`, told
+-- from the calls and answers alone.
 use Prim.Native.Nat.{ℕ, _≤_}
 use mathlib.Core.Path.{_≡_}
 use mathlib.Core.Logic.{_↔_}
@@ -21,7 +23,8 @@ use Rattle.host_ledger.specs.Called.{Called, HostRan}
 use Rattle.host_ledger.proofs.Promised as Hosted
 
 module _ (channel : ℕ) (opens : channel ≤ 9999) {calls : Calls} {l : Ledger} {h : History} (ran : Ran channel calls l h) where
-  -- status 4 gives up the numbers of the pending range "not received so far", and the answer names them
+  -- status 4 gives up the numbers of the pending range "not received so far", and the
+  -- answer names them
   pub gives-up-exactly : (first : ℕ) (next : Ledger) (paper : Paper) → Promise l (Reply channel first 4) next paper → answered paper 0 ≡ true
       → (n : ℕ) → (givesUp (Reply channel first 4) paper n ≡ true) ↔ InRange h n
   gives-up-exactly = Ran.ran-gives-up channel opens ran
@@ -48,7 +51,8 @@ pub only-4-gives-up : (b : Book) (channel first status : ℕ) → StateRules b �
     → OnlyClears b (answerTo b (Reply channel first status)) (nextOf b (Reply channel first status))
 only-4-gives-up = Book.only-4-gives-up
 
--- no asking "for ever": after a reply of status 4 no later request names a number of its range (`code-answers` of Demand3.antt has it of the code)
+-- no asking "for ever": after a reply of status 4 no later request names a number of its range
+-- (`code-answers` of Demand3.antt has it of the code)
 pub asks-no-more : (channel : ℕ) → channel ≤ 9999 → (calls : Calls) (first : ℕ) → answered (reply channel calls first 4) 0 ≡ true → (more : Calls)
     → AsksNoMore (trace channel calls) (answerTo (after channel (then (calls ▸ Reply channel first 4) more)) (Request channel))
 asks-no-more = Book.asks-no-more

@@ -1,6 +1,8 @@
--- Demand 2 through the host, where an answer is a bare number and the rest is told in a lent row: of whatever its functions may answer by their promises, as
--- `HostRead`, `HostWrote` and `HostScrubbed` of `host_frames` have it. The search rule is `HostFound`'s own. Bytes are below 256 (`Bytes`), and a message's numbers fit
--- their widths (`Widths`): both hold of every value that a host can lend.
+-- Demand 2 through the host, where an answer is a bare number and the rest is told in a lent row:
+-- of whatever its functions may answer by their promises, as `HostRead`, `HostWrote` and
+-- `HostScrubbed` of `host_frames` have it. The search rule is `HostFound`'s own. Bytes are below
+-- 256 (`Bytes`), and a message's numbers fit their widths (`Widths`): both hold of every value that
+-- a host can lend.
 use Prim.Native.Nat.{ℕ, _+_, _≤_}
 use mathlib.Core.Path.{_≡_, sym, ap, _∙_}
 use mathlib.Core.Logic.{_↔_}
@@ -26,7 +28,8 @@ use Rattle.promises.specs.Demand2.{ScrubbedFrame, scrubbed-frame}
 pub host-reads-exactly : {f : List ℕ} {x : ℕ} {row : List ℕ} → HostRead f x row → (x ≡ 0) ↔ Reads0 f
 host-reads-exactly r = r .given 0
 
--- "Writing what was read gives the same bytes": the numbers that were told of a frame, with its body, written by rk_write
+-- "Writing what was read gives the same bytes": the numbers that were told of a frame, with its
+-- body, written by rk_write
 module _ (bytes : List ℕ) (at : ℕ) {x : ℕ} {row : List ℕ} (r : HostRead (drop at bytes) x row) (z : x ≡ 0) where
   abbrev here : List ℕ
   here = drop at bytes
@@ -55,7 +58,8 @@ module _ (bytes : List ℕ) (at : ℕ) {x : ℕ} {row : List ℕ} (r : HostRead 
         rw length-told (ap (take (28 + bodyLength here)) (w .buffer ∙ ap (λ (m : Message). leftOf m d) as-read) ∙ read-then-write here d b reads h),
       )
 
--- "and reading what was written the same message": what rk_write left, read by rk_read from the front
+-- "and reading what was written the same message": what rk_write left, read by rk_read
+-- from the front
 module _ {m : Message} {d d′ : List ℕ} {x told : ℕ} (w : HostWrote m d x told d′) (z : x ≡ 0) (widths : Widths m) {y : ℕ} {row : List ℕ} (r : HostRead (drop 0 d′) y row) where
   done : writeOf m (length d) .number ≡ 0
   done = sym (one-number (w .writing)) ∙ z
@@ -70,7 +74,8 @@ module _ {m : Message} {d d′ : List ℕ} {x told : ℕ} (w : HostWrote m d x t
         ∙ sym (body-of d′ (one-number read-back)) ∙ rw (w .buffer) (write-then-body m d widths done),
   )
 
--- "A scrubbed frame reads, holds the fill in each private field and a checksum set anew, and has every other byte of the original."
+-- "A scrubbed frame reads, holds the fill in each private field and a checksum set anew, and has
+-- every other byte of the original."
 module _ {d d′ : List ℕ} {x told : ℕ} (c : HostScrubbed d x told d′) where
   scrub-answers : x ≡ readOf d .number
   scrub-answers = one-number (c .scrubbing) ∙ scrub-number d

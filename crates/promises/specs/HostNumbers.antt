@@ -1,5 +1,6 @@
--- Demand 1 through the host, where an answer is a bare number: it is 0, or one of document 01's table. `Tells` says that it is a paper's, and
--- this is said of each paper that a function of `host_frames`, `host_ledger` or `host_captures` names in its promise.
+-- Demand 1 through the host, where an answer is a bare number: it is 0, or one of document 01's
+-- table. `Tells` says that it is a paper's, and this is said of each paper that a function of
+-- `host_frames`, `host_ledger` or `host_captures` names in its promise.
 use Prim.Native.Nat.{ℕ, _+_, _/_}
 use mathlib.Core.Path.{_≡_, refl, ap}
 use mathlib.Core.Bool.{Bool, true, false, not}

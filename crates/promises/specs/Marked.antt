@@ -1,4 +1,5 @@
--- Document 01, "Marked examples": the twelve of them as one table under one theorem, computed from the definitions.
+-- Document 01, "Marked examples": the twelve of them as one table under one theorem, computed from
+-- the definitions.
 use Prim.Native.Nat.{ℕ, _+_, _-_, _^_, _<_}
 use mathlib.Core.Path.{_≡_, refl, sym, ap, _∙_}
 use mathlib.Core.Bool.{Bool, true, false}
@@ -25,7 +26,8 @@ pub data Line : Type 0 where
   call : Call → Paper → Line
   topIs : ℕ → Line
 
--- bytes read from their front, the answer, and how many bytes the frame has (0 where there is none); or lines on a fresh ledger, channel 100
+-- bytes read from their front, the answer, and how many bytes the frame has (0 where there is
+-- none); or lines on a fresh ledger, channel 100
 pub data Example : Type 0 where
   reading : List ℕ → Paper → ℕ → Example
   ledger : List Line → Example
@@ -66,7 +68,8 @@ table =
     ∷ [])
     ∷ []
 
--- lines that the definitions bear out, from a book on: each call has its answer, and the book goes on to the next line
+-- lines that the definitions bear out, from a book on: each call has its answer, and the book goes
+-- on to the next line
 pub data Plays : Book → List Line → Type 0 where
   p-end : {b : Book} → Plays b []
   p-call : {b : Book} {c : Call} {a : Paper} {lines : List Line} → answerTo b c ≡ a → Plays (nextOf b c) lines → Plays b (call c a ∷ lines)

@@ -1,6 +1,7 @@
--- The wrong programs that document 01 names, and the table of wrong answers whose row rules out each. A table is a theorem over the
--- promise itself, `NAME-rules-out` in proofs/RuledOut.antt of its crate; it is cited here, so that none can be lost unseen.
--- Each of them is also tried as an edit of the code, in must-fail/ of its crate.
+-- The wrong programs that document 01 names, and the table of wrong answers whose row rules out
+-- each. A table is a theorem over the promise itself, `NAME-rules-out` in proofs/RuledOut.antt of
+-- its crate; it is cited here, so that none can be lost unseen. Each of them is also tried as an
+-- edit of the code, in must-fail/ of its crate.
 use Rattle.frame.proofs.RuledOut as frame
 use Rattle.scrub.proofs.RuledOut as scrub
 use Rattle.ledger.proofs.RuledOut as ledger

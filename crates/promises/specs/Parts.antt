@@ -1,5 +1,6 @@
--- Bytes that were walked to a place between two frames, and the bytes behind it: the accepted frames of the whole are those of the two parts. So a
--- capture that arrives may be cleaned piece by piece. It rests on frame laws 1 and 2, not on what reading is.
+-- Bytes that were walked to a place between two frames, and the bytes behind it: the accepted
+-- frames of the whole are those of the two parts. So a capture that arrives may be cleaned piece by
+-- piece. It rests on frame laws 1 and 2, not on what reading is.
 use Prim.Native.Nat.{ℕ, zero, suc, _+_, _-_, _≤_}
 use mathlib.Core.Path.{_≡_, refl, sym, ap, ap₂, _∙_}
 use mathlib.Core.Bool.{Bool, true, false}
@@ -19,7 +20,8 @@ module _ {R : Type 0} (readOf : List ℕ → R) (saysOf : R → Says) where
   abbrev says : List ℕ → Says
   says s = saysOf (readOf s)
 
-  -- the walk comes from the mode m to the end of s, where t follows, without waiting, and stands between two frames there
+  -- the walk comes from the mode m to the end of s, where t follows, without waiting, and stands
+  -- between two frames there
   pub data Passes : Mode → List ℕ → List ℕ → Type 0 where
     p-end : {m : Mode} {t : List ℕ} → Between m → Passes m [] t
     p-on : {m : Mode} {b : ℕ} {s t : List ℕ} → waits m (says (b ∷ (s ++ t))) ≡ false → Passes (next m (says (b ∷ (s ++ t)))) s t → Passes m (b ∷ s) t
@@ -189,7 +191,8 @@ module _ {R : Type 0} (readOf : List ℕ → R) (saysOf : R → Says) where
       kept-at : (s : List ℕ) → ranOf readOf saysOf (within zero) 0 s .kept ≡ drop (at s) s
       kept-at s = let z : at s - 0 ≡ at s = omega arith in ran-kept readOf saysOf (within zero) 0 s ∙ ap (λ (n : ℕ). drop n s) z
 
-      -- behind the place where bytes s wait stand the frames between that place and the one where s and c wait, and then those behind it
+      -- behind the place where bytes s wait stand the frames between that place and the one where s
+      -- and c wait, and then those behind it
       pub piece-accepts : (s c u : List ℕ) → acceptedOf readOf saysOf (within zero) (drop (at s) ((s ++ c) ++ u))
           ≡ acceptedOf readOf saysOf (within zero) (take (at (s ++ c) - at s) (drop (at s) (s ++ c))) ++ acceptedOf readOf saysOf (within zero) (drop (at (s ++ c)) ((s ++ c) ++ u))
       piece-accepts s c u =

@@ -1,5 +1,6 @@
--- A capture that is cleaned while it arrives: each call's bytes up to the place that it tells, from the place told before. The cleaned pieces
--- are, one behind the other, the cleaned capture: no frame is lost, doubled or moved at a cut.
+-- A capture that is cleaned while it arrives: each call's bytes up to the place that it tells, from
+-- the place told before. The cleaned pieces are, one behind the other, the cleaned capture: no
+-- frame is lost, doubled or moved at a cut.
 use Prim.Native.Nat.{ℕ, zero, _+_, _-_, _≤_}
 use mathlib.Core.Path.{_≡_, refl, sym, ap, ap₂, _∙_}
 use mathlib.Core.Bool.{Bool, true, false, _&&_}
@@ -49,7 +50,8 @@ clean-piece s c u =
     ∙ each-joined scrubbed (acceptedIn piece) (acceptedIn rest)
     ∙ sym (ap₂ (λ (a b : List ℕ). a ++ b) (clean-is piece) (clean-is rest))
 
--- so far the cleaned pieces, and the bytes that wait with whatever follows, cleaned, are the whole, cleaned; after the closing call the pieces alone are
+-- so far the cleaned pieces, and the bytes that wait with whatever follows, cleaned, are the whole,
+-- cleaned; after the closing call the pieces alone are
 pub record Cleans (calls : Calls) : Type 0 where
   pub so-far : ended calls ≡ false → (u : List ℕ) → cleanedBy calls ++ cleanOf (drop (after calls .place) (taken calls ++ u)) ≡ cleanOf (taken calls ++ u)
   pub at-end : ended calls ≡ true → cleanedBy calls ≡ cleanOf (taken calls)
@@ -195,6 +197,7 @@ pub cleaned-in-pieces : (calls : Calls) → Cleans calls
 cleaned-in-pieces none = cleans-none
 cleaned-in-pieces (calls ▸ a) = cleans-more calls a (cleaned-in-pieces calls)
 
--- of the code's own calls: after the closing one the pieces, each cleaned, are the cleaned capture; and what is between them is told by the places
+-- of the code's own calls: after the closing one the pieces, each cleaned, are the cleaned capture;
+-- and what is between them is told by the places
 pub cleaned-whole : {calls : Calls} {x : Stream} → Row calls x → ended calls ≡ true → cleanedBy calls ≡ cleanOf (taken calls)
 cleaned-whole {calls} row e = cleaned-in-pieces calls .at-end e

@@ -18,7 +18,8 @@ use Rattle.reading.specs.Seen.{seenOf}
 use Rattle.walk_spec.specs.Walk.{recordBy}
 use Rattle.walk_spec.specs.FrameLaws.{refused-record}
 
--- "A FRAME'S TIME MUST BE A REAL DATE": of every frame that is read, and of every one that is written
+-- "A FRAME'S TIME MUST BE A REAL DATE": of every frame that is read, and of every one
+-- that is written
 pub read-is-real : (s : List ℕ) → readOf s .number ≡ 0 → RealTime (be 8 4 s)
 read-is-real s z = read-given-0 s .0 z .1 .before .time
 

@@ -1,5 +1,6 @@
--- Request 9, sentence by sentence: the map that does not move. `Ran` is a row of calls of the code, `OldRan` one of the code before the request, whose
--- map moved with the floor; `heldNow` and `heldOld` read the four words of each.
+-- Request 9, sentence by sentence: the map that does not move. `Ran` is a row of calls of the code,
+-- `OldRan` one of the code before the request, whose map moved with the floor; `heldNow` and
+-- `heldOld` read the four words of each.
 use Prim.Native.Nat.{ℕ, _+_, _%_, _/_, _≤_, _<_}
 use mathlib.Core.Bool.{true, false}
 use mathlib.Core.Path.{_≡_}

@@ -1,1 +1,2 @@
-// No code: the three demands, the requests that are built and the marked examples, as theorems over the crates below.
+// No code: the three demands, the requests that are built and the marked examples, as theorems over
+// the crates below.

@@ -1,4 +1,5 @@
--- Wrong answers that the promise of `see` rules out, as a table of what is given and what is then wrong. Assumes nothing.
+-- Wrong answers that the promise of `see` rules out, as a table of what is given and what is then
+-- wrong. Assumes nothing.
 use Prim.Native.Nat.{ℕ}
 use mathlib.Core.Path.{refl, ap}
 use mathlib.Core.List.{List, [], _∷_, _++_}
@@ -18,7 +19,8 @@ use Rattle.reading.specs.Seen.{seenOf}
 use Rattle.reading.proofs.see.Reads as see
 use Rattle.reading.proofs.see.Kinds as see-kinds
 
--- all that is seen: answer, MsgType, MsgSeqNum, channel, tick number, resend status, BodyLength, length
+-- all that is seen: answer, MsgType, MsgSeqNum, channel, tick number, resend status,
+-- BodyLength, length
 abbrev shown : Seen → List ℕ
 shown x = x .answer ∷ x .«msg_type» ∷ x .seq .0 ∷ x .channel .0 ∷ x .tick .0 ∷ x .status ∷ x .«body_len» ∷ x .size ∷ []
 

@@ -1,5 +1,6 @@
--- Nothing private is seen: frames that agree in all but private fields and checksum are seen alike. Records and ledger calls are made of what is
--- seen, by the types of `recordBy : Book → Sight Seen → Record` and `callsBy : Seen → List Call` of `walk_spec`: so they are alike too.
+-- Nothing private is seen: frames that agree in all but private fields and checksum are seen alike.
+-- Records and ledger calls are made of what is seen, by the types of `recordBy : Book → Sight Seen
+-- → Record` and `callsBy : Seen → List Call` of `walk_spec`: so they are alike too.
 use Prim.Native.Nat.{ℕ, _+_, _≤_}
 use mathlib.Core.Path.{_≡_, sym, ap, _∙_}
 use mathlib.Core.List.{List}

@@ -1,4 +1,5 @@
--- What the walk sees at a place: all that records, ledger, listing and figures are made of. Nothing of it is private.
+-- What the walk sees at a place: all that records, ledger, listing and figures are made of. Nothing
+-- of it is private.
 use Prim.Native.Nat.{ℕ, _+_}
 use mathlib.Core.List.{List}
 use lib.Dec.{eqb}

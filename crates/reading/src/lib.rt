@@ -7,8 +7,8 @@ use terms::ChannelNumber;
 use terms::SessionNumber;
 use terms::TickNumber;
 
-// All that a reading tells the layers above, and nothing private. A refused reading shows its number alone: four spaces,
-// and zeros. size is the frame's length, 0 where none was read.
+// All that a reading tells the layers above, and nothing private. A refused reading shows its
+// number alone: four spaces, and zeros. size is the frame's length, 0 where none was read.
 pub struct Seen {
     pub answer: u32,
     pub msg_type: u32,

@@ -1,4 +1,5 @@
--- Document 01, "Fault records and the listing": the 64 bytes of a record, and the record in 64 bytes.
+-- Document 01, "Fault records and the listing": the 64 bytes of a record, and the record
+-- in 64 bytes.
 use Prim.Native.Nat.{ℕ, _+_}
 use mathlib.Core.List.{List, _++_}
 use Rattle.terms.specs.Counters.{sessionOf, tickOf, channelOf}

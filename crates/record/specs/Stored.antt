@@ -12,7 +12,8 @@ use Rattle.octets.specs.Numerals.{length-digits}
 use Rattle.octets.specs.Overlays.{length-laid, laid-append, laid-one, take-front}
 use Rattle.octets.specs.Papers.{roomFor, laidIfRoom, laid-there}
 
--- e is d with the bytes bs laid over it from the place at on, within d, and behind them is the place `behind`
+-- e is d with the bytes bs laid over it from the place at on, within d, and behind them is the
+-- place `behind`
 pub record Stored (at : ℕ) (bs d e : List ℕ) (behind : ℕ) : Type 0 where
   pub whole : e ≡ laid at bs d
   pub ends : behind ≡ at + length bs

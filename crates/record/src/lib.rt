@@ -1,5 +1,6 @@
 // The fault record of 64 bytes, made and read back.
-// Every function takes all input. What is written is made aside first: without room nothing is written and the answer is 8.
+// Every function takes all input. What is written is made aside first: without room nothing is
+// written and the answer is 8.
 ghost use mathlib.Core.Path.{_≡_};
 ghost use Prim.Native.Nat.{_≤_};
 ghost use lib.ListN.{length};
@@ -76,7 +77,8 @@ fn front(s: &[u8]) -> Record
     }
 }
 
-// The record in the 64 bytes from at on. It judges nothing; bytes past the end count as 0, and the zero fields are passed over.
+// The record in the 64 bytes from at on. It judges nothing; bytes past the end count as 0, and the
+// zero fields are passed over.
 pub fn record_at(bytes: &[u8], at: usize) -> Record
     ensures { λ r. ⌜ r ≡ recordAt at (now (bytes .entry)) ⌝ }
 {

@@ -1,4 +1,5 @@
--- Bodies for examples: what a field holds is given, all else is fixed. A text is one byte, as often as its field is wide.
+-- Bodies for examples: what a field holds is given, all else is fixed. A text is one byte, as often
+-- as its field is wide.
 use Prim.Native.Nat.{ℕ}
 use mathlib.Core.List.{List, [], _∷_, _++_}
 use lib.ListN.{replicate}
@@ -16,7 +17,8 @@ channelBody type end = type ∷ bytesOf 2 100 ++ (bytesOf 8 3 ++ (end ∷ []))
 abbrev pub resendBody : ℕ → ℕ → ℕ → ℕ → List ℕ
 resendBody first last status text = bytesOf 2 100 ++ (1 ∷ bytesOf 8 first ++ (bytesOf 8 last ++ (status ∷ replicate 32 text)))
 
--- M102: SecurityType, the letters of the stream as one number, and the prices of two entries of 10 bytes, whose types are 5 and 6
+-- M102: SecurityType, the letters of the stream as one number, and the prices of two entries of 10
+-- bytes, whose types are 5 and 6
 abbrev pub snapshotBody : ℕ → ℕ → ℕ → ℕ → List ℕ
 snapshotBody type stream one two =
     type ∷ 1 ∷ bytesOf 4 20220314 ++ (bytesOf 4 93000000 ++ (bytesOf 5 stream ++ (replicate 56 0 ++ (bytesOf 2 2 ++ (bytesOf 2 5 ++ (bytesOf 8 one ++ (bytesOf 2 6 ++ bytesOf 8 two)))))))

@@ -1,4 +1,5 @@
--- The field rules of document 01 as tests on a body, and the checks 7 and 6. Rules.antt has the rules one by one, Meaning.antt that they agree.
+-- The field rules of document 01 as tests on a body, and the checks 7 and 6. Rules.antt has the
+-- rules one by one, Meaning.antt that they agree.
 use Prim.Native.Nat.{ℕ, zero, suc, _+_, _*_, _^_}
 use mathlib.Core.Bool.{Bool, true, false, _&&_, _||_}
 use mathlib.Core.List.{List}
@@ -108,6 +109,7 @@ fieldsOk M102 b = m102Ok b
 fieldsOk M201 b = m201Ok b
 fieldsOk Unknown b = false
 
--- what is said behind the checksum: 7 where the time is not real, then 6 where a field rule is broken
+-- what is said behind the checksum: 7 where the time is not real, then 6 where a field
+-- rule is broken
 unfoldable pub judgeOf : Kind → ℕ → List ℕ → ℕ
 judgeOf k time b = pick (realTime time) (pick (fieldsOk k b) 0 6) 7

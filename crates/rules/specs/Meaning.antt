@@ -1,4 +1,5 @@
--- The tests say the rules: each definition that a promise cites holds exactly when document 01's words do.
+-- The tests say the rules: each definition that a promise cites holds exactly when document
+-- 01's words do.
 use Prim.Native.Nat.{ℕ, zero, suc, _+_, _*_, _<_, _≤_, _^_}
 use mathlib.Core.Path.{_≡_, refl, sym, _∙_}
 use mathlib.Core.Bool.{Bool, true, false}

@@ -1,5 +1,6 @@
--- Document 01's table and field rules (Frame, paragraphs 3 to 5), a row or a rule to a line, in its order.
--- `field K i b` is field number i of the body b, counted from 0 in the table's order (Widths.antt); "n digits" is below 10 ^ n.
+-- Document 01's table and field rules (Frame, paragraphs 3 to 5), a row or a rule to a line, in its
+-- order. `field K i b` is field number i of the body b, counted from 0 in the table's order
+-- (Widths.antt); "n digits" is below 10 ^ n.
 use Prim.Native.Nat.{ℕ, _+_, _*_, _<_, _≤_, _^_}
 use mathlib.Core.Path.{_≡_}
 use mathlib.Core.Logic.{_⊎_}
@@ -51,8 +52,8 @@ pub record P001Rules (b : List ℕ) : Type 0 where
   pub appl-last-seq-num : field P001 2 b < 10 ^ 18
   pub end-of-channel : (field P001 3 b ≡ spelled "Y") ⊎ (field P001 3 b ≡ spelled "N")
 
--- P002: one resend type, a start above 0, a status up to 5 or 99; a request has no end or one "not below" its
--- start. ChannelNO 4 digits; both resend numbers at most 18.
+-- P002: one resend type, a start above 0, a status up to 5 or 99; a request has no end or one "not
+-- below" its start. ChannelNO 4 digits; both resend numbers at most 18.
 pub record P002Rules (b : List ℕ) : Type 0 where
   pub channel-no : field P002 0 b < 10 ^ 4
   pub resend-type : field P002 1 b ≡ 1
@@ -72,8 +73,8 @@ pub data Pair (t s : ℕ) : Type 0 where
   pair-13 : t ≡ 13 → s ≡ spelled "MD210" → Pair t s
   pair-14 : t ≡ 14 → s ≡ spelled "MDE01" → Pair t s
 
--- An M102 entry: 10 bytes for stream MD001, else 19 (document 01, Frame, paragraph 4). Price 13 digits, size 12,
--- position 2; its type may be any.
+-- An M102 entry: 10 bytes for stream MD001, else 19 (document 01, Frame, paragraph 4). Price 13
+-- digits, size 12, position 2; its type may be any.
 pub data EntrySize (s w : ℕ) : Type 0 where
   short : s ≡ spelled "MD001" → w ≡ 10 → EntrySize s w
   long : (s ≡ spelled "MD001" → ⊥) → w ≡ 19 → EntrySize s w
@@ -84,7 +85,8 @@ pub record EntryRules (s at : ℕ) (b : List ℕ) : Type 0 where
   pub position : (s ≡ spelled "MD001" → ⊥) → entryField 3 at b < 10 ^ 2
 
 -- M102: a mode from 1 to 3, a paired stream, "whole entries" to the body's end.
--- TradeDate 8 digits, LastUpdateTime 9, PreClosePx 13, the three totals 16. `w` is the size of an entry.
+-- TradeDate 8 digits, LastUpdateTime 9, PreClosePx 13, the three totals 16. `w` is the size
+-- of an entry.
 pub record M102Rules (w : ℕ) (b : List ℕ) : Type 0 where
   pub trad-ses-mode-low : 1 ≤ field M102 1 b
   pub trad-ses-mode : field M102 1 b ≤ 3

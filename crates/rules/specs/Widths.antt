@@ -1,5 +1,5 @@
--- Document 01's table, "Body, widths in order": a field is told by its number in that order, counted from 0, and stands
--- behind the widths before it. So no offset below is typed by hand.
+-- Document 01's table, "Body, widths in order": a field is told by its number in that order,
+-- counted from 0, and stands behind the widths before it. So no offset below is typed by hand.
 use Prim.Native.Nat.{ℕ, zero, suc, _+_}
 use mathlib.Core.Path.{_≡_, refl}
 use mathlib.Core.List.{List, [], _∷_}

@@ -1,4 +1,5 @@
-// The table of message types, and the field rules: what is checked before the checksum, and what after it.
+// The table of message types, and the field rules: what is checked before the checksum, and
+// what after it.
 ghost use mathlib.Core.Path.{_≡_};
 ghost use Rattle.rules.specs.Table.{kindPaper, typeOf, known, suits, measureOf};
 ghost use Rattle.terms.specs.Verdicts.{verdictNumber};

@@ -1,4 +1,5 @@
--- A frame laid into a buffer and scrubbed there, of `lay_scrubbed`: where the parts lie, and what then stands. Assumes nothing.
+-- A frame laid into a buffer and scrubbed there, of `lay_scrubbed`: where the parts lie, and what
+-- then stands. Assumes nothing.
 use Prim.Native.Nat.{ℕ, _+_, _-_, _≤_}
 use mathlib.Core.Path.{_≡_, refl, sym, ap, _∙_}
 use mathlib.Core.Bool.{true, false}

@@ -1,5 +1,5 @@
--- For each public function: two answers that its promise allows are equal; the lent buffer's later contents too, and a
--- refusal leaves it as it was. Assumes nothing.
+-- For each public function: two answers that its promise allows are equal; the lent buffer's later
+-- contents too, and a refusal leaves it as it was. Assumes nothing.
 use mathlib.Core.Path.{sym, _∙_}
 use denote.Ref.{now}
 use Rattle.terms.specs.OneAnswer.{OneAnswer}

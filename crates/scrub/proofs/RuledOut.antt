@@ -1,4 +1,5 @@
--- For each public function: wrong answers that its promise rules out, as tables of what is given and what is then wrong. Assumes nothing.
+-- For each public function: wrong answers that its promise rules out, as tables of what is given
+-- and what is then wrong. Assumes nothing.
 use Prim.Native.Nat.{ℕ}
 use mathlib.Core.Path.{refl}
 use mathlib.Core.List.{List, [], _∷_, _++_}
@@ -26,7 +27,8 @@ use Rattle.scrub.proofs.scrub.Kinds as scrub-kinds
 abbrev frame : ℕ → List ℕ → Left
 frame n d = left (answer 0 (n ∷ [])) d
 
--- SCRUB: the lent bytes; the answer, and the lent bytes then. Letters are private, spaces (0x20) are painted.
+-- SCRUB: the lent bytes; the answer, and the lent bytes then. Letters are private, spaces (0x20)
+-- are painted.
 abbrev pub scrub-wrong : List (Row (List ℕ) Left)
 scrub-wrong =
     logon 0x41 0x42 30 never frame 102 (logon 0x41 0x42 30)  -- a scrubber that paints nothing

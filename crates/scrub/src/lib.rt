@@ -1,4 +1,5 @@
-// The scrubber: the private fields of a frame painted over where it stands, and its checksum set anew.
+// The scrubber: the private fields of a frame painted over where it stands, and its
+// checksum set anew.
 ghost use mathlib.Core.Path.{_≡_};
 ghost use mathlib.Core.Bool.{true};
 ghost use Prim.Native.Nat.{_+_, _-_, _≤_};
@@ -15,7 +16,8 @@ use frame::Read;
 use octets::Written;
 use rules::Kind;
 
-// More spans than any type has: from the last on they are empty, and painting an empty one changes nothing.
+// More spans than any type has: from the last on they are empty, and painting an empty one
+// changes nothing.
 const SPANS: usize = 4;
 
 // Paints the bytes from a up to e: that part of the lent frame is passed on and filled.
@@ -26,8 +28,9 @@ fn paint(buf: &mut [u8], a: usize, e: usize, fill: u8)
     octets::fill(&mut buf[a..e], fill);
 }
 
-// Paints span number i of the body of n bytes that lies after the 24 header bytes of buf. v is the sum of header and body;
-// the answer is their sum then. It is worked out before the span is filled, from its bytes alone.
+// Paints span number i of the body of n bytes that lies after the 24 header bytes of buf. v is the
+// sum of header and body; the answer is their sum then. It is worked out before the span is filled,
+// from its bytes alone.
 fn paint_span(buf: &mut [u8], kind: Kind, n: usize, i: usize, v: u8) -> u8
     requires { ⌜ (24 + n ≤ length (now buf)) × ((spanIn kind n i (now buf) .place + spanIn kind n i (now buf) .len ≤ n) × (v ≡ sum8 (take (24 + n) (now buf)))) ⌝ }
     ensures { λ r. ⌜ (now (buf .exit) ≡ spanPainted (spanIn kind n i (now (buf .entry))) (now (buf .entry))) × (r ≡ sum8 (take (24 + n) (now (buf .exit)))) ⌝ }
@@ -41,7 +44,8 @@ fn paint_span(buf: &mut [u8], kind: Kind, n: usize, i: usize, v: u8) -> u8
     w
 }
 
-// Paints all spans of that body, whatever they are. v is the sum of header and body; the answer is their sum then.
+// Paints all spans of that body, whatever they are. v is the sum of header and body; the answer is
+// their sum then.
 fn paint_all(buf: &mut [u8], kind: Kind, n: usize, v: u8) -> u8
     requires { ⌜ (24 + n ≤ length (now buf)) × ((suits kind n ≡ true) × (v ≡ sum8 (take (24 + n) (now buf)))) ⌝ }
     ensures { λ r. ⌜ (now (buf .exit) ≡ laid 24 (painted (privateOf kind (bodyIn n (now (buf .entry)))) (bodyIn n (now (buf .entry)))) (now (buf .entry))) × (r ≡ sum8 (take (24 + n) (now (buf .exit)))) ⌝ }
@@ -63,7 +67,8 @@ fn store_sum(buf: &mut [u8], n: usize, v: u8)
     octets::put(buf, n, 4, v as u64);
 }
 
-// Paints the body of n bytes after the header as one of that type and sets the sum anew, from v, the sum before.
+// Paints the body of n bytes after the header as one of that type and sets the sum anew, from v,
+// the sum before.
 fn repaint(buf: &mut [u8], kind: Kind, n: usize, v: u8)
     requires { ⌜ (28 + n ≤ length (now buf)) × ((suits kind n ≡ true) × (v ≡ sum8 (take (24 + n) (now buf)))) ⌝ }
     ensures { λ _. ⌜ now (buf .exit) ≡ scrubbedAs kind n (now (buf .entry)) ⌝ }
@@ -72,9 +77,10 @@ fn repaint(buf: &mut [u8], kind: Kind, n: usize, v: u8)
     store_sum(buf, 24 + n, w);
 }
 
-// Scrubs the frame at the front of buf where it stands, and returns how many bytes it has. A refusal of reading is passed
-// on, and the buffer keeps its bytes; so do the bytes after the frame. Reading has found CheckSum right, so the new one is
-// worked out of its last byte: after reading only that byte and the private ones are loaded.
+// Scrubs the frame at the front of buf where it stands, and returns how many bytes it has. A
+// refusal of reading is passed on, and the buffer keeps its bytes; so do the bytes after the frame.
+// Reading has found CheckSum right, so the new one is worked out of its last byte: after reading
+// only that byte and the private ones are loaded.
 pub fn scrub(buf: &mut [u8]) -> Written
     ensures { λ r. ⌜ (writtenPaper r ≡ scrubAnswer (now (buf .entry))) × (now (buf .exit) ≡ scrubbed (now (buf .entry))) ⌝ }
 {
@@ -94,7 +100,8 @@ pub fn scrub(buf: &mut [u8]) -> Written
     }
 }
 
-// Paints the frame that lies from a up to e, as `repaint` does: that part of the lent buffer is passed on.
+// Paints the frame that lies from a up to e, as `repaint` does: that part of the lent buffer
+// is passed on.
 fn repaint_part(out: &mut [u8], a: usize, e: usize, kind: Kind, n: usize, v: u8)
     requires { ⌜ (a ≤ e) × ((e ≤ length (now out)) × ((28 + n ≤ e - a) × ((suits kind n ≡ true) × (v ≡ sum8 (take (24 + n) (take (e - a) (drop a (now out)))))))) ⌝ }
     ensures { λ _. ⌜ now (out .exit) ≡ laid a (scrubbedAs kind n (take (e - a) (drop a (now (out .entry))))) (now (out .entry)) ⌝ }
@@ -102,7 +109,8 @@ fn repaint_part(out: &mut [u8], a: usize, e: usize, kind: Kind, n: usize, v: u8)
     repaint(&mut out[a..e], kind, n, v);
 }
 
-// Writes the frame that was read at a place of bytes, with that type and body length, over out from `to` on, scrubbed; or returns 8.
+// Writes the frame that was read at a place of bytes, with that type and body length, over out from
+// `to` on, scrubbed; or returns 8.
 fn lay_scrubbed(bytes: &[u8], at: usize, out: &mut [u8], to: usize, kind: Kind, n: usize) -> Written
     requires { ⌜ (readOf (drop at (now bytes)) .number ≡ 0) × ((kind ≡ kindOf (msgType (drop at (now bytes)))) × (n ≡ bodyLength (drop at (now bytes)))) ⌝ }
     ensures { λ r. ⌜ (writtenPaper r ≡ intoAnswer (drop at (now (bytes .entry))) to (length (now (out .entry))))
@@ -120,8 +128,9 @@ fn lay_scrubbed(bytes: &[u8], at: usize, out: &mut [u8], to: usize, kind: Kind, 
     }
 }
 
-// Reads the frame at a place and writes it over out from `to` on, scrubbed; returns how many bytes it has. A refusal of reading is
-// passed on, and 8 is given where out has no room for it; then out keeps its bytes. So do its bytes beside the frame.
+// Reads the frame at a place and writes it over out from `to` on, scrubbed; returns how many bytes
+// it has. A refusal of reading is passed on, and 8 is given where out has no room for it; then out
+// keeps its bytes. So do its bytes beside the frame.
 pub fn scrub_into(bytes: &[u8], at: usize, out: &mut [u8], to: usize) -> Written
     ensures { λ r. ⌜ (writtenPaper r ≡ intoAnswer (drop at (now (bytes .entry))) to (length (now (out .entry))))
         × (now (out .exit) ≡ intoLeaves (drop at (now (bytes .entry))) to (now (out .entry))) ⌝ }

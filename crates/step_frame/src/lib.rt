@@ -41,8 +41,8 @@ enum Head {
     Refused(StepRefusal),
 }
 
-// What reading finds: the type, the place of the fields after the frame's start and their length, and the length of the frame.
-// A refusal carries nothing of the bytes.
+// What reading finds: the type, the place of the fields after the frame's start and their length,
+// and the length of the frame. A refusal carries nothing of the bytes.
 pub enum Read {
     Frame {
         kind: u8,
@@ -59,7 +59,8 @@ pub enum StepWritten {
     Refused(StepRefusal),
 }
 
-// What stands at a place among the fields of a message: a field with its tag, the place and the length of its value and the place after it; or none.
+// What stands at a place among the fields of a message: a field with its tag, the place and the
+// length of its value and the place after it; or none.
 pub enum Field {
     At {
         tag: u64,
@@ -282,7 +283,8 @@ fn type_at(bytes: &[u8], at: usize) -> Check
     }
 }
 
-// The checks 3 and 25 of a frame at a place whose body starts `start` bytes after it and has len bytes.
+// The checks 3 and 25 of a frame at a place whose body starts `start` bytes after it and
+// has len bytes.
 fn measured(bytes: &[u8], at: usize, start: usize, len: u64) -> Head
     requires { ⌜ (at + start ≤ length (now bytes)) × (start ≤ 23) × (start ≡ bodyStart (drop at (now bytes))) × (len ≡ bodyLength (drop at (now bytes))) ⌝ }
     ensures { λ r. ⌜ HeadSays r (orElse (longCheck (drop at (now (bytes .entry)))) (typeCheck (drop at (now (bytes .entry))))) (drop at (now (bytes .entry))) ⌝ }
@@ -478,7 +480,8 @@ fn store(kind: u8, fields: &[u8], out: &mut [u8])
     octets::lay(out, end, &trailer);
 }
 
-// Writes a message as a frame at the front of a lent buffer, and returns the frame's length. A refusal leaves every byte.
+// Writes a message as a frame at the front of a lent buffer, and returns the frame's length. A
+// refusal leaves every byte.
 pub fn write(kind: u8, fields: &[u8], out: &mut [u8]) -> StepWritten
     ensures { λ r. ⌜ (stepWrittenPaper r ≡ stepWriteOf kind (now (fields .entry)) (length (now (out .entry)))) × (now (out .exit) ≡ stepLeftOf kind (now (fields .entry)) (now (out .entry))) ⌝ }
 {

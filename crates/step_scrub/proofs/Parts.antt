@@ -1,5 +1,5 @@
--- A part of a `&mut` slice that was lent and is back, filled: as bytes laid over the slice. Assumes
--- nothing.
+-- A part of a `&mut` slice that was lent and is back, filled: as bytes laid over the slice.
+-- Assumes nothing.
 use mathlib.Core.Path.{_≡_, ap, _∙_}
 use mathlib.Core.List.{List, append-assoc}
 use Prim.Native.Nat.{ℕ, _-_, _≤_}

@@ -1,6 +1,6 @@
 -- What scrubbing promises: the length stays, the frame reads as before with the named values in
--- spaces, again changes nothing, and frames that differ in named values alone scrub to the same
--- bytes.
+-- spaces, again changes nothing, and frames that differ in named values alone scrub to
+-- the same bytes.
 use Prim.Native.Nat.{ℕ, _+_, _-_, _≤_}
 use mathlib.Core.Path.{_≡_, refl, sym, ap, _∙_}
 use mathlib.Core.Bool.{Bool, true, false}

@@ -90,7 +90,8 @@ fn store_sum(buf: &mut [u8], n: usize, sum: u8)
     digits::put_digits(buf, n + 3, 3, sum as u64);
 }
 
-// Paints the private values of the frame at the front of a lent buffer, and returns the frame's length. A refusal leaves every byte.
+// Paints the private values of the frame at the front of a lent buffer, and returns the frame's
+// length. A refusal leaves every byte.
 pub fn scrub(buf: &mut [u8]) -> StepWritten
     ensures { λ r. ⌜ (stepWrittenPaper r ≡ stepScrubOf (now (buf .entry))) × (now (buf .exit) ≡ stepScrubLeft (now (buf .entry))) ⌝ }
 {

@@ -35,8 +35,8 @@ use Rattle.step_spec.specs.Given.{At, Begins, Measures, startOf, endOf, 
 pub at-made : (ls r : List ℕ) (p : ℕ) (u : List ℕ) → drop p u ≡ ls ++ r → At ls p u
 at-made ls r p u e = e ∙ ap (λ (l : List ℕ). ls ++ l) (sym (sym (drop-drop (length ls) p u) ∙ ap (drop (length ls)) e ∙ drop-at ls r (length ls) refl))
 
--- WHAT A CHECK SAYS, where c answers 0, 1 or N of bytes that begin with s, and P is what it asks of
--- them
+-- WHAT A CHECK SAYS, where c answers 0, 1 or N of bytes that begin with s, and P is what it
+-- asks of them
 pub record Decides (N : ℕ) (c : List ℕ → ℕ) (P : List ℕ → Type 0) (s : List ℕ) : Type 0 where
   pub no-0 : N ≡ 0 → ⊥
   pub no-1 : N ≡ 1 → ⊥

@@ -1,5 +1,5 @@
--- What reads is what writing lays: each passed check taken apart, and put together again as the
--- frame.
+-- What reads is what writing lays: each passed check taken apart, and put together again
+-- as the frame.
 use Prim.Native.Nat.{ℕ, zero, suc, _+_, _-_, _<_, _≤_}
 use mathlib.Core.Path.{_≡_, refl, sym, ap, _∙_}
 use mathlib.Core.Bool.{Bool, true, false, _&&_}

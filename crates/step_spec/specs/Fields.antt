@@ -33,8 +33,8 @@ allBelow (suc n) f = allBelow n f && f n
 unfoldable pub complete : ℕ → List Bool → Bool
 complete type seen = allBelow 27 (λ (i : ℕ). not (needs type i) || getD seen i false)
 
--- the pieces fit, none of a row that is seen already, and all that the type needs are there in the
--- end
+-- the pieces fit, none of a row that is seen already, and all that the type needs are
+-- there in the end
 unfoldable pub passes : ℕ → List Bool → List (List ℕ) → Bool
 passes type seen [] = complete type seen
 passes type seen (p ∷ ps) = (fits type p && not (getD seen (rowOf (tagOf p)) false)) && passes type (set seen (rowOf (tagOf p)) true) ps

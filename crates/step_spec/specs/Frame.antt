@@ -40,8 +40,8 @@ unfoldable pub digitRun : List ℕ → ℕ
 digitRun [] = 0
 digitRun (x ∷ xs) = pick (isDigit x) (suc (digitRun xs)) 0
 
--- THE LENGTH FIELD: behind `9=` one to nine digits with no needless zero, then SOH; so ten bytes
--- decide it
+-- THE LENGTH FIELD: behind `9=` one to nine digits with no needless zero, then SOH; so ten
+-- bytes decide it
 
 abbrev pub window : List ℕ → List ℕ
 window s = take 10 (drop 13 s)
@@ -83,8 +83,8 @@ kind s = getD s (bodyStart s + 3) 0
 unfoldable pub headOf : List ℕ → ℕ
 headOf s = orElse (front 23 begin s) (orElse (front 24 lengthTag (drop 11 s)) (orElse (lengthCheck (window s)) (orElse (longCheck s) (typeCheck s))))
 
--- THE SUM: the body's last byte is SOH, and behind it stands the trailer with the sum of all bytes
--- before it
+-- THE SUM: the body's last byte is SOH, and behind it stands the trailer with the sum of all
+-- bytes before it
 
 unfoldable pub sumCheck : ℕ → List ℕ → ℕ
 sumCheck e s = pick (leb e (length s)) (pick (eqb (getD s (e - 1) 0) SOH) (front 5 (trailerOf (sum8 (take e s))) (drop e s)) 5) 1

@@ -1,7 +1,7 @@
 -- "Given exactly when", for reading and writing STEP frames: when each number is given. The
 -- conditions are paper 001's and document 02's, over bytes at their places; none cites the function
--- whose answer it explains. A check that bytes to come may still pass is 1; one that none can mend
--- is refused.
+-- whose answer it explains. A check that bytes to come may still pass is 1; one that none can
+-- mend is refused.
 use Prim.Native.Nat.{ℕ, _+_, _-_, _%_, _^_, _<_, _≤_}
 use mathlib.Core.Path.{_≡_}
 use mathlib.Core.Bool.{true, false}
@@ -43,8 +43,8 @@ pub record Types (n type : ℕ) (s : List ℕ) : Type 0 where
   pub known : among type types ≡ true
   pub text : At (typeTag ++ (type ∷ SOH ∷ [])) (startOf n) s
 
--- 5: the body is there and ends in SOH, and the trailer behind it has the sum of all bytes before
--- it
+-- 5: the body is there and ends in SOH, and the trailer behind it has the sum of all
+-- bytes before it
 pub record Sums (n : ℕ) (s : List ℕ) : Type 0 where
   pub there : endOf n ≤ length s
   pub last : getD s (endOf n - 1) 0 ≡ SOH

@@ -1,6 +1,6 @@
 -- The check 26 in words, and that the test says exactly this: the fields end in SOH; each piece is
--- a tag of the type, `=`, and a value of its form; no tag stands twice; every required one is
--- there.
+-- a tag of the type, `=`, and a value of its form; no tag stands twice; every required
+-- one is there.
 use Prim.Native.Nat.{ℕ, zero, suc, _+_, _<_, _≤_}
 use mathlib.Core.Path.{_≡_, refl, sym, ap, _∙_}
 use mathlib.Core.Bool.{Bool, true, false, not, _&&_, _||_}

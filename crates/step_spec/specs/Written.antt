@@ -12,8 +12,8 @@ use Rattle.step_spec.specs.Pieces.{SOH}
 use Rattle.step_spec.specs.Fields.{judgeOf}
 use Rattle.step_spec.specs.Frame.{begin, lengthTag, typeTag, trailerOf}
 
--- all before the trailer: `8=FIXT.1.1`, `9=` and the length of what follows it, `35=` and the type,
--- the fields
+-- all before the trailer: `8=FIXT.1.1`, `9=` and the length of what follows it, `35=` and the
+-- type, the fields
 unfoldable pub plainOf : ℕ → List ℕ → List ℕ
 plainOf type fs = begin ++ (lengthTag ++ (shownOf (length fs + 5) ++ (SOH ∷ (typeTag ++ (type ∷ SOH ∷ fs)))))
 

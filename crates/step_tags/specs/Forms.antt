@@ -1,5 +1,5 @@
--- Paper 001, 2.2.1: the forms of a value. A value lies between `=` and SOH, so text holds any byte
--- but SOH.
+-- Paper 001, 2.2.1: the forms of a value. A value lies between `=` and SOH, so text holds any
+-- byte but SOH.
 use Prim.Native.Nat.{ℕ, _+_, _*_}
 use mathlib.Core.Bool.{Bool, true, false, not, _&&_, _||_}
 use mathlib.Core.List.{List, [], _∷_}

@@ -1,5 +1,5 @@
--- For each public function: two answers that its promise allows are equal, so are two later contents of the buffer lent, and a
--- refusal leaves it as it was. Assumes nothing.
+-- For each public function: two answers that its promise allows are equal, so are two later
+-- contents of the buffer lent, and a refusal leaves it as it was. Assumes nothing.
 use mathlib.Core.Path.{sym, _∙_}
 use mathlib.Core.Bool.{true, false}
 use mathlib.Core.List.{[]}

@@ -1,5 +1,5 @@
--- What the promises that the checker makes of `feed` and `close` come to: such calls make a `Row`, and so CR 1 holds of what they hand
--- back and write. Assumes nothing.
+-- What the promises that the checker makes of `feed` and `close` come to: such calls make a `Row`,
+-- and so CR 1 holds of what they hand back and write. Assumes nothing.
 use Prim.Native.Nat.{ℕ, _*_, _≤_}
 use mathlib.Core.Path.{_≡_, refl, sym, ap, ap₂, _∙_}
 use mathlib.Core.Bool.{Bool, true, false}
@@ -32,7 +32,8 @@ use Rattle.stream.proofs.feed.Kinds as feed-kinds
 use Rattle.stream.proofs.close.Reads as close
 use Rattle.stream.proofs.close.Kinds as close-kinds
 
--- ---- the code's calls make a row: it begins with `Stream::opened` (`opened-is-opening` of `stream_spec`), and goes on with `feed` and `close`
+-- ---- the code's calls make a row: it begins with `Stream::opened` (`opened-is-opening` of
+-- `stream_spec`), and goes on with `feed` and `close`
 
 pub feed-goes-on : {calls : Calls} (κs : Lfts 2) (a : Dens κs feed-kinds.ps) (x : resT feed-kinds.r κs .Denot) (s : AtExit (endedOf 2 feed-kinds.ps feed-kinds.r) κs) → Row calls (a .0) → feed.Post κs a x s
     → Row (calls ▸ record { call = Feed (now (a .1 .0)); room = length (now (a .1 .1 .0)) }) (x .stream)
@@ -78,7 +79,8 @@ module _ {calls : Calls} {x : Stream} (row : Row calls x) where
   pub ran-heard : heard row ≡ tableOf (decided (ended calls) (taken calls))
   ran-heard = heard-given row ∙ ap tableOf (every-cutting calls .records)
 
-  -- after the closing call records, counts and ledger are the closed walk's over the joined bytes, and the store is blank
+  -- after the closing call records, counts and ledger are the closed walk's over the joined bytes,
+  -- and the store is blank
   pub ran-closed : ended calls ≡ true → (given calls ≡ walkOf (taken calls) .records) × Closed (taken calls) x
   ran-closed e = rw (ran-is row) (closing-call calls e)
 
@@ -89,7 +91,8 @@ module _ {calls : Calls} {x : Stream} (row : Row calls x) where
     unfolding answerFor
     ran-number = one-number (p .0) ∙ rw (ran-is row) (every-cutting calls .numbers call (length d))
 
-    -- where it is 0, its records stand at the front of the buffer, and behind those given before they make up what is decided
+    -- where it is 0, its records stand at the front of the buffer, and behind those given before
+    -- they make up what is decided
     pub ran-written : answered calls call (length d) ≡ 0 → (d′ ≡ laid 0 (tableOf (share (after calls) call)) d) × (given calls ++ share (after calls) call ≡ decided (ended (calls ▸ record { call = call; room = length d })) (taken (calls ▸ record { call = call; room = length d })))
     unfolding leavesFor given
     ran-written z =

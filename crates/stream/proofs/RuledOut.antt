@@ -1,4 +1,5 @@
--- For each public function: wrong answers that its promise rules out, as tables of what is given and what is then wrong. Assumes nothing.
+-- For each public function: wrong answers that its promise rules out, as tables of what is given
+-- and what is then wrong. Assumes nothing.
 use Prim.Native.Nat.{ℕ}
 use mathlib.Core.Path.{_≡_, refl, ap₂}
 use mathlib.Core.Bool.{Bool, true, false}
@@ -40,7 +41,8 @@ use Rattle.stream.proofs.feed.Kinds as feed-kinds
 use Rattle.stream.proofs.close.Reads as close
 use Rattle.stream.proofs.close.Kinds as close-kinds
 
--- what is seen of a stream: its place, the kept bytes, frames and refused; and of a call: the answer, the stream then, and the buffer then
+-- what is seen of a stream: its place, the kept bytes, frames and refused; and of a call: the
+-- answer, the stream then, and the buffer then
 abbrev seen : Stream → List ℕ
 seen x = x .place ∷ x .len ∷ x .tally .frames ∷ x .tally .refused ∷ []
 
@@ -54,7 +56,8 @@ shown p x d = (p, (seen x, d))
 both : {p q : Paper} {x y : Stream} {d e : List ℕ} → (p ≡ q) × ((x ≡ y) × (d ≡ e)) → shown p x d ≡ shown q y e
 both {p} {q} {x} {y} {d} {e} h = ap₂ (λ (a : Paper) (r : List ℕ × List ℕ). (a, r)) (h .0) (ap₂ (λ (z : Stream) (l : List ℕ). (seen z, l)) (h .1 .0) (h .1 .1))
 
--- streams behind a cut: 20 bytes of A; 29 bytes that are no frame; A and 20 bytes of B; and this one closed
+-- streams behind a cut: 20 bytes of A; 29 bytes that are no frame; A and 20 bytes of B; and
+-- this one closed
 abbrev begun : Stream
 begun = nextOf opened (Feed (take 20 A)) 0
 

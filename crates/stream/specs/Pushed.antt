@@ -1,4 +1,5 @@
--- What a push hands on: the stream behind its cut, and how many records there are with those before it.
+-- What a push hands on: the stream behind its cut, and how many records there are with
+-- those before it.
 use Prim.Native.Nat.{ℕ, _+_, _-_, _/_}
 use mathlib.Core.Path.{_≡_, ap, ap₂, _∙_}
 use mathlib.Core.Bool.{Bool, true}

@@ -1,4 +1,5 @@
-// Bytes that arrive in cuts of any size, to records, counts and ledger. CR 1: what is given equals the closed walk's, however the bytes are cut.
+// Bytes that arrive in cuts of any size, to records, counts and ledger. CR 1: what is given equals
+// the closed walk's, however the bytes are cut.
 ghost use mathlib.Core.Path.{_≡_};
 ghost use mathlib.Core.Bool.{true, false};
 ghost use Prim.Native.Nat.{_+_, _-_, _*_, _/_, _≤_, _<_, _^_};
@@ -21,7 +22,8 @@ use stream_spec::Tally;
 use terms::Refusal;
 use terms::Verdict;
 
-// How far a run over a window of bytes got: the place in it where it stopped, and what it had made by then.
+// How far a run over a window of bytes got: the place in it where it stopped, and what it had
+// made by then.
 struct Ran {
     at: usize,
     seeking: bool,
@@ -74,7 +76,8 @@ fn counted(tally: Tally, answer: u32, after: Ledger) -> Tally
     }
 }
 
-// The walk over w, whose first byte stands at the place base, as far as no place waits; its records are written from record k on.
+// The walk over w, whose first byte stands at the place base, as far as no place waits; its records
+// are written from record k on.
 fn run(
     w: &[u8],
     base: u64,
@@ -298,7 +301,8 @@ fn roomy(kept: usize, more: usize, room: usize) -> bool
     2 * ((kept + more) / 29) + 2 <= room / 64
 }
 
-// Whether so much room takes the records of a call. Where it may not, they are counted in a pass that writes nothing.
+// Whether so much room takes the records of a call. Where it may not, they are counted in a pass
+// that writes nothing.
 fn takes_all(st: Stream, cut: &[u8], closing: bool, room: usize) -> bool
     requires { ⌜ (closing ≡ true → length (now cut) ≤ 8192) × ((st .len ≤ 8191) × ((st .place + (st .len + length (now cut)) < 2 ^ 64) × (st .tally .frames + st .tally .refused ≤ st .place))) ⌝ }
     ensures { λ r. ⌜ r ≡ leb (length (givenOf st closing (now (cut .entry)))) (room / 64) ⌝ }
@@ -311,7 +315,8 @@ fn takes_all(st: Stream, cut: &[u8], closing: bool, room: usize) -> bool
     counted.count <= room / 64
 }
 
-// One call: 13, 19, 29, 8, or its records. Whether they fit is known before the first is written, so a refusal writes nothing.
+// One call: 13, 19, 29, 8, or its records. Whether they fit is known before the first is written,
+// so a refusal writes nothing.
 fn call(st: Stream, cut: &[u8], closing: bool, records: &mut [u8]) -> Fed
     requires { ⌜ (closing ≡ true → length (now cut) ≤ 8192) ⌝ }
     ensures { λ r. ⌜ (fedPaper r ≡ answerFor st closing (now (cut .entry)) (length (now (records .entry))))

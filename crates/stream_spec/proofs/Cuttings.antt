@@ -1,5 +1,6 @@
--- CR 1: every row of calls, refusals among them, gives what the closed walk gives over the joined bytes of the calls not refused. It rests on frame
--- laws 1 to 3 (`seen-kept`, `seen-fits`, `seen-enough`), not on the text of reading. Assumes nothing.
+-- CR 1: every row of calls, refusals among them, gives what the closed walk gives over the joined
+-- bytes of the calls not refused. It rests on frame laws 1 to 3 (`seen-kept`, `seen-fits`,
+-- `seen-enough`), not on the text of reading. Assumes nothing.
 use Prim.Native.Nat.{ℕ, zero, _+_, _-_, _/_, _≤_, _<_}
 use mathlib.Core.Path.{_≡_, refl, sym, ap, ap₂, _∙_}
 use mathlib.Core.Bool.{Bool, true, false, not}
@@ -107,7 +108,8 @@ whole-tally false s =
     ap (λ (xs : List (Sight Seen)). accountOf recordAt tallyAfter freshTally xs .ledger) (ran-below seenOf saysOf (within zero) 0 s)
     ∙ ap (λ (a : Account Tally Record). a .ledger) (account-is (below (waitAt s) (sights s)))
 
--- it keeps the bytes from the place on where it stands, before the closing call the first that waits
+-- it keeps the bytes from the place on where it stands, before the closing call the
+-- first that waits
 whole-kept : (closing : Bool) (s : List ℕ) → whole closing s .stream .kept ≡ drop (whole closing s .stream .place) s
 unfolding Cuts.feedOf
 whole-kept closing s =
@@ -323,7 +325,8 @@ closing-call calls e =
     let s = same calls in
     (every-cutting calls .records ∙ rw e, rw (s .stream, e) (closed-value (taken calls)))
 
--- bytes cut in any way leave one stream: it is told from the bytes taken, and from whether it is closed
+-- bytes cut in any way leave one stream: it is told from the bytes taken, and from whether
+-- it is closed
 pub one-state : (calls others : Calls) → taken calls ≡ taken others → ended calls ≡ ended others → after calls ≡ after others
 one-state calls others t e = same calls .stream ∙ rw (t, e) (sym (same others .stream))
 

@@ -1,4 +1,5 @@
--- When each number is given, both ways, for every stream. A row of checks answers m where those before pass and the one of m fails. Assumes nothing.
+-- When each number is given, both ways, for every stream. A row of checks answers m where those
+-- before pass and the one of m fails. Assumes nothing.
 use Prim.Native.Nat.{ℕ, _+_, _/_, _≤_, _<_}
 use mathlib.Core.Path.{_≡_, refl, sym, _∙_}
 use mathlib.Core.Logic.{_↔_}

@@ -13,7 +13,8 @@ use Rattle.stream_spec.specs.State as State
 use Rattle.stream_spec.proofs.Stream.opened.Reads as stream-opened
 use Rattle.stream_spec.proofs.Stream.opened.Kinds as stream-opened-kinds
 
--- place, whether it seeks and is closed, how many bytes are kept, frames, refused, the ledger's channel
+-- place, whether it seeks and is closed, how many bytes are kept, frames, refused, the
+-- ledger's channel
 abbrev seen : Stream → List ℕ
 seen x = x .place ∷ pick (x .seeking) 1 0 ∷ pick (x .closed) 1 0 ∷ x .len ∷ x .tally .frames ∷ x .tally .refused ∷ x .tally .ledger .channel .0 ∷ []
 

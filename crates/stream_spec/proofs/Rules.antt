@@ -1,5 +1,5 @@
--- The state rules: the code's test passes exactly where the facts hold; opening keeps them, and so does every call, refused or not, on any stream
--- that keeps them. Assumes nothing.
+-- The state rules: the code's test passes exactly where the facts hold; opening keeps them, and so
+-- does every call, refused or not, on any stream that keeps them. Assumes nothing.
 use Prim.Native.Nat.{ℕ, zero, suc, _+_, _-_, _≤_}
 use mathlib.Core.Path.{_≡_, refl, ap, _∙_}
 use mathlib.Core.Bool.{Bool, true, false, _&&_, not}

@@ -1,4 +1,5 @@
--- The stream's tally is the walk's ledger and counts: its ledger is sound, so the code's ledger and its book are one. Assumes nothing.
+-- The stream's tally is the walk's ledger and counts: its ledger is sound, so the code's ledger and
+-- its book are one. Assumes nothing.
 use Prim.Native.Nat.{ℕ, _+_}
 use mathlib.Core.Path.{_≡_, refl, ap, _∙_}
 use mathlib.Core.Bool.{true}

@@ -1,4 +1,5 @@
--- The calls of a stream: what each is answered, the stream after it, and what it leaves in the lent buffer. CR 1.
+-- The calls of a stream: what each is answered, the stream after it, and what it leaves in the lent
+-- buffer. CR 1.
 use Prim.Native.Nat.{ℕ, _+_, _/_}
 use mathlib.Core.Bool.{Bool, true, false, not}
 use mathlib.Core.List.{List, [], _∷_}
@@ -68,7 +69,8 @@ nextFor x closing cut room = pick (eqb (numberFor x closing cut room) 0) (behind
 unfoldable pub leavesFor : Stream → Bool → List ℕ → List ℕ → List ℕ
 leavesFor x closing cut d = pick (eqb (numberFor x closing cut (length d)) 0) (laid 0 (tableOf (givenOf x closing cut)) d) d
 
--- the same by the call: its records, its number, its answer, the stream after it, and what it leaves in the buffer
+-- the same by the call: its records, its number, its answer, the stream after it, and what it
+-- leaves in the buffer
 abbrev pub share : Stream → Call → List Record
 share x call = givenOf x (closes call) (cutOf call)
 

@@ -1,5 +1,6 @@
--- When a call on any stream, sound or not, is answered 0, 8, 19 or 29: a record for each number. The checks before it in their order pass, and its own
--- fails. proofs/Given.antt proves each by a theorem `given-N`, both ways.
+-- When a call on any stream, sound or not, is answered 0, 8, 19 or 29: a record for each number.
+-- The checks before it in their order pass, and its own fails. proofs/Given.antt proves each by a
+-- theorem `given-N`, both ways.
 use Prim.Native.Nat.{ℕ, _+_, _*_, _≤_, _<_}
 use mathlib.Core.Path.{_≡_}
 use mathlib.Core.Bool.{true, false}

@@ -1,4 +1,5 @@
--- The state rules: the test that the code computes, check by check, and that it passes exactly where the facts hold.
+-- The state rules: the test that the code computes, check by check, and that it passes exactly
+-- where the facts hold.
 use Prim.Native.Nat.{ℕ, suc, _+_, _-_, _≤_, _<_}
 use mathlib.Core.Path.{_≡_, refl, sym, ap, ap₂, _∙_}
 use mathlib.Core.Bool.{Bool, true, false, _&&_, not}

@@ -1,5 +1,6 @@
--- A row of calls on a stream just opened, refusals among them; and what its calls gave and took, told from the answers that the definitions
--- give. That the code gives these is `ran-number` of `stream`.
+-- A row of calls on a stream just opened, refusals among them; and what its calls gave and took,
+-- told from the answers that the definitions give. That the code gives these is `ran-number`
+-- of `stream`.
 use Prim.Native.Nat.{ℕ, _*_}
 use mathlib.Core.Path.{_≡_}
 use mathlib.Core.Bool.{Bool, false, _&&_}
@@ -56,7 +57,8 @@ pub data Row : Calls → Stream → Type 0 where
   one-more : {calls : Calls} {x : Stream} (call : Call) (d d′ : List ℕ) (r : Fed) → Row calls x → Promised x (closes call) (cutOf call) d d′ r
       → Row (calls ▸ record { call = call; room = length d }) (r .stream)
 
--- what a host then has, if it sets aside what each call says it wrote: the first 64 bytes of its buffer for each record, joined
+-- what a host then has, if it sets aside what each call says it wrote: the first 64 bytes of its
+-- buffer for each record, joined
 abbrev pub heard : {calls : Calls} {x : Stream} → Row calls x → List ℕ
 heard (opening e) = []
 heard (one-more call d d′ r row p) = heard row ++ take (64 * r .records) d′

@@ -1,4 +1,5 @@
--- The window of a push: the kept bytes and the piece behind them; and what a run over it leaves, in front of zeros.
+-- The window of a push: the kept bytes and the piece behind them; and what a run over it leaves, in
+-- front of zeros.
 use Prim.Native.Nat.{ℕ, zero, suc, _+_, _-_, _≤_, _<_}
 use mathlib.Core.Path.{_≡_, refl, sym, ap, _∙_}
 use mathlib.Core.Bool.{Bool, true, false}

@@ -21,8 +21,8 @@ use Rattle.stream_spec.specs.State.{lastPlace, headOf, soundOf}
 use Rattle.stream_spec.specs.Calls.{Call, cutOf, closes, numberTo}
 use Rattle.stream_spec.specs.Trace.{Calls, after, given, taken, ended}
 
--- a place that "waits for more": the first place of the walk over s, read or tried by the search, that answers 1; the end where
--- none does
+-- a place that "waits for more": the first place of the walk over s, read or tried by the search,
+-- that answers 1; the end where none does
 abbrev pub waitAt : List ℕ → ℕ
 waitAt s = waitOf seenOf saysOf (within zero) 0 s
 
@@ -31,7 +31,8 @@ unfoldable pub recordsBelow : ℕ → List Record → List Record
 recordsBelow w [] = []
 recordsBelow w (r ∷ rs) = pick (ltb (r .place) w) (r ∷ recordsBelow w rs) []
 
--- the records that bytes s decide: before the closing call those of the closed walk up to the first place that waits, then all
+-- the records that bytes s decide: before the closing call those of the closed walk up to the first
+-- place that waits, then all
 unfoldable pub decided : Bool → List ℕ → List Record
 decided true s = walkOf s .records
 decided false s = recordsBelow (waitAt s) (walkOf s .records)
@@ -45,8 +46,8 @@ readings false s = below (waitAt s) (sights s)
 abbrev pub tallied : List (Sight Seen) → Tally
 tallied xs = record { frames = framesOf xs; refused = refusedOf xs; ledger = ledgerOf (accountOf recordBy bookBy (fresh 100) xs .ledger) }
 
--- the number of one more call: 19 after the closing one; 29 where the joined length would pass 64 bits; 8 where its share of the records does
--- not fit; 0 else, and never 13
+-- the number of one more call: 19 after the closing one; 29 where the joined length would pass 64
+-- bits; 8 where its share of the records does not fit; 0 else, and never 13
 unfoldable pub answered : Calls → Call → ℕ → ℕ
 answered calls call room =
     pick (ended calls) 19
@@ -62,7 +63,8 @@ pub record Follows (calls : Calls) : Type 0 where
   pub tally : after calls .tally ≡ tallied (readings (ended calls) (taken calls))
   -- each number from the bytes alone
   pub numbers : (call : Call) (room : ℕ) → numberTo (after calls) call room ≡ answered calls call room
-  -- "at most 8,191 bytes" wait; they are the last of the bytes taken, from the first place that waits on
+  -- "at most 8,191 bytes" wait; they are the last of the bytes taken, from the first place
+  -- that waits on
   pub few : after calls .len ≤ 8191
   pub places : after calls .place + after calls .len ≡ length (taken calls)
   pub keeps-last : headOf (after calls .len) (after calls .kept) ≡ drop (after calls .place) (taken calls)

@@ -1,5 +1,5 @@
-// A stream between two calls, and its opening. The definitions of its calls stand in specs/, and CR 1's theorems over them in proofs/; the
-// crate `stream` makes the calls.
+// A stream between two calls, and its opening. The definitions of its calls stand in specs/, and CR
+// 1's theorems over them in proofs/; the crate `stream` makes the calls.
 ghost use mathlib.Core.Path.{_≡_};
 ghost use Rattle.stream_spec.specs.State.{opened};
 use ledger::Ledger;
@@ -13,7 +13,8 @@ pub struct Tally {
     pub ledger: Ledger,
 }
 
-// What stands between two calls. The fields are open, so that a host can keep it and hand it in again; a broken one is refused by 13.
+// What stands between two calls. The fields are open, so that a host can keep it and hand it in
+// again; a broken one is refused by 13.
 pub struct Stream {
     // Of the first kept byte; of the next byte to come, where none is kept.
     pub place: u64,
@@ -26,7 +27,8 @@ pub struct Stream {
     pub tally: Tally,
 }
 
-// How many records this call gave, 0 beside a refusal; and the stream after it, the very one that was passed in beside a refusal.
+// How many records this call gave, 0 beside a refusal; and the stream after it, the very one that
+// was passed in beside a refusal.
 pub struct Fed {
     pub answer: Verdict,
     pub records: usize,

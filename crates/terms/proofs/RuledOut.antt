@@ -1,4 +1,5 @@
--- For each public function: wrong answers that its promise rules out, as tables of what is given and what is then wrong. Assumes nothing.
+-- For each public function: wrong answers that its promise rules out, as tables of what is given
+-- and what is then wrong. Assumes nothing.
 use Prim.Native.Nat.{ℕ}
 use mathlib.Core.Path.{refl, ap}
 use mathlib.Core.List.{List, [], _∷_}
@@ -29,7 +30,8 @@ use Rattle.terms.proofs.Refusal.number.Kinds as number-kinds
 use Rattle.terms.proofs.Verdict.number.Reads as verdict-number
 use Rattle.terms.proofs.Verdict.number.Kinds as verdict-number-kinds
 
--- THE COUNTERS: a number, and the counter that is made of it; a counter, and its number. All are wrong in the same ways.
+-- THE COUNTERS: a number, and the counter that is made of it; a counter, and its number. All are
+-- wrong in the same ways.
 abbrev pub counter-wrong : List (Row ℕ ℕ)
 counter-wrong =
     7 only 7  -- not one more, not halved, no fixed number

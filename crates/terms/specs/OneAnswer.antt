@@ -1,5 +1,6 @@
 -- Document 01, "How the promises are judged": two answers that one promise allows are equal.
--- `Post` is the promise that the checker makes of a function's `ensures`: so these can't drift from it.
+-- `Post` is the promise that the checker makes of a function's `ensures`: so these can't
+-- drift from it.
 use Prim.Native.Nat.{ℕ}
 use mathlib.Core.Path.{_≡_}
 use mathlib.Core.List.{List}

@@ -1,5 +1,6 @@
--- Document 01, "How the promises are judged", for a function that is lent a buffer: two contents of it that one promise allows
--- are equal, and a refusal leaves it as it was. `Post` is the promise that the checker makes of a function's `ensures`.
+-- Document 01, "How the promises are judged", for a function that is lent a buffer: two contents of
+-- it that one promise allows are equal, and a refusal leaves it as it was. `Post` is the promise
+-- that the checker makes of a function's `ensures`.
 use Prim.Native.Nat.{ℕ}
 use mathlib.Core.Path.{_≡_}
 use mathlib.Core.List.{List}

@@ -1,4 +1,5 @@
--- An answer as document 01 puts it: its number, then the values that stand beside it. And the one choice that all definitions use.
+-- An answer as document 01 puts it: its number, then the values that stand beside it. And the one
+-- choice that all definitions use.
 use Prim.Native.Nat.{ℕ}
 use mathlib.Core.Path.{_≡_, ap}
 use mathlib.Core.Bool.{Bool, true, false}

@@ -1,5 +1,6 @@
--- Document 01, "How the promises are judged": wrong answers that a promise rules out, a row each. A row is over the promise itself, `Post`,
--- which the checker makes of a function's `ensures`: so it can't drift from it, and it says nothing of how the function is written.
+-- Document 01, "How the promises are judged": wrong answers that a promise rules out, a row each. A
+-- row is over the promise itself, `Post`, which the checker makes of a function's `ensures`: so it
+-- can't drift from it, and it says nothing of how the function is written.
 use Prim.Native.Nat.{ℕ, _<_}
 use mathlib.Core.Path.{_≡_, refl, sym, ap, ap₂, _∙_}
 use mathlib.Core.Bool.{Bool, true, false, _&&_, not}
@@ -14,7 +15,8 @@ use Rattle.terms.specs.Paper.{Paper, answer}
 use Rattle.terms.specs.Cases.{clash}
 
 infix 80 _never_ _only_
--- a row: what a function is given, and an outcome that is wrong there, or the one beside which every other is wrong
+-- a row: what a function is given, and an outcome that is wrong there, or the one beside which
+-- every other is wrong
 pub data Row (I O : Type 0) : Type 0 where
   _never_ : I → O → Row I O
   _only_ : I → O → Row I O
@@ -53,7 +55,8 @@ module _ {C I O : Type 0} (kept : C → Type 0) (sees : C → I) (shows : C → 
     pub two : 1 < length rows
     pub each : AllHold rows
 
--- HOW A TABLE IS PROVED: where a promise says that the outcome is f of the input, f is computed at each row
+-- HOW A TABLE IS PROVED: where a promise says that the outcome is f of the input, f is
+-- computed at each row
 
 -- a test that tells outcomes apart
 pub record Telling (O : Type 0) : Type 0 where

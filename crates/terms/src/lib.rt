@@ -1,4 +1,5 @@
-// The words that all crates share: the three counters that the source keeps apart, and the refusals of document 01.
+// The words that all crates share: the three counters that the source keeps apart, and the refusals
+// of document 01.
 ghost use mathlib.Core.Path.{_≡_};
 ghost use Rattle.terms.specs.Counters.{sessionOf, tickOf, channelOf};
 ghost use Rattle.terms.specs.Refusals.{numberOf};
@@ -61,8 +62,8 @@ impl ChannelNumber {
     }
 }
 
-// Why something is refused: a case for each row of document 01's table but 0, in its order, and for the numbers that the requests
-// add. (The rows "type" and "number" are MsgType and Range here.)
+// Why something is refused: a case for each row of document 01's table but 0, in its order, and for
+// the numbers that the requests add. (The rows "type" and "number" are MsgType and Range here.)
 pub enum Refusal {
     More,
     MsgType,

@@ -1,4 +1,5 @@
--- Digits one by one: what `bitOr`, a shift, a run, the trailing zeros and a count say of each digit. Assumes nothing.
+-- Digits one by one: what `bitOr`, a shift, a run, the trailing zeros and a count say of each
+-- digit. Assumes nothing.
 use mathlib.Core.Path.{_≡_, refl, sym, ap, ap₂, _∙_, subst}
 use mathlib.Core.Logic.{_⊎_, inl, inr}
 use Prim.Native.Nat.{ℕ, zero, suc, _+_, _-_, _*_, _/_, _%_, _^_, _≤_, _<_, suc-le-suc, max}
@@ -82,7 +83,8 @@ bit-set-same m i = bit-or m (2 ^ i) i ∙ omega (arith, bit-pow-same i, bit-lt m
 pub bit-set-other : (m i j : ℕ) → (j ≡ i → ⊥) → bit (bitOr m (2 ^ i)) j ≡ bit m j
 bit-set-other m i j n = bit-or m (2 ^ i) j ∙ omega (arith, bit-pow-other i j n)
 
--- ---- a scan: every digit that it passes has the value that goes on, and the one where it stops has not
+-- ---- a scan: every digit that it passes has the value that goes on, and the one where it
+-- stops has not
 module _ (on : ℕ) (f s : ℕ → ℕ → ℕ) (s-zero : (m : ℕ) → s zero m ≡ zero) (s-suc : (k m : ℕ) → s (suc k) m ≡ f (m % 2) (s k (m / 2)))
     (f-is : (d : ℕ) → d < 2 → ((d ≡ on) × ((t : ℕ) → f d t ≡ suc t)) ⊎ ((d ≡ 1 - on) × ((t : ℕ) → f d t ≡ zero))) where
   pub scan-passed : (k m i : ℕ) → i < s k m → bit m i ≡ on

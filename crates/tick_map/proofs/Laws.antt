@@ -1,4 +1,5 @@
--- Laws of digits that `lib.Count`, `lib.Bits` and `lib.Pow` lack: digits of a number in two parts, runs and complements. Assumes nothing.
+-- Laws of digits that `lib.Count`, `lib.Bits` and `lib.Pow` lack: digits of a number in two parts,
+-- runs and complements. Assumes nothing.
 use mathlib.Core.Path.{_≡_, refl, sym, ap, ap₂, _∙_, subst}
 use mathlib.Core.Logic.{_⊎_, inl, inr}
 use Prim.Native.Nat.{ℕ, zero, suc, _+_, _-_, _*_, _/_, _%_, _^_, _≤_, _<_, zero-le, suc-le-suc}
@@ -45,8 +46,8 @@ parts-lt {a} {r} j k p q =
 pub half-lt : {n : ℕ} (k : ℕ) → n < 2 ^ suc k → n / 2 < 2 ^ k
 half-lt {n} k h = let e : 2 ^ suc k ≡ 2 ^ k * 2 = pow-suc 2 k in omega arith
 
--- A scan counts digits from the lowest up until one stops it: `f d t` is `suc t` at a digit d that goes on, and zero at one that stops.
--- `trailingZeros` and `run` are the two scans.
+-- A scan counts digits from the lowest up until one stops it: `f d t` is `suc t` at a digit d that
+-- goes on, and zero at one that stops. `trailingZeros` and `run` are the two scans.
 module _ (f : ℕ → ℕ → ℕ) (s : ℕ → ℕ → ℕ) (s-zero : (m : ℕ) → s zero m ≡ zero) (s-suc : (k m : ℕ) → s (suc k) m ≡ f (m % 2) (s k (m / 2)))
     (f-is : (d : ℕ) → ((t : ℕ) → f d t ≡ suc t) ⊎ ((t : ℕ) → f d t ≡ zero)) where
   -- what a scan says of each digit

@@ -1,4 +1,5 @@
--- One place more is one more, passed by the run or held behind it: what is counted does not get lost on a shift. Assumes nothing.
+-- One place more is one more, passed by the run or held behind it: what is counted does not get
+-- lost on a shift. Assumes nothing.
 use mathlib.Core.Path.{_≡_, refl, sym, ap, ap₂, _∙_, subst}
 use Prim.Native.Nat.{ℕ, zero, suc, _+_, _-_, _/_, _^_, _≤_, _<_, suc-le-suc}
 use native.Mathlib.Nat.{zero-lt-suc, le-of-suc-le-suc, not-suc-le-zero}

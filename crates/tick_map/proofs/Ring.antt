@@ -1,4 +1,5 @@
--- A map whose places do not move, read round from a place: its digits, its count, its scans. Assumes nothing.
+-- A map whose places do not move, read round from a place: its digits, its count, its scans.
+-- Assumes nothing.
 use mathlib.Core.Path.{_≡_, refl, sym, ap, ap₂, _∙_, subst}
 use mathlib.Core.Bool.{Bool, true, false, _&&_, not}
 use mathlib.Core.List.{List}
@@ -158,7 +159,8 @@ trailing-is k m z h passed stopped =
     late : trailingZeros k m < z → ⊥
     late l = let b : trailingZeros k m < k = omega arith in omega (arith, passed (trailingZeros k m) l, trailing-stopped k m b)
 
--- place s is clear, and none is held but the k from s round, exactly where the scan from behind those passes all others and then place s
+-- place s is clear, and none is held but the k from s round, exactly where the scan from behind
+-- those passes all others and then place s
 module _ (s k m : ℕ) (hm : m < 2 ^ 256) (some : 0 < k) (most : k ≤ 256) where
   behind : ℕ
   behind = trailingZeros 256 (rotated (s + k) m)

@@ -1,4 +1,5 @@
--- A stretch of places counted round: how many of them are held, and the map without them. Assumes nothing.
+-- A stretch of places counted round: how many of them are held, and the map without them.
+-- Assumes nothing.
 use mathlib.Core.Path.{_≡_, refl, sym, ap, ap₂, _∙_}
 use mathlib.Core.List.{List}
 use Prim.Native.Nat.{ℕ, _+_, _-_, _*_, _/_, _%_, _^_, _≤_, _<_, min}

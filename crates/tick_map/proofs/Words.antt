@@ -1,4 +1,5 @@
--- The number of four words: its count, its complement and its digits, from the words'. Assumes nothing.
+-- The number of four words: its count, its complement and its digits, from the words'.
+-- Assumes nothing.
 use mathlib.Core.Path.{_≡_, refl, sym, ap, ap₂, _∙_}
 use mathlib.Core.List.{List, [], _∷_}
 use mathlib.Core.Logic.{inl, inr}

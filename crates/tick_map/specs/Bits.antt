@@ -41,7 +41,8 @@ abbrev pub onward : ℕ → ℕ → ℕ
 onward zero t = zero
 onward (suc d) t = suc t
 
--- how many of m's k lowest digits stand below the lowest one that is not set: all k where each is set
+-- how many of m's k lowest digits stand below the lowest one that is not set: all k
+-- where each is set
 unfoldable pub run : ℕ → ℕ → ℕ
 run zero m = zero
 run (suc k) m = onward (m % 2) (run k (m / 2))

@@ -1,5 +1,5 @@
-// 256 bits in four words, as one number: place i is digit i of it, bit i % 64 (the low bit first) of word i / 64.
-// A map is read round from any place: the place after 255 is 0.
+// 256 bits in four words, as one number: place i is digit i of it, bit i % 64 (the low bit first)
+// of word i / 64. A map is read round from any place: the place after 255 is 0.
 ghost use mathlib.Core.Path.{_≡_};
 ghost use Prim.Native.Nat.{_+_, _-_, _*_, _/_, _%_, _^_, _<_, _≤_, min};
 ghost use lib.Bits.{bitOr};
@@ -159,7 +159,8 @@ impl Map {
     }
 
     // How many places from s on are clear, counted round: 256 where none is held.
-    // The place's own word is the first one, and the last: by then its places from s on are known to be clear.
+    // The place's own word is the first one, and the last: by then its places from s on are known
+    // to be clear.
     pub fn first_from(self, s: u64) -> u64
         ensures { λ r. ⌜ r ≡ trailingZeros 256 (rotated s (bitsIn self)) ⌝ }
     {
@@ -182,7 +183,8 @@ impl Map {
         256
     }
 
-    // How many places from s on are held without a break, counted round: the clear places of the complement.
+    // How many places from s on are held without a break, counted round: the clear places of
+    // the complement.
     pub fn run_from(self, s: u64) -> u64
         ensures { λ r. ⌜ r ≡ run 256 (rotated s (bitsIn self)) ⌝ }
     {

@@ -1,4 +1,5 @@
--- Two answers that the promise of `walk` allows are equal, and so are two later contents of the buffer; a refusal leaves it as it was. Assumes nothing.
+-- Two answers that the promise of `walk` allows are equal, and so are two later contents of the
+-- buffer; a refusal leaves it as it was. Assumes nothing.
 use mathlib.Core.Path.{sym, _∙_}
 use denote.Ref.{now}
 use Rattle.terms.specs.OneAnswer.{OneAnswer}

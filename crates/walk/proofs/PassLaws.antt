@@ -1,4 +1,5 @@
--- The walk's loop: behind what is done, what is left at a place gives what the whole walk gives. Assumes nothing.
+-- The walk's loop: behind what is done, what is left at a place gives what the whole walk gives.
+-- Assumes nothing.
 use Prim.Native.Nat.{ℕ, _+_, _≤_}
 use mathlib.Core.Path.{_≡_, refl, ap, _∙_}
 use mathlib.Core.List.{List, [], _∷_}
@@ -35,7 +36,8 @@ leftOf b p s = accountOf recordBy bookBy b (fromOf seenOf saysOf p s)
 abbrev bookAfter : Calls → Book
 bookAfter calls = after 100 calls
 
--- The invariant: the ledger is that of some calls; records, frames and ledger of what is left, behind those so far, are those of the whole.
+-- The invariant: the ledger is that of some calls; records, frames and ledger of what is left,
+-- behind those so far, are those of the whole.
 pub record Left (s out₀ out : List ℕ) (p records frames : ℕ) (l : Ledger) : Type 0 where
   pub inside : p ≤ length s
   pub few : records ≤ p

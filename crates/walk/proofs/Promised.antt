@@ -1,5 +1,6 @@
--- What the promise that the checker makes of `walk`'s `ensures` comes to: with room for its records, document 01's walk; without, 8 and nothing
--- written; and demand 3 of the ledger that it hands back. Assumes nothing.
+-- What the promise that the checker makes of `walk`'s `ensures` comes to: with room for its
+-- records, document 01's walk; without, 8 and nothing written; and demand 3 of the ledger that it
+-- hands back. Assumes nothing.
 use Prim.Native.Nat.{_*_, _≤_, _<_}
 use mathlib.Core.Path.{ap, _∙_}
 use borrow.Fn.Kinds.{Dens, endedOf, resT}

@@ -1,4 +1,5 @@
--- Wrong answers that the promise of `walk` rules out, as a table of what is given and what is then wrong. Assumes nothing.
+-- Wrong answers that the promise of `walk` rules out, as a table of what is given and what is then
+-- wrong. Assumes nothing.
 use Prim.Native.Nat.{ℕ}
 use mathlib.Core.Path.{_≡_, refl, ap, ap₂}
 use mathlib.Core.List.{List, [], _∷_, _++_}
@@ -35,7 +36,8 @@ use Rattle.walk.specs.Papers.{walkPaper}
 use Rattle.walk.proofs.walk.Reads as walk
 use Rattle.walk.proofs.walk.Kinds as walk-kinds
 
--- the answer with its three counts; channel, floor, top and held numbers of the ledger; and the lent buffer then
+-- the answer with its three counts; channel, floor, top and held numbers of the ledger; and the
+-- lent buffer then
 abbrev Outcome : Type 0
 Outcome = Paper × (List ℕ × List ℕ)
 

@@ -1,4 +1,5 @@
--- What one pass over a capture counted: whether its records fit, and what the walk then answers and leaves.
+-- What one pass over a capture counted: whether its records fit, and what the walk then
+-- answers and leaves.
 use Prim.Native.Nat.{ℕ, _/_, _-_, _≤_}
 use mathlib.Core.Path.{_≡_, ap, _∙_}
 use mathlib.Core.Bool.{true}

@@ -21,7 +21,8 @@ use Rattle.walk_spec.specs.LiteralLaws.{literal-walk}
 
 -- WHAT THE CODE'S PROMISE COMES TO, of a capture s, a buffer d that is d′ later, and the answer x
 
--- with room for all records of the walk w: 0, its counts and its ledger, and its records one behind the other at the front of the buffer
+-- with room for all records of the walk w: 0, its counts and its ledger, and its records one behind
+-- the other at the front of the buffer
 pub record Listed (w : Walk) (d d′ : List ℕ) (x : Walked) : Type 0 where
   pub number : paperOf (x .answer) .number ≡ 0
   pub records : x .records ≡ length (w .records)
@@ -30,7 +31,8 @@ pub record Listed (w : Walk) (d d′ : List ℕ) (x : Walked) : Type 0 where
   pub ledger : x .ledger ≡ ledgerOf (w .ledger)
   pub buffer : d′ ≡ laid 0 (tableOf (w .records)) d
 
--- where not all records fit: 8, nothing written, and the ledger just opened (document 01, Records, paragraph 1)
+-- where not all records fit: 8, nothing written, and the ledger just opened (document 01, Records,
+-- paragraph 1)
 pub record Untouched (d d′ : List ℕ) (x : Walked) : Type 0 where
   pub number : paperOf (x .answer) .number ≡ 8
   pub records : x .records ≡ 0

@@ -18,8 +18,9 @@ use reading::Seen;
 use terms::ChannelNumber;
 use terms::Refusal;
 
-// What the walk returns: 0, or 8 where the buffer can't take all records; how many records there are, how many readings were
-// frames and how many were refused; and the ledger after the last. Beside 8 the counts are 0 and the ledger is the one just opened.
+// What the walk returns: 0, or 8 where the buffer can't take all records; how many records there
+// are, how many readings were frames and how many were refused; and the ledger after the last.
+// Beside 8 the counts are 0 and the ledger is the one just opened.
 pub struct Walked {
     pub answer: Answer,
     pub records: usize,
@@ -35,8 +36,9 @@ struct Passed {
     ledger: Ledger,
 }
 
-// The place of the next reading, after the one at p: past the frame, or where the search from the next byte on finds one; the
-// end where it finds none. A refused frame's BodyLength is never stepped by.
+// The place of the next reading, after the one at p: past the frame, or where the search from the
+// next byte on finds one; the end where it finds none. A refused frame's BodyLength is
+// never stepped by.
 fn onward(capture: &[u8], p: usize, seen: Seen) -> usize
     requires { ⌜ (p < length (now capture)) × (seen ≡ seenOf (drop p (now capture))) ⌝ }
     ensures { λ r. ⌜ Goes (now (capture .entry)) p r ⌝ }
@@ -90,7 +92,8 @@ fn roomy(len: usize, room: usize) -> bool
     2 * (len / 29) + 2 <= room / 64
 }
 
-// Whether so much room takes all records of a capture. Where it may not, they are counted in a pass that writes nothing.
+// Whether so much room takes all records of a capture. Where it may not, they are counted in a pass
+// that writes nothing.
 fn takes_all(capture: &[u8], start: Ledger, room: usize) -> bool
     requires { ⌜ start ≡ ledgerOf (fresh 100) ⌝ }
     ensures { λ r. ⌜ r ≡ fitsIn (now (capture .entry)) room ⌝ }
@@ -103,8 +106,8 @@ fn takes_all(capture: &[u8], start: Ledger, room: usize) -> bool
     counted.records <= room / 64
 }
 
-// The records of a closed capture, one for each reading, with their counts and the ledger of channel 100 after the last; or 8, and
-// nothing is written.
+// The records of a closed capture, one for each reading, with their counts and the ledger of
+// channel 100 after the last; or 8, and nothing is written.
 pub fn walk(capture: &[u8], records: &mut [u8]) -> Walked
     ensures { λ r. ⌜ (walkPaper r ≡ walkAnswer (now (capture .entry)) (length (now (records .entry))))
         × ((r .ledger ≡ ledgerOf (walkBook (now (capture .entry)) (length (now (records .entry)))))

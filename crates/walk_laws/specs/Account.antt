@@ -1,4 +1,5 @@
--- From the readings of a walk to its records and its ledger: a reading gives a record, and the ledger to the next.
+-- From the readings of a walk to its records and its ledger: a reading gives a record, and the
+-- ledger to the next.
 use Prim.Native.Nat.{ℕ, zero, suc}
 use lib.ListN.{length}
 use mathlib.Core.Path.{_≡_, refl, ap}

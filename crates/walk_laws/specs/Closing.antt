@@ -1,4 +1,5 @@
--- At the closing call no place waits: missing bytes never come. And what a walk that waits has read so far, in the closed walk's words.
+-- At the closing call no place waits: missing bytes never come. And what a walk that waits has read
+-- so far, in the closed walk's words.
 use Prim.Native.Nat.{ℕ, zero, suc, _+_, _-_, _≤_, _<_}
 use mathlib.Core.Path.{_≡_, refl, sym, _∙_}
 use mathlib.Core.Bool.{Bool, true, false}
@@ -182,7 +183,8 @@ module _ {R : Type 0} (readOf : List ℕ → R) (saysOf : R → Says) where
       (λ x. inr (inside-behind readOf saysOf (p + suc i) (noted m w p (readOf (b ∷ s))) _ (rw e at x)))
       (tried (next m w) (p + 1) i s (tried-on (waits m w) p i _ l) r)
 
-  -- and it is the first such place: one before it where bytes are missing lies inside a recorded frame
+  -- and it is the first such place: one before it where bytes are missing lies inside a
+  -- recorded frame
   pub wait-first : (s : List ℕ) (i : ℕ) → i < waitOf (within zero) 0 s → saysOf (readOf (drop i s)) ≡ more → Inside saysOf i (sightsOf readOf saysOf (within zero) 0 s)
   wait-first s i l r =
       let e : 0 + i ≡ i = omega arith in

@@ -1,4 +1,5 @@
--- CR 1, for any reading: bytes that come in cuts give what the joined bytes give. It rests on frame laws 1 and 3, not on what reading is.
+-- CR 1, for any reading: bytes that come in cuts give what the joined bytes give. It rests on frame
+-- laws 1 and 3, not on what reading is.
 use Prim.Native.Nat.{ℕ, zero, _+_, _≤_}
 use mathlib.Core.Path.{_≡_}
 use mathlib.Core.List.{List, [], _++_, append-assoc, append-nil}
@@ -56,7 +57,8 @@ module _ {R L C : Type 0} (readOf : List ℕ → R) (saysOf : R → Says) (recor
       let g = settled readOf saysOf (x .mode) (x .place) (x .place + (length (x .kept) + length cut)) (x .kept ++ cut) (simp length-append) in
       (few readOf saysOf enough _ (g .rests), g .whole)
 
--- EVERY CUTTING: what a stream gives for bytes, and then for the closing call, in which no place waits, is what the closed walk gives
+-- EVERY CUTTING: what a stream gives for bytes, and then for the closing call, in which no place
+-- waits, is what the closed walk gives
 module _ {R L C : Type 0} (readOf : List ℕ → R) (saysOf : R → Says) (recordOf : L → Sight R → C) (nextOf : L → Sight R → L) where
   abbrev pub closeOf : Stream L → List ℕ → Fed L C
   closeOf x cut = feedOf readOf (λ r. final (saysOf r)) recordOf nextOf x cut

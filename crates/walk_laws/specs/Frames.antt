@@ -144,7 +144,8 @@ module _ {R : Type 0} (readOf : List ℕ → R) (saysOf : R → Says) where
     reads-accepted m p (b ∷ s) =
         rw (reads-append (noted m (saysOf (readOf (b ∷ s))) p (readOf (b ∷ s))) (sightsOf readOf saysOf (next m (saysOf (readOf (b ∷ s)))) (p + 1) s), each-append readOf (takenOf m (saysOf (readOf (b ∷ s))) (b ∷ s)) (acceptedOf (next m (saysOf (readOf (b ∷ s)))) s), here-reads m p (b ∷ s), reads-accepted (next m (saysOf (readOf (b ∷ s)))) (p + 1) s)
 
-  -- CR 11: a capture whose accepted frames are each rewritten by a scrubber that keeps what the walk sees has the same figures
+  -- CR 11: a capture whose accepted frames are each rewritten by a scrubber that keeps what the
+  -- walk sees has the same figures
   each-each : (f : List ℕ → List ℕ) → ((s : List ℕ) → readOf (f s) ≡ readOf s) → (fs : List (List ℕ)) → eachOf readOf (eachOf f fs) ≡ eachOf readOf fs
   unfolding eachOf
   each-each f h [] = refl
@@ -183,7 +184,8 @@ module _ {R : Type 0} (readOf : List ℕ → R) (saysOf : R → Says) where
       scrubbed-frames fs f-nil = f-nil
       scrubbed-frames fs (f-cons {f = f} {fs = t} e r) = f-cons (ap saysOf (same f) ∙ e ∙ ap frame (sym (long f))) (scrubbed-frames t r)
 
-      -- the walk over the scrubbed frames end to end sees what the walk over the capture saw, refusals left out
+      -- the walk over the scrubbed frames end to end sees what the walk over the capture saw,
+      -- refusals left out
       pub clean-reads : (s : List ℕ) → readsOf (sightsOf readOf saysOf (within zero) 0 (joined (eachOf scrub (acceptedOf (within zero) s)))) ≡ readsOf (sightsOf readOf saysOf (within zero) 0 s)
       clean-reads s =
           let z = scrubbed-frames (acceptedOf (within zero) s) (accepted-frames (within zero) s) in

@@ -1,4 +1,5 @@
--- What a walk that waits keeps: nothing, or a place that waits; so at most 8,191 bytes. No byte is lost, and each reading takes one.
+-- What a walk that waits keeps: nothing, or a place that waits; so at most 8,191 bytes. No byte is
+-- lost, and each reading takes one.
 use Prim.Native.Nat.{ℕ, zero, suc, _+_, _-_, _≤_}
 use mathlib.Core.Path.{_≡_, refl, ap}
 use mathlib.Core.Bool.{Bool, true, false}
@@ -62,7 +63,8 @@ module _ {R : Type 0} (readOf : List ℕ → R) (saysOf : R → Says) where
   few enough s (inl e) = omega (arith, ap length e)
   few enough s (inr e) = ⊎-elim (λ l. omega arith) (λ l. absurd (enough s l e)) (less (length s) 8192)
 
-  -- frame law 2, the part that a frame's bytes are all there: then a walk that starts between frames stops between frames
+  -- frame law 2, the part that a frame's bytes are all there: then a walk that starts between
+  -- frames stops between frames
   module _ (there : (s : List ℕ) (n : ℕ) → saysOf (readOf s) ≡ frame n → n ≤ length s) where
     ends-after : (b : ℕ) (s : List ℕ) (w : Says) → saysOf (readOf (b ∷ s)) ≡ w → Ends (length s) (after w)
     unfolding after

@@ -1,4 +1,5 @@
--- What the readings of a walk are, all together: their places rise, no frame is lost, and they are few.
+-- What the readings of a walk are, all together: their places rise, no frame is lost, and
+-- they are few.
 use Prim.Native.Nat.{ℕ, zero, suc, _+_, _-_, _*_, _/_, _≤_, _<_}
 use mathlib.Core.Path.{_≡_, refl, ap}
 use mathlib.Core.Logic.{_⊎_, inl, inr, ⊎-elim}
@@ -146,7 +147,8 @@ all-of saysOf (x ∷ xs) = either (saysOf (x .read)) (all-of saysOf xs)
     either more e = omega arith
     either bad e = omega arith
 
--- the bytes that the frame stood in still wants, and the refusals that may come before the next frame
+-- the bytes that the frame stood in still wants, and the refusals that may come before
+-- the next frame
 abbrev pub wants : Mode → ℕ
 wants (within k) = k
 wants seeking = 0

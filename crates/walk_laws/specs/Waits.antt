@@ -17,7 +17,8 @@ waits seeking (frame n) = false
 waits seeking more = true
 waits seeking bad = false
 
--- how far the walk got: the readings it made, and what it waits with: the mode, the place and the bytes from there on
+-- how far the walk got: the readings it made, and what it waits with: the mode, the place and the
+-- bytes from there on
 pub record Got (R : Type 0) : Type 0 where
   pub seen : List (Sight R)
   pub mode : Mode

@@ -13,8 +13,8 @@ pub record Sight (R : Type 0) : Type 0 where
   pub place : ℕ
   pub read : R
 
--- what a byte is to the walk: inside an accepted frame with k bytes of it to come, this one among them; or passed over by the search
--- (`within zero` is the start of a reading)
+-- what a byte is to the walk: inside an accepted frame with k bytes of it to come, this one among
+-- them; or passed over by the search (`within zero` is the start of a reading)
 pub data Mode : Type 0 where
   within : ℕ → Mode
   seeking : Mode
@@ -31,7 +31,8 @@ next (within zero) w = after w
 next (within (suc k)) w = within k
 next seeking w = after w
 
--- what the walk notes at this byte: a reading at the start of a frame, whatever it says; in a search only a frame
+-- what the walk notes at this byte: a reading at the start of a frame, whatever it says; in a
+-- search only a frame
 unfoldable pub found : {R : Type 0} → Says → ℕ → R → List (Sight R)
 found (frame n) p r = record { place = p; read = r } ∷ []
 found more p r = []

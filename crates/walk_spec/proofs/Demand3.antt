@@ -1,4 +1,5 @@
--- Demand 3 of the walk's ledger: it is the fresh ledger of channel 100 after the calls that the capture's readings make. Assumes nothing.
+-- Demand 3 of the walk's ledger: it is the fresh ledger of channel 100 after the calls that the
+-- capture's readings make. Assumes nothing.
 use mathlib.Core.Path.{_≡_, sym, ap, _∙_}
 use mathlib.Core.Bool.{not}
 use mathlib.Core.List.{List, [], _∷_}

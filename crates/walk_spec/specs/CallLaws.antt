@@ -1,4 +1,5 @@
--- The walk's ledger is the fresh one after the calls that its readings make; and what those calls receive, its records tell.
+-- The walk's ledger is the fresh one after the calls that its readings make; and what those calls
+-- receive, its records tell.
 use Prim.Native.Nat.{ℕ}
 use mathlib.Core.Path.{_≡_, refl, _∙_}
 use mathlib.Core.Bool.{Bool, true, false, _&&_}

@@ -1,4 +1,5 @@
--- What the walk sees and offers of an accepted frame, by document 01's offsets; and of a refused reading.
+-- What the walk sees and offers of an accepted frame, by document 01's offsets; and of a
+-- refused reading.
 use Prim.Native.Nat.{ℕ, _+_, _≤_}
 use mathlib.Core.Path.{_≡_, refl, sym, ap, ap₂, _∙_}
 use mathlib.Core.Bool.{true}

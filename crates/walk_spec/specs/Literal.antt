@@ -1,5 +1,6 @@
--- The walk as document 01 tells it (Records, paragraphs 1 and 2): from a place on, with the ledger and all counts, by the offsets of the
--- frame's bytes. Nothing here speaks of `Seen`. LiteralLaws.antt says that the walk of the code's promise is this one.
+-- The walk as document 01 tells it (Records, paragraphs 1 and 2): from a place on, with the ledger
+-- and all counts, by the offsets of the frame's bytes. Nothing here speaks of `Seen`.
+-- LiteralLaws.antt says that the walk of the code's promise is this one.
 use Prim.Native.Nat.{ℕ, zero, suc, _+_}
 use mathlib.Core.List.{List, [], _∷_}
 use lib.Dec.{leb, eqb}
@@ -116,8 +117,9 @@ goOn on stop [] = stop
 goOn on stop (q ∷ vs) = on q
 
 -- The walk of the capture s from the place p on, with the ledger b, in at most k readings:
--- at the end of s it stops, without a record. A frame that reads is recorded and stepped over; else the refusal is
--- recorded, and the walk goes on where the search "from the next byte on" finds a frame, or stops.
+-- at the end of s it stops, without a record. A frame that reads is recorded and stepped over; else
+-- the refusal is recorded, and the walk goes on where the search "from the next byte on" finds a
+-- frame, or stops.
 unfoldable pub walkFrom : ℕ → List ℕ → ℕ → Book → Walk
 walkFrom zero s p b = stopped b
 walkFrom (suc k) s p b =
@@ -126,6 +128,7 @@ walkFrom (suc k) s p b =
     (aFrame (frameRecord p b (drop p s)) (walkFrom k s (p + lengthIn (drop p s)) (ledgerAfter b (drop p s))))
     (aRefusal (blankOf p (readOf (drop p s) .number) (b .floor) (b .top)) (goOn (λ q. walkFrom k s q b) (stopped b) (searchOf s (p + 1) .values))))
 
--- The walk of a whole capture, with a fresh ledger of channel 100. No walk has more readings than the capture has bytes.
+-- The walk of a whole capture, with a fresh ledger of channel 100. No walk has more readings than
+-- the capture has bytes.
 unfoldable pub literalWalk : List ℕ → Walk
 literalWalk s = walkFrom (length s) s 0 (fresh 100)

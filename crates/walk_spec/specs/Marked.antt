@@ -1,5 +1,6 @@
--- Document 01's listing of the 69 bytes A, FF, B, as a walk: three records, two frames, one refusal, and a ledger with top 3 and
--- 3 missing. The lines of these records are `listing` of `listing_text`.
+-- Document 01's listing of the 69 bytes A, FF, B, as a walk: three records, two frames, one
+-- refusal, and a ledger with top 3 and 3 missing. The lines of these records are `listing` of
+-- `listing_text`.
 use Prim.Native.Nat.{ℕ}
 use mathlib.Core.Path.{_≡_, refl}
 use mathlib.Core.List.{List, [], _∷_}

@@ -1,5 +1,5 @@
--- The ledger's part in a reading (document 01, Records, paragraph 2): an M201 that reads is offered as a tick, a P001 as
--- an announcement. A call is made of what is seen, and of nothing else.
+-- The ledger's part in a reading (document 01, Records, paragraph 2): an M201 that reads is offered
+-- as a tick, a P001 as an announcement. A call is made of what is seen, and of nothing else.
 use Prim.Native.Nat.{ℕ}
 use mathlib.Core.List.{List, [], _∷_}
 use lib.Dec.{eqb}

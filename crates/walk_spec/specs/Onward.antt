@@ -1,4 +1,5 @@
--- Where the walk goes on after a reading: past the frame, or where the search from the next byte on finds one, or nowhere.
+-- Where the walk goes on after a reading: past the frame, or where the search from the next byte on
+-- finds one, or nowhere.
 use Prim.Native.Nat.{ℕ, _+_, _-_, _≤_, _<_}
 use mathlib.Core.Path.{_≡_, sym, ap, _∙_}
 use mathlib.Core.Bool.{true, false}

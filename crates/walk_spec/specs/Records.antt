@@ -1,5 +1,5 @@
--- What the records of a walk are, all together: each is a frame's, with its numbers, or a refusal's, which shows no byte of it; their places rise;
--- no frame is lost.
+-- What the records of a walk are, all together: each is a frame's, with its numbers, or a
+-- refusal's, which shows no byte of it; their places rise; no frame is lost.
 use Prim.Native.Nat.{ℕ, zero, suc, _+_, _-_, _≤_, _<_}
 use mathlib.Core.Path.{_≡_, refl, ap, _∙_}
 use mathlib.Core.Logic.{_⊎_, inl, inr, ⊎-elim}
@@ -28,7 +28,8 @@ use Rattle.walk_spec.specs.LiteralLaws.{literal-walk}
 
 -- ======== What each is
 
--- a frame's record has its numbers; a refused reading's is blank but for place, answer, floor and top
+-- a frame's record has its numbers; a refused reading's is blank but for place, answer,
+-- floor and top
 pub data Tells (s : List ℕ) (r : Record) : Type 0 where
   a-frame : (p : ℕ) (b : Book) → readOf (drop p s) .number ≡ 0 → r ≡ frameRecord p b (drop p s) → Tells s r
   a-refusal : (p : ℕ) (b : Book) → (readOf (drop p s) .number ≡ 0 → ⊥) → r ≡ blankOf p (readOf (drop p s) .number) (b .floor) (b .top) → Tells s r

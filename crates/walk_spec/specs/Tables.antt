@@ -1,4 +1,5 @@
--- The table of records in a lent buffer: record k has the 64 bytes from 64 k on, where there is room.
+-- The table of records in a lent buffer: record k has the 64 bytes from 64 k on, where
+-- there is room.
 use Prim.Native.Nat.{ℕ, _+_, _*_, _/_, _≤_, _<_}
 use mathlib.Core.Path.{_≡_, refl, sym, ap, _∙_}
 use mathlib.Core.Logic.{⊎-elim}

@@ -1,5 +1,6 @@
--- Document 01, "Fault records and the listing": the walk of a closed capture. What it sees is `sightsOf` of `walk_laws` over what `reading` shows of a reading;
--- LiteralLaws.antt says that this is the walk as the document tells it. Records, counts and ledger are made of what is seen.
+-- Document 01, "Fault records and the listing": the walk of a closed capture. What it sees is
+-- `sightsOf` of `walk_laws` over what `reading` shows of a reading; LiteralLaws.antt says that this
+-- is the walk as the document tells it. Records, counts and ledger are made of what is seen.
 use Prim.Native.Nat.{ℕ, zero, _+_, _/_}
 use mathlib.Core.Bool.{Bool}
 use mathlib.Core.List.{List, [], _∷_}
@@ -39,8 +40,8 @@ madeOf place x number floor top =
       top = top;
     }
 
--- the record of a reading: the ledger's answer, if it was offered, and floor and top as they are then
--- (document 01, Records, paragraph 2)
+-- the record of a reading: the ledger's answer, if it was offered, and floor and top as they are
+-- then (document 01, Records, paragraph 2)
 unfoldable pub recordBy : Book → Sight Seen → Record
 recordBy b x = madeOf (x .place) (x .read) (offerOf b (x .read) .number) (tickOf (offerOf b (x .read) .book .floor)) (tickOf (offerOf b (x .read) .book .top))
 
@@ -72,7 +73,8 @@ callsOf s = callsFrom none (sights s)
 
 -- ---- counts
 
--- how many readings were answered 0, and how many refused by reading itself (document 01, Records, paragraph 4)
+-- how many readings were answered 0, and how many refused by reading itself (document 01, Records,
+-- paragraph 4)
 unfoldable pub accepts : ℕ → ℕ
 accepts reading = pick (eqb reading 0) 1 0
 
@@ -93,7 +95,8 @@ refusedOf (x ∷ xs) = refuses (x .read .answer) + refusedOf xs
 unfoldable pub fitsIn : List ℕ → ℕ → Bool
 fitsIn s room = leb (length (walkOf s .records)) (room / 64)
 
--- where not all records fit: 8, nothing written, and the ledger just opened (document 01, Records, paragraph 1)
+-- where not all records fit: 8, nothing written, and the ledger just opened (document 01, Records,
+-- paragraph 1)
 unfoldable pub walkAnswer : List ℕ → ℕ → Paper
 walkAnswer s room =
     pick (fitsIn s room)

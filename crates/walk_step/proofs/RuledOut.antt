@@ -1,4 +1,5 @@
--- Wrong answers that the promise of `offer` rules out, as a table of what is given and what is then wrong. Assumes nothing.
+-- Wrong answers that the promise of `offer` rules out, as a table of what is given and what is then
+-- wrong. Assumes nothing.
 use Prim.Native.Nat.{ℕ}
 use mathlib.Core.Path.{_≡_, refl, ap, ap₂}
 use mathlib.Core.List.{List, [], _∷_, _++_}
@@ -29,7 +30,8 @@ use Rattle.walk_step.proofs.made.Kinds as made-kinds
 use Rattle.walk_step.proofs.note.Reads as note
 use Rattle.walk_step.proofs.note.Kinds as note-kinds
 
--- a ledger of channel 100 with nothing held; and what is seen of an accepted frame of this type and channel, with the number 1
+-- a ledger of channel 100 with nothing held; and what is seen of an accepted frame of this type and
+-- channel, with the number 1
 abbrev book : ℕ → ℕ → Book
 book floor top = record { channel = 100; floor = floor; top = top; bits = 0; pending = nothing }
 
@@ -56,7 +58,8 @@ pub offer-rules-out : RulesOut (Kept _ offer-kinds.ps offer-kinds.r offer.Post) 
 unfolding kindOf valueOf mapOf rotated run trailingZeros has rangeRules mapRules soundOf ownNumber checkedOf numberTo passes taken raised done nextOf bookOf ledgerOf callsBy answered offerOf
 offer-rules-out = ruled (beside numbers lists) (λ (i : Book × Seen). shown (offerOf (i .0) (i .1) .number) (ledgerOf (offerOf (i .0) (i .1) .book))) (λ c p. ap₂ shown (p .0) (p .1)) _ refl
 
--- MADE: a place, what is seen there, and of the ledger after it: the number answered, its floor and its top. The record's nine numbers.
+-- MADE: a place, what is seen there, and of the ledger after it: the number answered, its floor and
+-- its top. The record's nine numbers.
 abbrev tick : Seen
 tick = record { answer = 0; «msg_type» = 0x4D323031; seq = sessionOf 2; channel = channelOf 100; tick = tickOf 3; status = 0; «body_len» = 45; size = 73 }
 

@@ -65,8 +65,9 @@ fn announced(ledger: Ledger, channel: ChannelNumber, last: TickNumber) -> Offere
     }
 }
 
-// The ledger after a reading was offered to it: an M201 as a tick, a P001 as an announcement. Any other reading changes
-// nothing and keeps its own answer: a refused one, and a P002, which the walk never offers.
+// The ledger after a reading was offered to it: an M201 as a tick, a P001 as an announcement. Any
+// other reading changes nothing and keeps its own answer: a refused one, and a P002, which the walk
+// never offers.
 pub fn offer(ledger: Ledger, seen: Seen) -> Offered
     ensures { λ r. ⌜ (r .answer ≡ offerOf (bookOf ledger) seen .number) × (r .ledger ≡ ledgerOf (offerOf (bookOf ledger) seen .book)) ⌝ }
 {
@@ -88,7 +89,8 @@ pub fn offer(ledger: Ledger, seen: Seen) -> Offered
     }
 }
 
-// The record of a reading: what was seen, the answer, and the ledger's floor and top after the offer.
+// The record of a reading: what was seen, the answer, and the ledger's floor and top
+// after the offer.
 pub fn made(place: u64, seen: Seen, after: Offered) -> Record
     ensures { λ r. ⌜ r ≡ madeOf place seen (after .answer) (after .ledger .floor) (after .ledger .top) ⌝ }
 {

@@ -1,4 +1,5 @@
--- `is_real`: a date of nine digits or more has a year above 9999; else the two halves have the parts of the whole. Assumes nothing.
+-- `is_real`: a date of nine digits or more has a year above 9999; else the two halves have the
+-- parts of the whole. Assumes nothing.
 use mathlib.Core.Path.{sym}
 use native.Mathlib.Omega.{arith}
 use borrow.Author.Needs.{needs}

@@ -1,5 +1,6 @@
--- `agreed`. The invariant: whatever follows the front of one, it differs from what stands at n where, behind the i bytes that are alike, the rest
--- does. The measure is what is left of size. Assumes nothing.
+-- `agreed`. The invariant: whatever follows the front of one, it differs from what stands at n
+-- where, behind the i bytes that are alike, the rest does. The measure is what is left of size.
+-- Assumes nothing.
 use native.Mathlib.Omega.{arith}
 use Prim.Native.Nat.{_-_}
 use Rattle.clean_spec.specs.Differ.{Alike, alike-start, alike-step, alike-here, alike-all}

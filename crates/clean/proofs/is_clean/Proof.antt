@@ -1,5 +1,6 @@
--- `is_clean`. The invariant: the capture from n on differs from what is left to be cleaned from its place on where the whole differs from the cleaned whole
--- (`Same`). The measure is what is left of the capture. Assumes nothing.
+-- `is_clean`. The invariant: the capture from n on differs from what is left to be cleaned from its
+-- place on where the whole differs from the cleaned whole (`Same`). The measure is what is left of
+-- the capture. Assumes nothing.
 use native.Mathlib.Omega.{arith}
 use Prim.Native.Nat.{_-_}
 use mathlib.Core.Path.{_≡_, sym}

@@ -1,4 +1,5 @@
--- `keep`: a frame that was laid is told by what was laid, all else by what is seen. Assumes nothing.
+-- `keep`: a frame that was laid is told by what was laid, all else by what is seen.
+-- Assumes nothing.
 use mathlib.Core.Path.{sym, ap, _∙_}
 use borrow.Author.Needs.{needs}
 use Rattle.octets.specs.Papers.{writtenPaper}

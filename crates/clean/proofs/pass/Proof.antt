@@ -1,5 +1,6 @@
--- `pass`. The invariant: what is left at p, behind the bytes, frames and found frames so far, gives what the whole capture gives (`Left`). The
--- measure is what is left of the capture. Assumes nothing.
+-- `pass`. The invariant: what is left at p, behind the bytes, frames and found frames so far, gives
+-- what the whole capture gives (`Left`). The measure is what is left of the capture.
+-- Assumes nothing.
 use native.Mathlib.Omega.{arith}
 use Prim.Native.Nat.{_-_}
 use lib.ListN.{length}

@@ -1,4 +1,5 @@
--- `takes_all`: the cleaned capture is no longer than the capture; else the pass counted its bytes. Assumes nothing.
+-- `takes_all`: the cleaned capture is no longer than the capture; else the pass counted its bytes.
+-- Assumes nothing.
 use borrow.Author.Needs.{needs}
 use Rattle.clean_spec.specs.Answers.{fits-roomy}
 use Rattle.clean.specs.Answers.{fits-counted}

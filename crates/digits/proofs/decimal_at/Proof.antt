@@ -1,4 +1,5 @@
--- `decimal_at`: where the bytes can say a number and no zero is needless, `said` does the work. Assumes nothing.
+-- `decimal_at`: where the bytes can say a number and no zero is needless, `said` does the work.
+-- Assumes nothing.
 use borrow.Author.Needs.{needs}
 use borrow.Author.Tests.{not-true, not-false}
 use native.Mathlib.Omega.{arith}

@@ -1,4 +1,5 @@
--- `put_digits`, as `put`: without room the answer is 8 and the buffer keeps its bytes; else `store_digits` does the work. Assumes nothing.
+-- `put_digits`, as `put`: without room the answer is 8 and the buffer keeps its bytes; else
+-- `store_digits` does the work. Assumes nothing.
 use Rattle.digits.specs.Laws.{length-decimal}
 use Rattle.octets.specs.Papers.{room-there, room-lacks, laid-there, laid-kept}
 use borrow.Author.Tests.{leb-true, not-true, not-false}

@@ -1,5 +1,5 @@
--- `said`. The invariant: the i bytes passed are digits, and v is what they say, so it stays below 10^18 while one more is to come.
--- The measure is what is left of n. Assumes nothing.
+-- `said`. The invariant: the i bytes passed are digits, and v is what they say, so it stays below
+-- 10^18 while one more is to come. The measure is what is left of n. Assumes nothing.
 use borrow.Author.Needs.{needs}
 use borrow.Author.Tests.{not-true, not-false}
 use native.Mathlib.Omega.{arith}

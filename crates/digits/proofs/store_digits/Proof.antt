@@ -1,5 +1,5 @@
--- `store_digits`, as `store`: what is left of the number, laid over what stands there now, gives what is to be. The measure is the digits left.
--- Assumes nothing.
+-- `store_digits`, as `store`: what is left of the number, laid over what stands there now, gives
+-- what is to be. The measure is the digits left. Assumes nothing.
 use borrow.Author.Needs.{needs}
 use native.Mathlib.Omega.{arith}
 use Prim.Native.Nat.{_≤_}

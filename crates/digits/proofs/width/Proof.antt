@@ -1,5 +1,5 @@
--- `width`. The invariant: n - 1 digits are taken off, x is what is left of v, and the digits of x make up the count. The measure is x.
--- Assumes nothing.
+-- `width`. The invariant: n - 1 digits are taken off, x is what is left of v, and the digits of x
+-- make up the count. The measure is x. Assumes nothing.
 use native.Mathlib.Omega.{arith}
 use Rattle.digits.specs.Digits.{widthOf}
 use Rattle.digits.specs.Widths.{Counted, counted-first, counted-next, counted-last}

@@ -1,7 +1,9 @@
--- `entries::reader_of` meets its contract: a walk of its MIR, by hand. `open_at` is called on the slice, `carried` on the slice and its answer,
--- and the answer is put beside a reader that is made of the part that `carried` gives.
--- A `&[u8]` is Copy: what body owns is had three times, for both callees and for the exit. What the part owns goes into the result; the answer is an enum of plain data, so its relation makes what it owns.
--- Assumes nothing.
+-- `entries::reader_of` meets its contract: a walk of its MIR, by hand. `open_at` is called on the
+-- slice, `carried` on the slice and its answer, and the answer is put beside a reader that is made
+-- of the part that `carried` gives.
+-- A `&[u8]` is Copy: what body owns is had three times, for both callees and for the exit. What the
+-- part owns goes into the result; the answer is an enum of plain data, so its relation makes what
+-- it owns. Assumes nothing.
 use mathlib.Core.Path.{_≡_, refl, ap, subst}
 use Prim.Native.Nat.{ℕ}
 use mathlib.Core.List.{List, [], _∷_}
@@ -150,7 +152,8 @@ module _ {M : Type 1} (𝓤 : URA M) (H : Heap 𝓤) (A : Atoms 𝓤) (W : Given
       qed W (‵ (Own m) ∷ (‵ (flft κ q) ⊛ ‵ ftrue) ∷ ‵ (Own s) ∷ []) ∵
       suffices ! _ (ends-at 𝓤 H A reader-of.ended stayed (reader-of.clauses 𝓤 H A mem run) W (((κ, tt), (q, tt), tt, (s, tt), (at s ∷ [], tt)), tt) (out r m) (made r m) (tt, tt) (tt, tt)) $ says ! e $
       move ! (1 ∷ []) $ frame ! $ nothing ! $ move ! (2 ∷ 0 ∷ []) $ fjoin ! $ frame ! $
-      -- [what the part owns]: with place's facts it is what the reader owns, and with the answer's facts that is what the result owns
+      -- [what the part owns]: with place's facts it is what the reader owns, and with the answer's
+      -- facts that is what the result owns
       nothing ! $ owned ! usize (Is usize) (uint-makes 𝓤 H A W w64) start _ (refl, lit< tt) $ fjoin ! $ move ! (1 ∷ 0 ∷ []) $ fjoin ! $
       use1 W (‵ (T.the-row α .own (reader m) (T′.lowered (reader m) ∷ []))) (own-shut 𝓤 H A W (T.the-type α) (T′.the-laws α) (m, (start, tt))) $
       nothing ! $ move ! (1 ∷ 0 ∷ []) $ fjoin ! $ owned ! R.the-row (Is R.the-row) (EL.makes R.the-type R′.the-plain 𝓤 H A) r _ is $ fjoin ! $ by ! (own-shut 𝓤 H A W (O.the-type α) (O′.the-laws α) (r, (reader m, tt)))
@@ -167,7 +170,8 @@ module _ {M : Type 1} (𝓤 : URA M) (H : Heap 𝓤) (A : Atoms 𝓤) (W : Given
         use1 W (later (some (λ (r : Verdict). ((‵ (flft κ q) ⊛ ‵ ftrue) ⊛ ‵ (R.the-row .own r (u ∷ []))) ⊛ raw (ensured 𝓤 H A open-at.ended (open-at.clauses 𝓤 H A mem run) (κ, tt) (s, tt) tt r)))) (id⊢ 𝓤 _) $ await ! tt $ pick ! (λ r.
         split ! $ move ! (1 ∷ []) $ use1 W (raw (fact 𝓤 (Answered r))) (said r) $ heard ! (Answered r) (λ e. split ! $ move ! (1 ∷ []) $
         peeks ! R.the-row (Is R.the-row) (shows 𝓤 H A R.the-row) r (u ∷ []) (λ is. drop ! $
-        -- [the token; what body owns; room for _4; …; room for _3; …; room for _2; …; _1; …; room for _0; …]
+        -- [the token; what body owns; room for _4; …; room for _3; …; room for _2; …; _1; …;
+        -- room for _0; …]
         let r-is = EL.owes R.the-type R′.the-laws r (EL.owed R.the-type R′.the-laws r _ is) in
         land ! (from ! (stop !)) (init ! 6 refl (EL.lawful R.the-type R′.the-laws 𝓤 H A W tt .typed r _ is .0)) $ rewrite ! 6 (λ (x : Val). ‵ (fat fullShare R′.mir l₂ 0 x)) (ap only (EL.tells R.the-type R′.the-laws r _ is)) refl $
         use2 W (raw (Carried 𝓤 H A mem run .pre (to-carried r)) ⊛ ‵ (Own s)) (asks r r-is) $ split ! $
@@ -175,7 +179,8 @@ module _ {M : Type 1} (𝓤 : URA M) (H : Heap 𝓤) (A : Atoms 𝓤) (W : Given
         use1 W (later (some (λ (m : RefT (List ℕ)). ((‵ (flft κ q) ⊛ ‵ ftrue) ⊛ ‵ (ShrSlice (named 0) κ u8 .own m (w ∷ []))) ⊛ raw (ensured 𝓤 H A carried.ended (carried.clauses 𝓤 H A mem run) (κ, tt) (s, (r, tt)) tt m)))) (id⊢ 𝓤 _) $ await ! tt $ pick ! (λ m.
         split ! $ move ! (1 ∷ []) $ use1 W (raw (fact 𝓤 (Lent r m))) (lent r m) $ heard ! (Lent r m) (λ c. split ! $ move ! (1 ∷ []) $
         peeks ! (ShrSlice (named 0) κ u8) (Is (ShrSlice (named 0) κ u8)) (shows 𝓤 H A (ShrSlice (named 0) κ u8)) m (w ∷ []) (λ held.
-        -- [what the part owns; the token; what body owns; room for _4; …; room for _3; …; _2; …; _1; …; room for _0; …]
+        -- [what the part owns; the token; what body owns; room for _4; …; room for _3; …; _2; …;
+        -- _1; …; room for _0; …]
         let told = shr-slice-tells (named 0) κ u8 m (w ∷ []) held in
         let m-is = subst (Is (ShrSlice (named 0) κ u8) m) told held in
         let part = shr-slice-lawful 𝓤 H A W (named 0) κ u8 .typed m (at m ∷ []) m-is .0 in

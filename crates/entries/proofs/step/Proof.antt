@@ -1,6 +1,8 @@
--- `entries::step` meets its contract: a walk of its MIR, by hand. The reader is taken apart, `step_at` is called on the slice and the place, and its answer is put beside a reader of the same slice at the place that it gives.
--- The reader is Copy: what it owns is had three times, for the callee, for the exit, and, with the new place's facts, inside the result. The answer is an enum of plain data, so its relation makes what it owns.
--- Assumes nothing.
+-- `entries::step` meets its contract: a walk of its MIR, by hand. The reader is taken apart,
+-- `step_at` is called on the slice and the place, and its answer is put beside a reader of the same
+-- slice at the place that it gives. The reader is Copy: what it owns is had three times, for the
+-- callee, for the exit, and, with the new place's facts, inside the result. The answer is an enum
+-- of plain data, so its relation makes what it owns. Assumes nothing.
 use mathlib.Core.Path.{_≡_, refl, ap}
 use Prim.Native.Nat.{_<_, _^_}
 use mathlib.Core.List.{[], _∷_}
@@ -149,7 +151,8 @@ module _ {M : Type 1} (𝓤 : URA M) (H : Heap 𝓤) (A : Atoms 𝓤) (W : Given
       qed W ((‵ (flft κ q) ⊛ ‵ ftrue) ∷ ‵ Own ∷ []) ∵
       suffices ! _ (ends-at 𝓤 H A step.ended stayed (step.clauses 𝓤 H A mem run) W (((κ, tt), (q, tt), tt, (d, tt), (mach ∷ [], tt)), tt) (out t) (made t) (tt, tt) (tt, tt)) $ says ! (kept t e) $
       frame ! $ use1 W (‵ Own ⊛ ‵ Own) (LL.copy D (T′.the-copy α) 𝓤 H A W .twice d (mach ∷ [])) $ split ! $ nothing ! $ move ! (1 ∷ 0 ∷ []) $ fjoin ! $ frame ! $
-      -- [what the reader owns]: the new place's facts take the place of the old one's, and the answer's facts go beside it
+      -- [what the reader owns]: the new place's facts take the place of the old one's, and the
+      -- answer's facts go beside it
       owned ! usize (Is usize) (uint-makes 𝓤 H A W w64) (t .place) _ (refl, fits) $ move ! (1 ∷ 0 ∷ []) $
       use2 W (‵ (B (κ, tt) .own (after t) (T′.lowered (after t) ∷ []))) (own-put 𝓤 H A W D L 1 vd (t .place) mach) $
       nothing ! $ move ! (1 ∷ 0 ∷ []) $ fjoin ! $ owned ! N.the-row (Is N.the-row) (EL.makes N.the-type N′.the-plain 𝓤 H A) (t .answer) _ is $ fjoin ! $
@@ -170,7 +173,8 @@ module _ {M : Type 1} (𝓤 : URA M) (H : Heap 𝓤) (A : Atoms 𝓤) (W : Given
         use1 W (later (some (λ (t : Stop). ((‵ (flft κ q) ⊛ ‵ ftrue) ⊛ ‵ (S.the-row .own t (u ∷ []))) ⊛ raw (ensured 𝓤 H A step-at.ended (step-at.clauses 𝓤 H A mem run) (κ, tt) (d .body, (d .place, tt)) tt t)))) (id⊢ 𝓤 _) $ await ! tt $ pick ! (λ t.
         split ! $ move ! (1 ∷ []) $ use1 W (raw (fact 𝓤 (Said t))) (said t) $ heard ! (Said t) (λ e. split ! $ move ! (1 ∷ []) $
         peeks ! S.the-row (Is S.the-row) (shows 𝓤 H A S.the-row) t (u ∷ []) (λ is. drop ! $
-        -- [the token; what the reader owns; room for _6; …; room for _5; …; _4; …; _3; …; room for _2; …; _1; …; room for _0; …]
+        -- [the token; what the reader owns; room for _6; …; room for _5; …; _4; …; _3; …; room for
+        -- _2; …; _1; …; room for _0; …]
         let parts = LL.owed S.the-type S′.the-laws t _ is in
         land ! (from ! (stop !)) (init ! 10 refl (LL.lawful S.the-type S′.the-laws 𝓤 H A W .typed t _ is .0)) $ rewrite ! 10 (λ (x : Val). ‵ (fat fullShare S′.mir l₂ 0 x)) (ap only (LL.tells S.the-type S′.the-laws t _ is)) refl $
         assigns ! (of-opd ! (load ! (from ! (fld ! refl (stop !))) (look-in ! 12 (sub ! 0 refl (whole !))))) (from ! (stop !)) (init ! 4 refl (tt, wt .1 .0)) $

@@ -1,6 +1,8 @@
--- `entries::step_from` meets its contract: a walk of its MIR, by hand. A reader is made in a local and passed to `step`, and of what that gives, the answer and the place are put together. All that the proof knows of `step` is that it meets its contract.
--- In a local of a body MIR erases the lifetime of a struct's type, so a value is shown to have the type at `erased`: what the struct owns does not say the lifetime's name.
--- Assumes nothing.
+-- `entries::step_from` meets its contract: a walk of its MIR, by hand. A reader is made in a local
+-- and passed to `step`, and of what that gives, the answer and the place are put together. All that
+-- the proof knows of `step` is that it meets its contract. In a local of a body MIR erases the
+-- lifetime of a struct's type, so a value is shown to have the type at `erased`: what the struct
+-- owns does not say the lifetime's name. Assumes nothing.
 use mathlib.Core.Path.{refl, ap}
 use Prim.Native.Nat.{ℕ, _<_, _^_}
 use mathlib.Core.List.{List, [], _∷_}
@@ -133,7 +135,8 @@ module _ {M : Type 1} (𝓤 : URA M) (H : Heap 𝓤) (A : Atoms 𝓤) (W : Given
         use1 W (later (some (λ (r : Stepped). ((‵ (flft κ q) ⊛ ‵ ftrue) ⊛ ‵ (P.the-row α .own r (u ∷ []))) ⊛ raw (ensured 𝓤 H A step.ended (step.clauses 𝓤 H A mem run) (κ, tt) (d, tt) tt r)))) (id⊢ 𝓤 _) $ await ! tt $ pick ! (λ r.
         split ! $ move ! (1 ∷ []) $ use1 W (raw (fact 𝓤 (Steps d r))) (said r) $ heard ! (Steps d r) (λ e. split ! $ move ! (1 ∷ []) $
         peeks ! (P.the-row α) (Is (P.the-row α)) (shows 𝓤 H A (P.the-row α)) r (u ∷ []) (λ is. drop ! $
-        -- [the token; what body owns; room for _6; …; room for _5; …; _4; …; room for _3; …; _2; …; _1; …; room for _0; …]
+        -- [the token; what body owns; room for _6; …; room for _5; …; _4; …; room for _3; …; _2; …;
+        -- _1; …; room for _0; …]
         let parts = LL.owed (P.the-type α) (P′.the-laws α) r _ is in
         let inner = LL.owed (T.the-type α) (T′.the-laws α) (r .reader) _ (parts .1 .0) in
         let all-is = LL.owes S.the-type S′.the-laws (out r) (parts .0, (inner .1 .0, tt)) in

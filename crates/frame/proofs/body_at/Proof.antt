@@ -1,4 +1,5 @@
--- `body_at`: the paper of a frame that reads tells its length, and that its body lies within the bytes. Assumes nothing.
+-- `body_at`: the paper of a frame that reads tells its length, and that its body lies within the
+-- bytes. Assumes nothing.
 use native.Mathlib.Omega.{arith}
 use Rattle.frame_spec.specs.Places.{body-none, read-inside, read-part}
 use Rattle.frame.specs.Papers.{readPaper}

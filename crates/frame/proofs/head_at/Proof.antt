@@ -1,5 +1,5 @@
--- `head_at`: each return cites the outcome of reading for the tests that led there; a number at `at + k` of the bytes
--- is the one at k of what lies behind the place. Assumes nothing.
+-- `head_at`: each return cites the outcome of reading for the tests that led there; a number at `at
+-- + k` of the bytes is the one at k of what lies behind the place. Assumes nothing.
 use native.Mathlib.Omega.{arith}
 use Rattle.frame_spec.specs.Places.{be-at, be-here}
 use Rattle.frame_spec.specs.Outcomes.{measure, read-short, read-measured, read-cut}

@@ -1,4 +1,5 @@
--- `may_write`: each return cites the outcome of writing for the tests that led there. Assumes nothing.
+-- `may_write`: each return cites the outcome of writing for the tests that led there.
+-- Assumes nothing.
 use native.Mathlib.Omega.{arith}
 use Rattle.frame_spec.specs.WriteLaws.{measureIn, judgementIn, write-measured, write-judged, write-room, write-done}
 use Rattle.frame_spec.specs.Write.{Message, message}

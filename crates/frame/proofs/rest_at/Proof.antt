@@ -1,5 +1,5 @@
--- `rest_at`: what it requires says that the frame is whole, so its places are inside; each return cites the outcome of
--- reading behind the sum. Assumes nothing.
+-- `rest_at`: what it requires says that the frame is whole, so its places are inside; each return
+-- cites the outcome of reading behind the sum. Assumes nothing.
 use native.Mathlib.Omega.{arith}
 use Rattle.frame_spec.specs.Places.{be-at, be-here, stored-at, part-body, plain-sum, inside-at}
 use Rattle.frame_spec.specs.Outcomes.{accepted, judgement, read-sum, read-judgement, read-frame}

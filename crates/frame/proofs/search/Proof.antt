@@ -1,6 +1,7 @@
--- `search`. The outer invariant: from p on there is to be found what was to be found from `from` on, and nothing is found
--- yet; its measure is what is left of the bytes. The inner one: v is the sum of the bytes passed from the place on; its
--- measure is what is left of header and body. A head's refusal is reading's, so that place does not read. Assumes nothing.
+-- `search`. The outer invariant: from p on there is to be found what was to be found from `from`
+-- on, and nothing is found yet; its measure is what is left of the bytes. The inner one: v is the
+-- sum of the bytes passed from the place on; its measure is what is left of header and body. A
+-- head's refusal is reading's, so that place does not read. Assumes nothing.
 use Rattle.frame_spec.specs.Places.{inside-at}
 use Rattle.frame_spec.specs.SearchLaws.{first-hit, first-miss, first-end, search-beyond, search-first, refused-read, all-passed}
 use Rattle.frame_spec.specs.Search.{firstOf}

@@ -1,5 +1,6 @@
--- `store`: after each call the front of the buffer is the frame's parts so far, laid over what it was; `put-next` takes
--- one part more. The sum is taken over the part that is then laid. Assumes nothing.
+-- `store`: after each call the front of the buffer is the frame's parts so far, laid over what it
+-- was; `put-next` takes one part more. The sum is taken over the part that is then laid.
+-- Assumes nothing.
 use native.Mathlib.Omega.{arith}
 use borrow.Author.Tests.{le-leb}
 use Rattle.octets.specs.Papers.{laid-there}

@@ -1,4 +1,5 @@
--- `rk_is_clean`: the first place where the capture is not clean, told as 1 and the place or 0 and 0. Assumes nothing.
+-- `rk_is_clean`: the first place where the capture is not clean, told as 1 and the place or 0 and
+-- 0. Assumes nothing.
 use mathlib.Core.Path.{sym, ap, _∙_}
 use Rattle.clean.specs.Papers.{checkPaper}
 use Rattle.host_words.specs.Told.{perhaps, retold, tells-done}

@@ -1,4 +1,5 @@
--- `rk_ledger_reply`: the call's paper is told, its sets as words, and the words are those after it. Assumes nothing.
+-- `rk_ledger_reply`: the call's paper is told, its sets as words, and the words are those after it.
+-- Assumes nothing.
 use mathlib.Core.Path.{sym, ap, ap₂, _∙_}
 use Rattle.terms.specs.Paper.{one-number}
 use Rattle.terms.specs.declared.ChannelNumber.{ChannelNumber}

@@ -1,4 +1,5 @@
--- `settle`: beside 0 the numbers are told and the stream is kept, beside a refusal nothing. Assumes nothing.
+-- `settle`: beside 0 the numbers are told and the stream is kept, beside a refusal nothing.
+-- Assumes nothing.
 use mathlib.Core.Path.{refl}
 use borrow.Author.Tests.{ne-eqb}
 use Rattle.host_words.specs.Told.{tells-then, tells-else}

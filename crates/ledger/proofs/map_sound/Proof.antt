@@ -1,5 +1,6 @@
--- With 256 numbers known the first place alone decides; nothing held keeps the rules, something held where nothing is known breaks them; else the
--- scan from behind what is known tells. Assumes nothing.
+-- With 256 numbers known the first place alone decides; nothing held keeps the rules, something
+-- held where nothing is known breaks them; else the scan from behind what is known tells.
+-- Assumes nothing.
 use mathlib.Core.Path.{sym, ap, _∙_}
 use mathlib.Core.Bool.{not}
 use Prim.Native.Nat.{_-_, _<_}

@@ -1,4 +1,5 @@
--- Each test is one part of the rule; `last - first < 200` is `last < first + 200` behind the test that last is not below first. Assumes nothing.
+-- Each test is one part of the rule; `last - first < 200` is `last < first + 200` behind the test
+-- that last is not below first. Assumes nothing.
 use Prim.Native.Nat.{_+_, _≤_, _<_}
 use native.Mathlib.Omega.{arith}
 use borrow.Author.Tests.{le-leb, lt-leb}

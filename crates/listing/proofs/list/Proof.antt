@@ -1,5 +1,6 @@
--- `list`: the buffers have room for the records of every capture that is taken and for their lines, so that neither 8 is met.
--- The listing of the records that the walk left is that of document 01's walk. Assumes nothing.
+-- `list`: the buffers have room for the records of every capture that is taken and for their lines,
+-- so that neither 8 is met. The listing of the records that the walk left is that of document 01's
+-- walk. Assumes nothing.
 use Prim.Native.Nat.{_+_, _*_, _≤_}
 use mathlib.Core.Path.{_≡_, sym, ap, subst, _∙_}
 use native.Mathlib.Nat.{zero-add}

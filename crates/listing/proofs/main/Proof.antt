@@ -1,4 +1,5 @@
--- `main`: the buffers are as long as `output` asks, and what it lays lies within the text. Assumes nothing.
+-- `main`: the buffers are as long as `output` asks, and what it lays lies within the text.
+-- Assumes nothing.
 use Prim.Native.Nat.{ℕ, _≤_}
 use lib.ListN.{length, replicate, length-replicate}
 use native.Mathlib.Nat.{le-of-eq}

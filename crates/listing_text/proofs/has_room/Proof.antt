@@ -1,4 +1,5 @@
--- `has_room`: the lines still to come fit the room left exactly where the listing fits the room. The measure counts them. Assumes nothing.
+-- `has_room`: the lines still to come fit the room left exactly where the listing fits the room.
+-- The measure counts them. Assumes nothing.
 use Prim.Native.Nat.{ℕ, _*_, _/_, _-_, _≤_}
 use mathlib.Core.Path.{_≡_, sym, ap, _∙_}
 use mathlib.Core.List.{List}

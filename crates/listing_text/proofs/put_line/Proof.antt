@@ -1,4 +1,5 @@
--- `put_line`: the columns stand in the bytes made aside, and are laid on from there. Assumes nothing.
+-- `put_line`: the columns stand in the bytes made aside, and are laid on from there.
+-- Assumes nothing.
 use Rattle.listing_text.specs.Text.{lineOf}
 use Rattle.record.specs.Stored.{stored-both, room-on, laid-on}
 use borrow.Author.Needs.{needs}

@@ -1,4 +1,5 @@
--- `put_listing`: without room nothing is written; with room the listing is laid whole. Assumes nothing.
+-- `put_listing`: without room nothing is written; with room the listing is laid whole.
+-- Assumes nothing.
 use mathlib.Core.Path.{sym, _∙_}
 use borrow.Author.Tests.{leb-true, not-true, not-false}
 use Rattle.listing_text.specs.Answered.{front-lacks, front-laid}

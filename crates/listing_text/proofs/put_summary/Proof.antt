@@ -1,4 +1,5 @@
--- `put_summary`: the line stands in the bytes made aside, and is laid on from there. Assumes nothing.
+-- `put_summary`: the line stands in the bytes made aside, and is laid on from there.
+-- Assumes nothing.
 use Rattle.record.specs.Stored.{room-on, laid-on}
 use borrow.Author.Needs.{needs}
 use Rattle.listing_text.proofs.put_summary.Statement.{statement}

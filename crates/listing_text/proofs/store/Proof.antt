@@ -1,4 +1,5 @@
--- `store`: what is still to be laid, laid behind the lines laid so far, gives the whole listing. The measure counts the records to come. Assumes nothing.
+-- `store`: what is still to be laid, laid behind the lines laid so far, gives the whole listing.
+-- The measure counts the records to come. Assumes nothing.
 use Prim.Native.Nat.{_/_, _-_, _≤_}
 use native.Mathlib.Omega.{arith}
 use lib.ListN.{length}

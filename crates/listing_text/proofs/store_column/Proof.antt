@@ -1,4 +1,5 @@
--- `store_column`: at most 20 digits and the byte behind them, so that the number is never refused. Assumes nothing.
+-- `store_column`: at most 20 digits and the byte behind them, so that the number is never refused.
+-- Assumes nothing.
 use mathlib.Core.Path.{_≡_, sym, _∙_}
 use native.Mathlib.Omega.{arith}
 use Prim.Native.Nat.{_≤_}

@@ -1,4 +1,5 @@
--- `store_summary`: five words with their numbers, each laid just behind the one before. Assumes nothing.
+-- `store_summary`: five words with their numbers, each laid just behind the one before.
+-- Assumes nothing.
 use Rattle.listing_text.specs.Text.{space, frames, refused, named, summaryOf}
 use Rattle.record.specs.Stored.{stored-both}
 use borrow.Author.Needs.{needs}

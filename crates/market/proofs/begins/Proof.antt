@@ -1,4 +1,5 @@
--- `begins`. The invariant: the i bytes passed are the word's. The measure is what is left of it. Assumes nothing.
+-- `begins`. The invariant: the i bytes passed are the word's. The measure is what is left of it.
+-- Assumes nothing.
 use Prim.Native.Nat.{_+_, _-_, _≤_}
 use borrow.Author.Needs.{needs}
 use native.Mathlib.Omega.{arith}

@@ -1,4 +1,5 @@
--- `line_at`. The invariant: what is left of the columns gives the same answer. The measure is the rows left. Assumes nothing.
+-- `line_at`. The invariant: what is left of the columns gives the same answer. The measure is the
+-- rows left. Assumes nothing.
 use Prim.Native.Nat.{_-_, _≤_}
 use borrow.Author.Needs.{needs}
 use borrow.Author.Tests.{not-true, not-false}

@@ -1,4 +1,5 @@
--- `lines_at`. The invariant: what is left gives the same answer (`Left`). The measure is the bytes left. Assumes nothing.
+-- `lines_at`. The invariant: what is left gives the same answer (`Left`). The measure is the bytes
+-- left. Assumes nothing.
 use Prim.Native.Nat.{_-_}
 use borrow.Author.Needs.{needs}
 use native.Mathlib.Omega.{arith}

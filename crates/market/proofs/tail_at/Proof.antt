@@ -1,4 +1,5 @@
--- `tail_at`. The invariant: what is left of the marks gives the same answer. The measure is the marks left. Assumes nothing.
+-- `tail_at`. The invariant: what is left of the marks gives the same answer. The measure is the
+-- marks left. Assumes nothing.
 use Prim.Native.Nat.{_-_, _≤_}
 use borrow.Author.Needs.{needs}
 use borrow.Author.Tests.{not-true, not-false}

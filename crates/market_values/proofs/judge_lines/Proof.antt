@@ -1,5 +1,5 @@
--- `judge_lines`. The invariant: what is left gives the same answer, and counts on (`JudgeLeft`). The measure is the bytes left.
--- Assumes nothing.
+-- `judge_lines`. The invariant: what is left gives the same answer, and counts on (`JudgeLeft`).
+-- The measure is the bytes left. Assumes nothing.
 use Prim.Native.Nat.{_+_, _-_, _≤_, _<_, _^_}
 use borrow.Author.Needs.{needs}
 use native.Mathlib.Omega.{arith}

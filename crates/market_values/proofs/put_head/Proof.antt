@@ -1,4 +1,5 @@
--- `put_head`: the count and the header's own values as one row of values, and that row written. Assumes nothing.
+-- `put_head`: the count and the header's own values as one row of values, and that row written.
+-- Assumes nothing.
 use borrow.Author.Needs.{needs}
 use mathlib.Core.Path.{_≡_, sym, ap, _∙_}
 use mathlib.Core.List.{List}

@@ -1,4 +1,5 @@
--- `put_line`. The invariant: what is left of the line, laid over what stands there now, gives what is to be. The measure is the rows left. Assumes nothing.
+-- `put_line`. The invariant: what is left of the line, laid over what stands there now, gives what
+-- is to be. The measure is the rows left. Assumes nothing.
 use Prim.Native.Nat.{_+_, _-_, _≤_, _<_, _^_}
 use borrow.Author.Needs.{needs}
 use native.Mathlib.Omega.{arith}

@@ -1,4 +1,5 @@
--- `see`: the paper of a reading tells what is seen of it; a frame's body is a part of the bytes. Assumes nothing.
+-- `see`: the paper of a reading tells what is seen of it; a frame's body is a part of the bytes.
+-- Assumes nothing.
 use native.Mathlib.Omega.{arith}
 use Prim.Native.Nat.{ℕ, _+_, _≤_}
 use mathlib.Core.Path.{_≡_, sym, ap, _∙_}

@@ -1,4 +1,5 @@
--- `record_at`: the part from the place on, or from the end on where the place is beyond it; there all reads 0 either way. Assumes nothing.
+-- `record_at`: the part from the place on, or from the end on where the place is beyond it; there
+-- all reads 0 either way. Assumes nothing.
 use mathlib.Core.Path.{_∙_}
 use lib.ListN.{length}
 use native.Mathlib.Omega.{arith}

@@ -1,4 +1,5 @@
--- `entries_ok`. The invariant: ok tells of the i entries passed. The measure is what is left of n. Assumes nothing.
+-- `entries_ok`. The invariant: ok tells of the i entries passed. The measure is what is left of n.
+-- Assumes nothing.
 use native.Mathlib.Omega.{arith}
 use borrow.Author.Needs.{needs}
 use Rattle.rules.specs.Sizes.{entries-more, entry-small}

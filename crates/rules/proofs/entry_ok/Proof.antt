@@ -1,4 +1,5 @@
--- `entry_ok`: each field is the number that the definition reads, so the tests are the same. Assumes nothing.
+-- `entry_ok`: each field is the number that the definition reads, so the tests are the same.
+-- Assumes nothing.
 use Rattle.rules.specs.Fields.{entryOk}
 use borrow.Author.Needs.{needs}
 use Rattle.rules.proofs.entry_ok.Statement.{statement}

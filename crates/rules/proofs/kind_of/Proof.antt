@@ -1,5 +1,5 @@
--- `kind_of`: a third letter that is not 0 is none of the table's; in an arm the number is known, and the table computes; in the last it is none of
--- the eight. Assumes nothing.
+-- `kind_of`: a third letter that is not 0 is none of the table's; in an arm the number is known,
+-- and the table computes; in the last it is none of the eight. Assumes nothing.
 use Prim.Native.Nat.{ℕ, _/_, _%_}
 use mathlib.Core.Path.{_≡_, refl, ap, _∙_}
 use mathlib.Core.Bool.{false}

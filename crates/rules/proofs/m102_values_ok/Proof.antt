@@ -1,4 +1,5 @@
--- `m102_values_ok`: each field is the number that the definition reads, so the tests are the same. Assumes nothing.
+-- `m102_values_ok`: each field is the number that the definition reads, so the tests are the same.
+-- Assumes nothing.
 use Rattle.rules.specs.Fields.{m102ValuesOk}
 use borrow.Author.Needs.{needs}
 use Rattle.rules.proofs.m102_values_ok.Statement.{statement}

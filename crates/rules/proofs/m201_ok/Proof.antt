@@ -1,4 +1,5 @@
--- `m201_ok`: each field is the number that the definition reads, so the tests are the same. Assumes nothing.
+-- `m201_ok`: each field is the number that the definition reads, so the tests are the same.
+-- Assumes nothing.
 use Rattle.rules.specs.Fields.{m201Ok}
 use borrow.Author.Needs.{needs}
 use Rattle.rules.proofs.m201_ok.Statement.{statement}

@@ -1,4 +1,5 @@
--- `p001_ok`: each field is the number that the definition reads, so the tests are the same. Assumes nothing.
+-- `p001_ok`: each field is the number that the definition reads, so the tests are the same.
+-- Assumes nothing.
 use Rattle.rules.specs.Fields.{p001Ok}
 use borrow.Author.Needs.{needs}
 use Rattle.rules.proofs.p001_ok.Statement.{statement}

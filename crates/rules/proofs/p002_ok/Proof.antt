@@ -1,4 +1,5 @@
--- `p002_ok`: each field is the number that the definition reads, so the tests are the same. Assumes nothing.
+-- `p002_ok`: each field is the number that the definition reads, so the tests are the same.
+-- Assumes nothing.
 use Rattle.rules.specs.Fields.{p002Ok}
 use borrow.Author.Needs.{needs}
 use Rattle.rules.proofs.p002_ok.Statement.{statement}

@@ -1,4 +1,5 @@
--- `s001_ok`: each field is the number that the definition reads, so the tests are the same. Assumes nothing.
+-- `s001_ok`: each field is the number that the definition reads, so the tests are the same.
+-- Assumes nothing.
 use Rattle.rules.specs.Fields.{s001Ok}
 use borrow.Author.Needs.{needs}
 use Rattle.rules.proofs.s001_ok.Statement.{statement}

@@ -1,4 +1,5 @@
--- `s002_ok`: each field is the number that the definition reads, so the tests are the same. Assumes nothing.
+-- `s002_ok`: each field is the number that the definition reads, so the tests are the same.
+-- Assumes nothing.
 use Rattle.rules.specs.Fields.{s002Ok}
 use borrow.Author.Needs.{needs}
 use Rattle.rules.proofs.s002_ok.Statement.{statement}

@@ -1,4 +1,5 @@
--- `lay_scrubbed`: without room nothing is laid; with room the frame lies there, and its last byte is the sum that it is scrubbed by. Assumes nothing.
+-- `lay_scrubbed`: without room nothing is laid; with room the frame lies there, and its last byte
+-- is the sum that it is scrubbed by. Assumes nothing.
 use native.Mathlib.Omega.{arith}
 use Prim.Native.Nat.{ℕ, _+_, _-_, _≤_}
 use mathlib.Core.Path.{_≡_, refl, sym, ap, _∙_}

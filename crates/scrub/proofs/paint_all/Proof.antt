@@ -1,5 +1,6 @@
--- `paint_all`. The invariant: the body is painted with the first i spans, the rest of the buffer is as it was, and w is the
--- sum of header and body as they are now. The measure is what is left of the spans. Assumes nothing.
+-- `paint_all`. The invariant: the body is painted with the first i spans, the rest of the buffer is
+-- as it was, and w is the sum of header and body as they are now. The measure is what is left of
+-- the spans. Assumes nothing.
 use native.Mathlib.Omega.{arith}
 use borrow.Author.Needs.{needs}
 use Rattle.private.specs.Spans.{start, now-long, span-fits, one-more, all-spans}

@@ -1,4 +1,5 @@
--- `paint_span`: the span read from the body lies within it, so its part lies within the buffer, and the sum is moved by its bytes. Assumes nothing.
+-- `paint_span`: the span read from the body lies within it, so its part lies within the buffer, and
+-- the sum is moved by its bytes. Assumes nothing.
 use native.Mathlib.Omega.{arith}
 use Rattle.private.specs.Within.{spanIn, spanPainted}
 use Rattle.private.specs.Private.{privateOf, spanAt}

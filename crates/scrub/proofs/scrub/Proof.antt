@@ -1,5 +1,5 @@
--- `scrub`: reading's refusal is passed on; of a frame that reads, its paper tells the type and the length that it is scrubbed
--- by, and CheckSum's last byte the sum. Assumes nothing.
+-- `scrub`: reading's refusal is passed on; of a frame that reads, its paper tells the type and the
+-- length that it is scrubbed by, and CheckSum's last byte the sum. Assumes nothing.
 use Rattle.private.specs.Laws.{answer-as, read-there, read-suits, read-sum, read-scrubs, answer-refused, refused-same}
 use Rattle.frame_spec.specs.Outcomes.{read-done, read-values, read-length}
 use Rattle.frame.specs.Papers.{readPaper}

@@ -1,5 +1,5 @@
--- `scrub_into`: reading's refusal is passed on; of a frame that reads, its paper tells the type and the length that it is laid and scrubbed by.
--- Assumes nothing.
+-- `scrub_into`: reading's refusal is passed on; of a frame that reads, its paper tells the type and
+-- the length that it is laid and scrubbed by. Assumes nothing.
 use Prim.Native.Nat.{ℕ}
 use mathlib.Core.Path.{_≡_, sym, ap, _∙_}
 use mathlib.Core.List.{List, [], _∷_}

@@ -1,5 +1,5 @@
--- `digits_end`. The invariant: all bytes before i are digits. The measure is what is left. Assumes
--- nothing.
+-- `digits_end`. The invariant: all bytes before i are digits. The measure is what is left.
+-- Assumes nothing.
 use Rattle.step_spec.specs.FrontLaws.{digits-stop, digits-next, digits-past}
 use Rattle.step_spec.specs.PieceLaws.{part}
 use Rattle.step_spec.specs.Frame.{digitRun}

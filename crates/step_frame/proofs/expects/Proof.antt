@@ -1,6 +1,6 @@
--- what is left of the literal. Assumes nothing. `expects`. The invariant: what is left of the
--- literal stands at the front of what is left of the bytes exactly if the whole does. The measure
--- is
+-- what is left of the literal. Assumes nothing.
+-- `expects`. The invariant: what is left of the literal stands at the front of what is left of the
+-- bytes exactly if the whole does. The measure is
 use Rattle.step_frame.specs.Papers.{stepNumber}
 use Rattle.step_spec.specs.FrontLaws.{front-end, front-short, front-fails, front-on}
 use Rattle.step_spec.specs.Frame.{front}

@@ -1,5 +1,5 @@
--- `head_at`: a literal that fails or ends early is the answer; else the next check's. Assumes
--- nothing.
+-- `head_at`: a literal that fails or ends early is the answer; else the next check's.
+-- Assumes nothing.
 use Rattle.step_frame.specs.Papers.{checkNumber, stepNumber, step-pos}
 use Rattle.step_spec.specs.FrontLaws.{front-length}
 use Rattle.step_spec.specs.Frame.{front, begin, lengthTag, headOf}

@@ -1,5 +1,5 @@
--- `may_write`: the frame's length is told without making it; then each check in turn. Assumes
--- nothing.
+-- `may_write`: the frame's length is told without making it; then each check in turn.
+-- Assumes nothing.
 use Rattle.step_frame.specs.Papers.{checkNumber, stepNumber, step-pos}
 use Rattle.step_spec.specs.WriteLaws.{frame-over, frame-size, write-long, write-type, write-judged, write-room, write-fine}
 use Rattle.step_spec.specs.Written.{frameOf}

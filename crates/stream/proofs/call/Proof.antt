@@ -1,4 +1,5 @@
--- `call`: the checks in their order; whether the records fit is known before the first is written. Assumes nothing.
+-- `call`: the checks in their order; whether the records fit is known before the first is written.
+-- Assumes nothing.
 use native.Mathlib.Omega.{arith}
 use Prim.Native.Nat.{_+_, _≤_, _<_, _^_}
 use mathlib.Core.Path.{_≡_, refl, sym, _∙_}

@@ -1,4 +1,5 @@
--- `drawn`: at the closing call one push of what remains, else the pieces of the cut. Assumes nothing.
+-- `drawn`: at the closing call one push of what remains, else the pieces of the cut.
+-- Assumes nothing.
 use native.Mathlib.Omega.{arith}
 use borrow.Author.Needs.{needs}
 use Rattle.stream.proofs.drawn.Statement.{statement}

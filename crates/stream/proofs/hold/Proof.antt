@@ -1,4 +1,5 @@
--- `hold`. The invariant: the first i kept bytes are laid. The measure is what is left of n. Assumes nothing.
+-- `hold`. The invariant: the first i kept bytes are laid. The measure is what is left of n.
+-- Assumes nothing.
 use borrow.Author.Needs.{needs}
 use native.Mathlib.Omega.{arith}
 use Prim.Native.Nat.{_-_, _≤_}

@@ -1,4 +1,5 @@
--- `ledger_right`: a count of a sound ledger is not refused, one of a broken ledger is. Assumes nothing.
+-- `ledger_right`: a count of a sound ledger is not refused, one of a broken ledger is.
+-- Assumes nothing.
 use mathlib.Core.Path.{sym, _∙_}
 use borrow.Author.Needs.{needs}
 use Rattle.stream_spec.specs.StateLaws.{held-done, held-refused, ledger-other, ledger-own}

@@ -1,5 +1,5 @@
--- `pour`. The invariant: pushing what is left of the cut, behind what was pushed, gives what pushing the whole cut gives (`Left`). The
--- measure is what is left of the cut. Assumes nothing.
+-- `pour`. The invariant: pushing what is left of the cut, behind what was pushed, gives what
+-- pushing the whole cut gives (`Left`). The measure is what is left of the cut. Assumes nothing.
 use borrow.Author.Needs.{needs}
 use native.Mathlib.Omega.{arith}
 use Prim.Native.Nat.{_-_, _≤_}

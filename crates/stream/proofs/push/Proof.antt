@@ -1,4 +1,5 @@
--- `push`: the window holds the kept bytes and the piece; what the run leaves of it stands in front of zeros. Assumes nothing.
+-- `push`: the window holds the kept bytes and the piece; what the run leaves of it stands in front
+-- of zeros. Assumes nothing.
 use native.Mathlib.Omega.{arith}
 use Prim.Native.Nat.{ℕ, _+_, _-_, _≤_}
 use mathlib.Core.Path.{_≡_, refl, sym, ap, _∙_}

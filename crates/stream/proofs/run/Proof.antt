@@ -1,5 +1,5 @@
--- `run`. The invariant: what is left at p, behind the records so far, gives what the whole run gives (`Left`). The measure is what is left
--- of the window. Assumes nothing.
+-- `run`. The invariant: what is left at p, behind the records so far, gives what the whole run
+-- gives (`Left`). The measure is what is left of the window. Assumes nothing.
 use borrow.Author.Needs.{needs}
 use native.Mathlib.Omega.{arith}
 use Prim.Native.Nat.{_+_, _-_, _≤_}

@@ -1,4 +1,5 @@
--- `takes_all`: no bytes give more records than `roomy` asks room for; else the pass counted them. Assumes nothing.
+-- `takes_all`: no bytes give more records than `roomy` asks room for; else the pass counted them.
+-- Assumes nothing.
 use mathlib.Core.Path.{sym, _∙_}
 use native.Mathlib.Omega.{arith}
 use borrow.Author.Needs.{needs}

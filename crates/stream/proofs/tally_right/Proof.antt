@@ -1,4 +1,5 @@
--- `tally_right`: the counts together stay below the place, and the ledger is right. Assumes nothing.
+-- `tally_right`: the counts together stay below the place, and the ledger is right.
+-- Assumes nothing.
 use native.Mathlib.Omega.{arith}
 use mathlib.Core.Path.{_∙_}
 use borrow.Author.Needs.{needs}

@@ -1,4 +1,5 @@
--- The part, shifted back to where it stood, is no more than the word: nothing is lost, and the difference is no less than 0. Assumes nothing.
+-- The part, shifted back to where it stood, is no more than the word: nothing is lost, and the
+-- difference is no less than 0. Assumes nothing.
 use mathlib.Core.Path.{_≡_, ap, _∙_}
 use Prim.Native.Nat.{ℕ, _-_, _*_, _/_, _%_, _^_}
 use native.Mathlib.Nat.{mod-eq-of-lt, lt-of-le-of-lt}

@@ -1,4 +1,5 @@
--- `onward`: a frame is stepped past; else the paper of the search tells where the walk goes on. Assumes nothing.
+-- `onward`: a frame is stepped past; else the paper of the search tells where the walk goes on.
+-- Assumes nothing.
 use native.Mathlib.Omega.{arith}
 use Prim.Native.Nat.{_+_}
 use mathlib.Core.Path.{_≡_, sym, ap, _∙_}

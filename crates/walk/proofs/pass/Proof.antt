@@ -1,5 +1,6 @@
--- `pass`. The invariant: the ledger is that of the calls so far, and what is left at p, behind the records and frames so far, gives what the
--- whole walk gives (`Left`). The measure is what is left of the capture. Assumes nothing.
+-- `pass`. The invariant: the ledger is that of the calls so far, and what is left at p, behind the
+-- records and frames so far, gives what the whole walk gives (`Left`). The measure is what is left
+-- of the capture. Assumes nothing.
 use native.Mathlib.Omega.{arith}
 use Prim.Native.Nat.{_-_}
 use lib.ListN.{length}

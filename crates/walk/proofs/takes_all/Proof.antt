@@ -1,4 +1,5 @@
--- `takes_all`: no capture makes more records than `roomy` asks room for; else the pass counted them. Assumes nothing.
+-- `takes_all`: no capture makes more records than `roomy` asks room for; else the pass counted
+-- them. Assumes nothing.
 use mathlib.Core.Path.{sym, _∙_}
 use Rattle.walk_spec.specs.WalkLaws.{fits-roomy}
 use Rattle.walk.specs.PassedLaws.{fits-counted}

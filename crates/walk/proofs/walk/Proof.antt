@@ -1,4 +1,5 @@
--- `walk`: the ledger is opened for channel 100; then either the records do not fit, or the pass wrote them all. Assumes nothing.
+-- `walk`: the ledger is opened for channel 100; then either the records do not fit, or the pass
+-- wrote them all. Assumes nothing.
 use mathlib.Core.Path.{_≡_, sym, ap, _∙_}
 use Rattle.terms.specs.declared.ChannelNumber.{ChannelNumber}
 use Rattle.ledger.specs.State.{ledgerOf}

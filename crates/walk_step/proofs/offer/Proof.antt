@@ -1,4 +1,5 @@
--- `offer`: the reading's answer and its type tell the calls, and each arm gives what they come to. Assumes nothing.
+-- `offer`: the reading's answer and its type tell the calls, and each arm gives what they come to.
+-- Assumes nothing.
 use mathlib.Core.Path.{_≡_, sym, _∙_}
 use borrow.Author.Needs.{needs}
 use Rattle.rules.specs.Table.{kind-is}

@@ -1,4 +1,5 @@
--- The verdict has the call's number; 0 raises the top, a refusal gives back the ledger. Assumes nothing.
+-- The verdict has the call's number; 0 raises the top, a refusal gives back the ledger.
+-- Assumes nothing.
 use mathlib.Core.Path.{_≡_, sym, ap, _∙_}
 use Prim.Native.Nat.{ℕ}
 use borrow.Author.Needs.{needs}

@@ -1,4 +1,5 @@
--- 13 where the test of the state fails, 18 where the channels differ, else what was found. Assumes nothing.
+-- 13 where the test of the state fails, 18 where the channels differ, else what was found.
+-- Assumes nothing.
 use mathlib.Core.Path.{_≡_, sym, _∙_}
 use mathlib.Core.Bool.{true}
 use native.Mathlib.Omega.{arith}

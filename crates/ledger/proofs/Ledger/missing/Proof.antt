@@ -1,4 +1,5 @@
--- Of a sound state no more are held than lie between floor and top, so neither difference goes below 0. Assumes nothing.
+-- Of a sound state no more are held than lie between floor and top, so neither difference goes
+-- below 0. Assumes nothing.
 use mathlib.Core.Bool.{not, true, false}
 use mathlib.Core.Path.{_≡_, sym, ap₂, _∙_}
 use mathlib.Core.List.{[], _∷_}

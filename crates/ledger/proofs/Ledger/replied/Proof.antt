@@ -1,4 +1,5 @@
--- The count is the run of the definition, the map without the places passed is its map, and the two sets read round from floor + 1 are its sets. Assumes nothing.
+-- The count is the run of the definition, the map without the places passed is its map, and the two
+-- sets read round from floor + 1 are its sets. Assumes nothing.
 use mathlib.Core.Path.{_≡_, sym, ap, ap₂, _∙_}
 use mathlib.Core.List.{[], _∷_}
 use Prim.Native.Nat.{ℕ, _+_, _-_, _≤_}

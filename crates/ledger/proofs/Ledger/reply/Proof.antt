@@ -1,4 +1,5 @@
--- The verdict has the call's number; 0 does what the definition says, a refusal gives back the ledger. Assumes nothing.
+-- The verdict has the call's number; 0 does what the definition says, a refusal gives back the
+-- ledger. Assumes nothing.
 use mathlib.Core.Path.{_≡_, sym, ap, _∙_}
 use mathlib.Core.List.{[], _∷_}
 use Prim.Native.Nat.{ℕ, _+_}

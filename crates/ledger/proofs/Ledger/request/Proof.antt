@@ -1,4 +1,5 @@
--- The verdict has the call's number. Where it is 0 the state is sound, as the grant requires. Assumes nothing.
+-- The verdict has the call's number. Where it is 0 the state is sound, as the grant requires.
+-- Assumes nothing.
 use mathlib.Core.Path.{_≡_, sym, ap, _∙_}
 use native.Mathlib.Omega.{arith}
 use borrow.Author.Needs.{needs}

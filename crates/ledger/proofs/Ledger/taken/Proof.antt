@@ -1,4 +1,5 @@
--- The number's place is the digit of the definition, read round; the floor passes the run, and without its places the map reads as the shifted one. Assumes nothing.
+-- The number's place is the digit of the definition, read round; the floor passes the run, and
+-- without its places the map reads as the shifted one. Assumes nothing.
 use mathlib.Core.Path.{_≡_, ap, _∙_, ap₂}
 use mathlib.Core.List.{[], _∷_}
 use Prim.Native.Nat.{ℕ, _+_, _<_, max, _^_}

@@ -1,4 +1,5 @@
--- The verdict has the call's number. Where it is 0, the checks before it give what a taken tick requires. Assumes nothing.
+-- The verdict has the call's number. Where it is 0, the checks before it give what a taken tick
+-- requires. Assumes nothing.
 use mathlib.Core.Path.{_≡_, sym, ap, _∙_}
 use mathlib.Core.List.{[], _∷_}
 use Prim.Native.Nat.{ℕ, _+_, _≤_, _<_, max}

@@ -1,4 +1,5 @@
--- A range that the floor has passed reaches no further, and nothing pending reaches nowhere. Assumes nothing.
+-- A range that the floor has passed reaches no further, and nothing pending reaches nowhere.
+-- Assumes nothing.
 use mathlib.Core.Path.{ap}
 use Prim.Native.Nat.{_-_}
 use native.Mathlib.Omega.{arith}

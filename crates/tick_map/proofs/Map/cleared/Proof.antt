@@ -1,4 +1,5 @@
--- Invariant: the map so far, without the places left to clear, is the map at the start without all of them. Measure: how many are left. Assumes nothing.
+-- Invariant: the map so far, without the places left to clear, is the map at the start without all
+-- of them. Measure: how many are left. Assumes nothing.
 use mathlib.Core.Path.{_≡_, sym, ap, _∙_, subst}
 use mathlib.Core.List.{List}
 use Prim.Native.Nat.{ℕ, _+_, _-_, _*_, _%_, _/_, _^_, _≤_, _<_, min}

@@ -1,5 +1,6 @@
--- Invariant: the places passed so far are clear, and the next one begins the word behind word j, counted round. Measure: what is left of 320 places,
--- the place's own word counted twice. Assumes nothing.
+-- Invariant: the places passed so far are clear, and the next one begins the word behind word j,
+-- counted round. Measure: what is left of 320 places, the place's own word counted twice.
+-- Assumes nothing.
 use mathlib.Core.Path.{_≡_, ap, _∙_}
 use Prim.Native.Nat.{ℕ, _+_, _-_, _*_, _%_, _/_, _^_, _<_}
 use native.Mathlib.Omega.{arith}

@@ -1,4 +1,5 @@
--- Invariant: what is counted and what the places left to count hold make the whole count. Measure: how many places are left to count. Assumes nothing.
+-- Invariant: what is counted and what the places left to count hold make the whole count. Measure:
+-- how many places are left to count. Assumes nothing.
 use mathlib.Core.Path.{_≡_, sym, ap, _∙_}
 use Prim.Native.Nat.{ℕ, _+_, _-_, _%_, _/_, _^_, _≤_, _<_, min}
 use native.Mathlib.Nat.{zero-add, add-zero, mod-lt}

@@ -1,4 +1,5 @@
--- Below 256, place i is bit i % 64 of word i / 64; the number has no digit from 256 on. Assumes nothing.
+-- Below 256, place i is bit i % 64 of word i / 64; the number has no digit from 256 on.
+-- Assumes nothing.
 use mathlib.Core.Path.{_∙_, ap, sym}
 use Prim.Native.Nat.{ℕ}
 use borrow.Author.Needs.{needs}

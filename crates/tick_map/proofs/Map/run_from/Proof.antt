@@ -1,4 +1,5 @@
--- The places before the first one not held are the clear ones before the complement's first one. Assumes nothing.
+-- The places before the first one not held are the clear ones before the complement's first one.
+-- Assumes nothing.
 use mathlib.Core.Path.{_∙_, ap}
 use Prim.Native.Nat.{ℕ}
 use borrow.Author.Needs.{needs}

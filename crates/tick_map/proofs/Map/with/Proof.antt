@@ -1,4 +1,5 @@
--- Below 256, one word with one bit more is the number with one digit more; beyond, the remainder by 2 ^ 256 takes the digit away. Assumes nothing.
+-- Below 256, one word with one bit more is the number with one digit more; beyond, the remainder by
+-- 2 ^ 256 takes the digit away. Assumes nothing.
 use mathlib.Core.Path.{_≡_, sym, _∙_, ap}
 use Prim.Native.Nat.{ℕ, _/_, _%_, _^_}
 use native.Mathlib.Nat.{mod-eq-of-lt}
