@@ -47,7 +47,8 @@ pub inside-whole : cleanOf (frameOf 0x4D named 0x7B) ≡ frameOf 0x4D (replicate
 unfolding fixedPart orderTail frameA startOfA cleanOf framesIn foundIn foundBy accepts sightsOf noted found next after seenOf saysOf readOf checked bodyRead viewOf numeral digitsOf sum8 sumOf laid painted summed scrubbed joined eachOf kindOf suits measureOf layoutOf suitsTail tailOk tailOf m201Ok fieldsOk realTime realParts daysIn leap judgeOf
 inside-whole = refl
 
--- with its first byte damaged it is refused, and the search finds the heartbeat in what was its private name: that is kept
+-- with its first byte damaged it is refused, and the search finds the heartbeat in what was its
+-- private name: that is kept
 pub inside-damaged : cleanOf (frameOf 0x4E named 0x7B) ≡ heartbeat
 unfolding fixedPart orderTail frameA startOfA cleanOf framesIn foundIn foundBy accepts sightsOf noted found next after seenOf saysOf readOf checked bodyRead viewOf numeral digitsOf sum8 sumOf laid painted summed scrubbed joined eachOf kindOf suits measureOf layoutOf suitsTail tailOk tailOf m201Ok fieldsOk realTime realParts daysIn leap judgeOf
 inside-damaged = refl

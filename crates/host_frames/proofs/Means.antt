@@ -216,7 +216,8 @@ rk-search-finds κs a x s p = host-found (now (a .0)) (a .1 .0) p
 
 -- ======== Private spans, and entries
 
--- 0 exactly where reading's checks of type and length pass, and then place, length and filling byte of span number i; else the number of the check
+-- 0 exactly where reading's checks of type and length pass, and then place, length and filling byte
+-- of span number i; else the number of the check
 pub rk-private-span : (κs : Lfts 2) (a : Dens κs private-kinds.ps) (x : resT private-kinds.r κs .Denot) (s : AtExit (endedOf 2 private-kinds.ps private-kinds.r) κs) → private.Post κs a x s
     → let span = spanAt (a .1 .1 .0) (privateOf (kindOf (a .0)) (now (a .1 .0))) in
     (x ≡ measureOf (kindOf (a .0)) (length (now (a .1 .0)))) × (x ≡ 0 → now (s .1 .1 .1 .0) ≡ span .place ∷ span .len ∷ span .fill ∷ [])

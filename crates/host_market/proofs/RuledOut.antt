@@ -1,4 +1,5 @@
--- For each public function: wrong answers that its promise rules out, as tables of what is given and what is then wrong. Assumes nothing.
+-- For each public function: wrong answers that its promise rules out, as tables of what is given
+-- and what is then wrong. Assumes nothing.
 use Prim.Native.Nat.{ℕ, _+_}
 use mathlib.Core.Path.{_≡_, refl}
 use mathlib.Core.List.{List, [], _∷_, _++_}

@@ -57,7 +57,8 @@ pub extern "C" fn rk_market_check(file: &[u8]) -> Finding
     finding_of(v)
 }
 
-// Takes the values out of a file, over the front of out: 0 and how many bytes they are, or as the check answers, then 8.
+// Takes the values out of a file, over the front of out: 0 and how many bytes they are, or as the
+// check answers, then 8.
 #[no_mangle]
 pub extern "C" fn rk_market_values(file: &[u8], out: &mut [u8]) -> Finding
     ensures { λ r. ⌜ (findingPaper r ≡ valuesAnswer (length (now (out .entry))) (now (file .entry)))
@@ -67,7 +68,8 @@ pub extern "C" fn rk_market_values(file: &[u8], out: &mut [u8]) -> Finding
     finding_of(v)
 }
 
-// Writes the file that values make over the front of out: 0 and how long it is, or 40, 42, 43, then 47, then 8.
+// Writes the file that values make over the front of out: 0 and how long it is, or 40, 42, 43, then
+// 47, then 8.
 #[no_mangle]
 pub extern "C" fn rk_market_write(values: &[u8], out: &mut [u8]) -> Finding
     ensures { λ r. ⌜ (findingPaper r ≡ writtenAnswer (length (now (out .entry))) (now (values .entry)))

@@ -1,4 +1,5 @@
--- For each public function: wrong answers that its promise rules out, as tables of what is given and what is then wrong. Assumes nothing.
+-- For each public function: wrong answers that its promise rules out, as tables of what is given
+-- and what is then wrong. Assumes nothing.
 use Prim.Native.Nat.{ℕ, _+_}
 use mathlib.Core.Path.{_≡_, refl, ap, ap₂}
 use mathlib.Core.Bool.{Bool, true, false, _&&_}
@@ -61,7 +62,8 @@ pub number-fits-rules-out : RulesOut (Kept _ number-fits-kinds.ps number-fits-ki
 unfolding numberFits numberText decimalOf widthIn digitsOf
 number-fits-rules-out = ruled bools (λ (i : ℕ × (ℕ × (ℕ × ℕ))). numberFits (i .0) (i .1 .0) (i .1 .1 .0) (i .1 .1 .1)) (λ c p. p) _ refl
 
--- PUT_NUMBER: a buffer, a place, a width, decimals, a sign and units; whether it was put, and the buffer then
+-- PUT_NUMBER: a buffer, a place, a width, decimals, a sign and units; whether it was put, and the
+-- buffer then
 abbrev Put : Type 0
 Put = Bool × List ℕ
 

@@ -2,7 +2,8 @@
 use Prim.Native.Nat.{ℕ, _+_}
 use mathlib.Core.List.{List, [], _∷_, _++_}
 
--- `HEADER|BTH1.00 |          |`, five bytes of the count, `|        |SSEIN |20260102-09:30:00.000|0|3       ` and a newline
+-- `HEADER|BTH1.00 |          |`, five bytes of the count, `|        |SSEIN
+-- |20260102-09:30:00.000|0|3       ` and a newline
 abbrev pub headFront : List ℕ
 headFront = 72 ∷ 69 ∷ 65 ∷ 68 ∷ 69 ∷ 82 ∷ 124 ∷ 66 ∷ 84 ∷ 72 ∷ 49 ∷ 46 ∷ 48 ∷ 48 ∷ 32 ∷ 124 ∷ 32 ∷ 32 ∷ 32 ∷ 32 ∷ 32 ∷ 32 ∷ 32 ∷ 32 ∷ 32 ∷ 32 ∷ 124 ∷ []
 
@@ -12,7 +13,8 @@ headBack = 124 ∷ 32 ∷ 32 ∷ 32 ∷ 32 ∷ 32 ∷ 32 ∷ 32 ∷ 32 ∷ 124 �
 abbrev pub headLine : ℕ → List ℕ
 headLine digit = headFront ++ (32 ∷ 32 ∷ 32 ∷ 32 ∷ digit ∷ headBack)
 
--- `MD405|00001|`, a name that holds a bar and a newline, `|SAMPLE         |`, three prices, `|N|         100|09:30:00.000` and a newline
+-- `MD405|00001|`, a name that holds a bar and a newline, `|SAMPLE         |`, three prices, `|N|
+-- 100|09:30:00.000` and a newline
 abbrev pub lineFront : List ℕ
 lineFront = 77 ∷ 68 ∷ 52 ∷ 48 ∷ 53 ∷ 124 ∷ 48 ∷ 48 ∷ 48 ∷ 48 ∷ 49 ∷ 124 ∷ []
 

@@ -1,4 +1,5 @@
--- The spans that are told one by one, from number 0 up to the first empty one, are exactly the private bytes of a body, and lie within it.
+-- The spans that are told one by one, from number 0 up to the first empty one, are exactly the
+-- private bytes of a body, and lie within it.
 use Prim.Native.Nat.{ℕ, zero, suc, _+_, _<_, _≤_}
 use mathlib.Core.Path.{_≡_, refl}
 use mathlib.Core.Bool.{true}

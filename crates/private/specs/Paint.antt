@@ -154,7 +154,8 @@ clear-outside (p ∷ ps) at w i c l h =
 pub number-same : (ps : List Span) (a b : List ℕ) → Agree ps a b → (w at : ℕ) → Clear ps at w → numeral 256 w at a ≡ numeral 256 w at b
 number-same ps a b g w at c = numeral-same 256 w at a b (λ i l. g .outside (at + i) (clear-outside ps at w i c l))
 
--- what agrees outside a span and the others agrees outside the others once that span is painted in both
+-- what agrees outside a span and the others agrees outside the others once that span is painted in
+-- both
 over-agrees : (p : Span) (ps : List Span) (a b : List ℕ) → p .place + p .len ≤ length a → p .place + p .len ≤ length b → Agree (p ∷ ps) a b → Agree ps (over p a) (over p b)
 over-agrees p ps a b l k e =
     record {

@@ -1,4 +1,5 @@
--- Which bytes of a body are private: ONE definition, from which the promise, the theorems and docs/PRIVATE.md all speak.
+-- Which bytes of a body are private: ONE definition, from which the promise, the theorems and
+-- docs/PRIVATE.md all speak.
 -- Document 01, "Scrubber", and document 02, CR 2.
 use Prim.Native.Nat.{ℕ, _+_, _-_}
 use mathlib.Core.List.{List, [], _∷_}
@@ -29,13 +30,14 @@ wholeField k i = spaces (placeOf k i) (widthOf k i)
 abbrev pub orderField : ℕ → Span
 orderField i = record { place = fixed M201 + before i orderWidths; len = getD orderWidths i 0; fill = fillOf (getD orderHolds i text) }
 
--- how the extension of a body is read: by the layout that its stream and ExecType name, where the body has that layout's length. A body that has not never
--- reads; lent alone it counts as a stream not named.
+-- how the extension of a body is read: by the layout that its stream and ExecType name, where the
+-- body has that layout's length. A body that has not never reads; lent alone it counts as a stream
+-- not named.
 unfoldable pub tailOf : List ℕ → Layout
 tailOf b = pick (tailOk b) (namedIn b) Other
 
--- "Member and trader codes and free text stay private": three fields of an order, none of a trade. "An extension of a stream not named there is wholly private
--- and still painted with spaces."
+-- "Member and trader codes and free text stay private": three fields of an order, none of a trade.
+-- "An extension of a stream not named there is wholly private and still painted with spaces."
 abbrev pub tailSpans : Layout → ℕ → List Span
 tailSpans Order n = orderField 2 ∷ orderField 3 ∷ orderField 10 ∷ []  -- MemberID, TraderCode, InvestorName
 tailSpans Trade n = []

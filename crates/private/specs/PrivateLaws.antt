@@ -24,7 +24,8 @@ use Rattle.frame_view.specs.View.{viewOf}
 use Rattle.private.specs.Private.{fillOf, orderField, tailOf, tailSpans, privateOf}
 use Rattle.private.specs.Paint.{Inside, Within, Filled, Agree, Clear, number-same}
 
--- THE EXTENSION OF AN M201 is read as an order's or a trade's exactly where the rule says so and the length suits
+-- THE EXTENSION OF AN M201 is read as an order's or a trade's exactly where the rule says so and
+-- the length suits
 module _ (b : List ℕ) where
   pub tail-named : tailOk b ≡ true → tailOf b ≡ namedIn b
   unfolding tailOf
@@ -48,13 +49,15 @@ module _ (b : List ℕ) where
       let suit : suitsTail (namedIn b) (length b) ≡ true = rw same (suits-tail-says l (length b) .1 h) in
       tail-named suit ∙ same
 
--- the bytes of an extension that are private, by offsets in a body of n bytes: MemberID, TraderCode and InvestorName of an order; none of a trade; else all
+-- the bytes of an extension that are private, by offsets in a body of n bytes: MemberID, TraderCode
+-- and InvestorName of an order; none of a trade; else all
 abbrev pub TailByte : Layout → ℕ → ℕ → Type 0
 TailByte Order n i = ((64 ≤ i) × (i < 76)) ⊎ (((76 ≤ i) × (i < 88)) ⊎ ((120 ≤ i) × (i < 152)))
 TailByte Trade n i = ⊥
 TailByte Other n i = (45 ≤ i) × (i < n)
 
--- THE SPANS OUTRIGHT, by offsets in the body: an empty `privateOf`, or one a byte short, is refused here
+-- THE SPANS OUTRIGHT, by offsets in the body: an empty `privateOf`, or one a byte short, is refused
+-- here
 abbrev pub PrivateByte : Kind → List ℕ → ℕ → Type 0
 PrivateByte S001 b i = i < 64
 PrivateByte S002 b i = (4 ≤ i) × (i < 260)

@@ -70,7 +70,8 @@ fn all_behind(i: usize, n: usize) -> Span
     only(i, 45, n - 45)
 }
 
-// How the extension of an M201 body is read: as an order or a trade where the body names that layout and has its length.
+// How the extension of an M201 body is read: as an order or a trade where the body names that
+// layout and has its length.
 fn layout_in(body: &[u8]) -> Layout
     ensures { λ r. ⌜ r ≡ tailOf (now (body .entry)) ⌝ }
 {

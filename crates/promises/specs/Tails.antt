@@ -1,4 +1,5 @@
--- Document 02, CR 2, sentence by sentence, over the scrubbed frame: what stays of a tick's extension, and what is gone.
+-- Document 02, CR 2, sentence by sentence, over the scrubbed frame: what stays of a tick's
+-- extension, and what is gone.
 use Prim.Native.Nat.{ℕ, _+_, _-_, _<_, _≤_}
 use mathlib.Core.Path.{_≡_, refl, sym, ap, _∙_}
 use mathlib.Core.Logic.{_⊎_, inl, inr, ⊎-elim}
@@ -24,7 +25,8 @@ use Rattle.private.specs.Paint.{Inside}
 use Rattle.private.specs.PrivateLaws.{TailByte, tail-is, private-is}
 use Rattle.private.specs.Laws.{scrub-keeps, scrub-fills}
 
--- A TICK THAT READS, of a layout: "Read the extension by 2.5.4.1 and 2.5.4.2 of source document 000"
+-- A TICK THAT READS, of a layout: "Read the extension by 2.5.4.1 and 2.5.4.2 of source document
+-- 000"
 module _ (s : List ℕ) (z : readOf s .number ≡ 0) (t : msgType s ≡ 0x4D323031) (l : Layout) (r : LayoutRule (be 5 11 (body s)) (be 1 28 (body s)) l) where
   long : length (body s) ≡ bodyLength s
   long = body-length s (good s z .whole .there)

@@ -101,8 +101,9 @@ pub record M102Rules (w : ℕ) (b : List ℕ) : Type 0 where
   pub whole-entries : length b ≡ fixed M102 + field M102 12 b * w
   pub entries : (i : ℕ) → i < field M102 12 b → EntryRules (field M102 4 b) (fixed M102 + i * w) b
 
--- Document 02, CR 2: "for each stream that they name; ExecType 0 and 4 choose the order layout, F the trade layout". 000, 2.5.1, names MD211 to
--- MD216 for orders and MD217 for trades. "A stream and layout that 000 doesn't pair count as a stream not named."
+-- Document 02, CR 2: "for each stream that they name; ExecType 0 and 4 choose the order layout, F
+-- the trade layout". 000, 2.5.1, names MD211 to MD216 for orders and MD217 for trades. "A stream
+-- and layout that 000 doesn't pair count as a stream not named."
 pub data Orders (s e : ℕ) : Type 0 where
   order-0 : spelled "MD211" ≤ s → s ≤ spelled "MD216" → e ≡ spelled "0" → Orders s e
   order-4 : spelled "MD211" ≤ s → s ≤ spelled "MD216" → e ≡ spelled "4" → Orders s e
@@ -122,7 +123,8 @@ TailRule Trade n = n ≡ fixed M201 + whole tradeWidths  -- 45 + 53
 TailRule Other n = n ≡ n  -- any
 
 -- "M201: SecurityType 13, ExecType 0, 4 or F, ApplSeqNum above 0. The stream is not judged."
--- ChannelNO 4 digits, ApplSeqNum at most 18, TransactTime 9, Price 13, OrderQty 15. Document 02, CR 2: "a tail length that doesn't suit its layout is 6".
+-- ChannelNO 4 digits, ApplSeqNum at most 18, TransactTime 9, Price 13, OrderQty 15. Document 02, CR
+-- 2: "a tail length that doesn't suit its layout is 6".
 pub record M201Rules (b : List ℕ) : Type 0 where
   pub security-type : field M201 0 b ≡ 13
   pub channel-no : field M201 1 b < 10 ^ 4

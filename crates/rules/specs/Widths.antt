@@ -30,8 +30,9 @@ pub data Holds : Type 0 where
   text : Holds
   number : Holds
 
--- 2.5.4.1, an order: Side, QuoteID, MemberID, TraderCode, FullAmountTrade, SettlType, ContractMultiplier, ExpirationDays, TotalValueTraded, BasketID,
--- InvestorName, BidTransType, BidExecInstType, ExpireDate, SecondaryOrderID, MinQty
+-- 2.5.4.1, an order: Side, QuoteID, MemberID, TraderCode, FullAmountTrade, SettlType,
+-- ContractMultiplier, ExpirationDays, TotalValueTraded, BasketID, InvestorName, BidTransType,
+-- BidExecInstType, ExpireDate, SecondaryOrderID, MinQty
 abbrev pub orderWidths : List ℕ
 orderWidths = 1 ∷ 18 ∷ 12 ∷ 12 ∷ 1 ∷ 1 ∷ 4 ∷ 2 ∷ 8 ∷ 16 ∷ 32 ∷ 1 ∷ 1 ∷ 4 ∷ 18 ∷ 8 ∷ []
 

@@ -28,7 +28,8 @@ pub enum Layout {
     Other,
 }
 
-// The type whose four letters a number holds, high byte first. The third letter of each is 0: in noise that one test mostly tells.
+// The type whose four letters a number holds, high byte first. The third letter of each is 0: in
+// noise that one test mostly tells.
 pub fn kind_of(t: u32) -> Kind
     ensures { λ r. ⌜ kindPaper r ≡ typeOf t ⌝ }
 {
@@ -111,7 +112,8 @@ pub fn layout_of(stream: u64, exec: u8) -> Layout
     Layout::Other
 }
 
-// Whether an M201 body of n bytes suits the layout of its extension: 45 bytes and 139 for an order, 45 and 53 for a trade.
+// Whether an M201 body of n bytes suits the layout of its extension: 45 bytes and 139 for an order,
+// 45 and 53 for a trade.
 pub fn suits_tail(layout: Layout, n: usize) -> bool
     ensures { λ r. ⌜ r ≡ suitsTail layout n ⌝ }
 {

@@ -1,4 +1,5 @@
--- `rk_private`: a refusal of reading's checks of type and length, or the span's three numbers. Assumes nothing.
+-- `rk_private`: a refusal of reading's checks of type and length, or the span's three numbers.
+-- Assumes nothing.
 use Prim.Native.Nat.{ℕ}
 use mathlib.Core.Path.{_≡_, sym, ap, ap₂, _∙_}
 use lib.ListN.{length}

@@ -1,4 +1,5 @@
--- `layout_of`: each return knows the tests that led there, and they are the definition's. Assumes nothing.
+-- `layout_of`: each return knows the tests that led there, and they are the definition's. Assumes
+-- nothing.
 use Rattle.rules.specs.Fields.{layoutOf}
 use Rattle.rules.proofs.layout_of.Statement.{statement}
 use Rattle.rules.proofs.layout_of.Tie as tie

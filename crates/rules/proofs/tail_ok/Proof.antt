@@ -1,4 +1,5 @@
--- `tail_ok`: stream and ExecType are the numbers that the definition reads, so layout and length test are the same. Assumes nothing.
+-- `tail_ok`: stream and ExecType are the numbers that the definition reads, so layout and length
+-- test are the same. Assumes nothing.
 use Rattle.rules.specs.Fields.{layoutOf, suitsTail, tailOk}
 use lib.ListN.{length}
 use mathlib.Core.Path.{ap, ap₂, _∙_}
