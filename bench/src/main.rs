@@ -6,6 +6,7 @@
 //! Each job runs both ways in turn several times, and the best time of each counts. The answers are compared first.
 
 mod made;
+mod market;
 mod plain;
 mod plain_step;
 mod shift;
@@ -587,6 +588,7 @@ fn main() {
     replies();
     step::rows();
     captures("64 KiB", KIB_64);
+    market::race();
     if !small {
         captures("100 MB", 100 * MB);
     }

@@ -4,6 +4,7 @@
  * tools/install installs it for pkg-config.
  *
  * Every function returns a code of the table below, 0 for success; results go to out-parameters.
+ * Those for market files return a code of their own table and a place, by value.
  * The library keeps no pointer, allocates nothing and has no state of its own. Functions may be
  * called from several threads at once.
  *

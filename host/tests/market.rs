@@ -1,5 +1,9 @@
 //! The wrapper's names and layouts of market files, held against what the library answers: each column damaged, each bar, each cut.
 
+use std::io::Write;
+use std::path::Path;
+use std::process::{Command, Stdio};
+
 use rietknoest_host::market::{
     check, length, spot, values, write, Fault, Form, Lines, Wrong, HEADER, LAYOUTS,
 };
@@ -154,4 +158,49 @@ fn count_sum_and_size() {
     assert_eq!(check(&sound), fault(Wrong::Sum, 0));
     assert_eq!(check(&vec![b' '; 65_537]), fault(Wrong::Large, 0));
     assert_eq!(check(&vec![b' '; 65_536]), fault(Wrong::Header, 0));
+}
+
+/// What the C program says of a file.
+fn said_in_c(program: &Path, file: &[u8]) -> String {
+    let mut child = Command::new(program)
+        .stdin(Stdio::piped())
+        .stdout(Stdio::piped())
+        .spawn()
+        .expect("the program");
+    let mut input = child.stdin.take().expect("a pipe");
+    input.write_all(file).expect("it reads all");
+    drop(input);
+    let output = child.wait_with_output().expect("its output");
+    assert!(output.status.success());
+    String::from_utf8(output.stdout).expect("text")
+}
+
+#[test]
+fn c_gets_the_answers_that_rust_gets() {
+    let root = Path::new(concat!(env!("CARGO_MANIFEST_DIR"), "/.."));
+    let program = Path::new(env!("CARGO_TARGET_TMPDIR")).join("market");
+    let built = Command::new("cc")
+        .args(["-std=c11", "-Wall", "-Wextra", "-Werror", "-pedantic", "-I"])
+        .arg(root.join("host/include"))
+        .arg(root.join("host/tests/market.c"))
+        .arg(root.join("build/libhost_market.a"))
+        .arg("-o")
+        .arg(&program)
+        .status();
+    assert!(built.expect("cc").success());
+    let file = sample();
+    let n = file.len();
+    assert_eq!(
+        said_in_c(&program, &file),
+        format!("0 4\n0 544\n0 {n}\nsame\n")
+    );
+    for place in (0..n).step_by(7) {
+        let mut damaged = file.clone();
+        damaged[place] ^= 1;
+        let answer = match check(&damaged) {
+            Ok(_) => continue,
+            Err(fault) => format!("{} {}\n", fault.wrong.number(), fault.place),
+        };
+        assert_eq!(said_in_c(&program, &damaged), answer);
+    }
 }

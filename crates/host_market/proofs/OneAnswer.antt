@@ -1,5 +1,6 @@
 -- For each public function: two answers that its promise allows are equal; where it is lent a
--- buffer, so are two later contents of it, and a refusal leaves it as it was. Assumes nothing.
+-- buffer, so are two later contents of it,
+-- and a refusal leaves it as it was. Assumes nothing.
 use Prim.Native.Nat.{ℕ}
 use mathlib.Core.Path.{_≡_, sym, ap, _∙_}
 use mathlib.Core.List.{List}

@@ -9,8 +9,8 @@ ghost use Rattle.market.specs.Papers.{faultNumber, verdictPaper};
 use digits::Decimal;
 use market_columns::Amount;
 
-// What is wrong: CR 10's numbers 40 to 47, in its order; and 8, too small a buffer, which no
-// check gives.
+// What is wrong: CR 10's numbers 40 to 47, in its order; and 8, too small a buffer, which no check
+// gives.
 pub enum Fault {
     CutShort,
     Header,
@@ -23,15 +23,15 @@ pub enum Fault {
     Room,
 }
 
-// What a check finds: nothing wrong, and a number (the lines of a file, or the place after a part
+// What a check finds: nothing wrong, and a number (the lines of a file, or the place behind a part
 // of it); or what is wrong, and where.
 pub enum Verdict {
     Fine(usize),
     Refused(Fault, usize),
 }
 
-// The byte that is due after the column of row i, of a layout whose rows end before last:
-// a newline after the last, else a bar.
+// The byte that is due behind the column of row i, of a layout whose rows end before last:
+// a newline behind the last, else a bar.
 pub fn due(i: usize, last: usize) -> u8
     ensures { λ r. ⌜ r ≡ endOf (columns (i + 1) last) ⌝ }
 {
@@ -44,7 +44,7 @@ pub fn due(i: usize, last: usize) -> u8
     if i + 1 == last { 10 } else { 124 }
 }
 
-// The columns of the rows from first up to last, in s from at on: the place after them, or the
+// The columns of the rows from first up to last, in s from at on: the place behind them, or the
 // first fault.
 fn line_at(s: &[u8], at: usize, first: usize, last: usize, wrong: Fault) -> Verdict
     requires { ⌜ (at ≤ length (now s)) × (last ≤ 58) ⌝ }
@@ -209,7 +209,7 @@ fn mark_ok(m: u8, b: u8) -> bool
     b == m
 }
 
-// The five bytes after TRAILER, in s from at on.
+// The five bytes behind TRAILER, in s from at on.
 fn tail_at(s: &[u8], at: usize) -> Verdict
     requires { ⌜ at ≤ length (now s) ⌝ }
     ensures { λ r. ⌜ verdictPaper r ≡ tailFault marks at (now (s .entry)) ⌝ }
@@ -229,7 +229,7 @@ fn tail_at(s: &[u8], at: usize) -> Verdict
     Verdict::Fine(p)
 }
 
-// The same, and nothing after them.
+// The same, and nothing behind them.
 fn end_at(s: &[u8], at: usize) -> Verdict
     requires { ⌜ at ≤ length (now s) ⌝ }
     ensures { λ r. ⌜ verdictPaper r ≡ andThen (tailFault marks at (now (s .entry))) (leftOver (now (s .entry))) ⌝ }
@@ -286,7 +286,7 @@ fn close(s: &[u8], at: usize, k: usize) -> Verdict
     Verdict::Fine(k)
 }
 
-// The trailer at a place, after k lines, and all that is judged there.
+// The trailer at a place, behind k lines, and all that is judged there.
 fn trailer_at(s: &[u8], at: usize, k: usize) -> Verdict
     requires { ⌜ at + 7 ≤ length (now s) ⌝ }
     ensures { λ r. ⌜ verdictPaper r ≡ trailerFault k at (now (s .entry)) ⌝ }

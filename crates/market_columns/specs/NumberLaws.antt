@@ -1,6 +1,6 @@
 -- The laws of a number column. `number-says`, `says-number`: a value is given exactly when the
--- column has 003's form. `column-back`: writing what was read gives the same bytes. `column-fore`:
--- reading what was written gives the value.
+-- column has 003's form. `column-back`: writing what
+-- was read gives the same bytes. `column-fore`: reading what was written gives the value.
 use Prim.Native.Nat.{ℕ, zero, suc, _+_, _-_, _*_, _/_, _%_, _<_, _≤_, _^_}
 use mathlib.Core.Path.{_≡_, refl, sym, ap, _∙_}
 use mathlib.Core.Bool.{Bool, true, false, _&&_, not}

@@ -1,6 +1,7 @@
 -- CR 10: the values of a whole file as bytes, what taking them out of a file answers, and what
--- writing a file from them answers. First MDTime, MDUpdateType and MktStatus; then for each line
--- its type, 401 to 406 in two bytes, and the values of its columns.
+-- writing a file from them answers.
+-- First MDTime, MDUpdateType and MktStatus; then for each line its type, 401 to 406 in two bytes,
+-- and the values of its columns.
 use Prim.Native.Nat.{ℕ, zero, suc, _+_}
 use mathlib.Core.Path.{_≡_, refl}
 use mathlib.Core.Bool.{Bool}
@@ -41,8 +42,8 @@ linesBytes (l ∷ ls) = lineBytes l ++ linesBytes ls
 unfoldable pub valuesBytes : Values → List ℕ
 valuesBytes v = rowBytes (ownValues v) ++ linesBytes (v .lines)
 
--- TAKING VALUES OUT: as the check answers, then 8 where they have no room; and how many
--- bytes they are
+-- TAKING VALUES OUT: as the check answers, then 8 where they have no room; and how many bytes they
+-- are
 unfoldable pub valuesAnswer : ℕ → List ℕ → Paper
 valuesAnswer room s =
     andThen (faultOf s) (λ (k : ℕ).

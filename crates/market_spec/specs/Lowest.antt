@@ -1,5 +1,6 @@
 -- CR 10, "the lowest place first": no column, bar or newline that ends before the place told is at
--- fault. Where columns stand is counted here, by the widths of 003 and the lines' types alone.
+-- fault.
+-- Where columns stand is counted here, by the widths of 003 and the lines' types alone.
 use Prim.Native.Nat.{ℕ, zero, suc, _+_, _-_, _<_, _≤_}
 use mathlib.Core.Path.{_≡_, refl, sym, ap, _∙_}
 use mathlib.Core.Bool.{Bool, true, false}

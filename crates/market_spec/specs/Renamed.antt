@@ -1,5 +1,6 @@
--- CR 10, columns are "never split at bars": two files that differ in the bytes of names alone have
--- the same answer, whatever bars and newlines the names hold, unless one of the two is 46.
+-- CR 10, "Columns are counted, never split at bars": two files that differ in the bytes of names
+-- alone have the same answer, whatever bars
+-- and newlines the names hold, unless one of the two is 46.
 use Prim.Native.Nat.{ℕ, zero, suc, _+_, _-_, _<_, _≤_}
 use mathlib.Core.Path.{_≡_, refl, sym, ap, ap₂, _∙_}
 use mathlib.Core.Bool.{Bool, true, false, not, _&&_, _||_}

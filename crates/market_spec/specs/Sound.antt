@@ -1,5 +1,6 @@
--- CR 10: a sound file's values give "the same bytes" again. A file is sound exactly if it is made
--- of values that fit, and those are the values that are read from it.
+-- CR 10: "A sound file can be written again from its values with the same bytes." A file is sound
+-- exactly if it is made of values that fit,
+-- and those are the values that are read from it.
 use Prim.Native.Nat.{ℕ, zero, suc, _+_, _-_, _<_, _≤_}
 use mathlib.Core.Path.{_≡_, refl, sym, ap, _∙_}
 use mathlib.Core.Bool.{Bool, true, false, not, _&&_, _||_}
@@ -256,8 +257,8 @@ Sound s = (n : ℕ) × (faultOf s ≡ fine n)
 abbrev pub MadeOf : List ℕ → Values → Type 0
 MadeOf s v = (valuesFit v ≡ true) × (s ≡ fileOf v)
 
--- a file is sound exactly if it is made of values that fit, and those are the ones that are
--- read from it
+-- a file is sound exactly if it is made of values that fit, and those are the ones that are read
+-- from it
 pub sound-exactly : (s : List ℕ) → Sound s → MadeOf s (valuesOf s)
 sound-exactly s (n, p) = let b = sound-back s n p in (b .fitting, b .same-bytes)
 
@@ -267,7 +268,7 @@ exactly-sound s v (f, e) = (length (v .lines), ap faultOf e ∙ sound-made v f .
 pub exactly-values : (s : List ℕ) (v : Values) → MadeOf s v → v ≡ valuesOf s
 exactly-values s v (f, e) = sym (ap valuesOf e ∙ sound-made v f .same-values)
 
--- a sound file, written again from its values, has "the same bytes"
+-- "A sound file can be written again from its values with the same bytes"
 pub written-of-values : (s : List ℕ) → Sound s → fileOf (valuesOf s) ≡ s
 written-of-values s g = sym (sound-exactly s g .1)
 

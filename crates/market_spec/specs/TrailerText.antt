@@ -176,19 +176,20 @@ three-digits (x ∷ y ∷ z ∷ []) r l a =
     rw (p .0, q .0, u .0)
 three-digits (x ∷ y ∷ z ∷ w ∷ t) r l a = absurd (omega arith)
 
+-- the trailer line's length
+pub trailer-12 : (v : ℕ) → length (trailerText v) ≡ 12
+trailer-12 v = let q = length-decimal 3 v in rw (length-append trailer (124 ∷ sumText v), length-append (decimalOf 3 v) (10 ∷ []), q)
+
 -- a file whose rest is a trailer that says its sum
 pub trailer-made : (k at : ℕ) (s : List ℕ) → at ≤ length s → drop at s ≡ trailerText (sum8 (take (at + 8) s)) → countOk k s ≡ true → trailerFault k at s ≡ fine k
 trailer-made k at s b e c =
     let n : length (decimalOf 3 (sum8 (take (at + 8) s))) ≡ 3 = length-decimal 3 (sum8 (take (at + 8) s)) in
     let d7 : drop (at + 7) s ≡ 124 ∷ sumText (sum8 (take (at + 8) s)) = sym (drop-drop 7 at s) ∙ rw e in
     let d8 : drop (at + 8) s ≡ sumText (sum8 (take (at + 8) s)) = sym (drop-drop 8 at s) ∙ rw e in
-    let l : length s ≡ at + 12 = omega (arith, length-drop at s, ap length e ∙ whole (sum8 (take (at + 8) s))) in
+    let l : length s ≡ at + 12 = omega (arith, length-drop at s, ap length e ∙ trailer-12 (sum8 (take (at + 8) s))) in
     let t = tail-made marks (124 ∷ sumText (sum8 (take (at + 8) s))) (at + 7) s d7 (three-digits (decimalOf 3 (sum8 (take (at + 8) s))) [] n (all-decimal 3 (sum8 (take (at + 8) s)))) in
     let p : take 3 (drop (at + 8) s) ≡ decimalOf 3 (sum8 (take (at + 8) s)) = rw d8 (take-at (decimalOf 3 (sum8 (take (at + 8) s))) (10 ∷ []) 3 n) in
     let g : digitsAt (at + 8) 3 s ≡ number (sum8 (take (at + 8) s))
     = given-number (at + 8) 3 s (sum8 (take (at + 8) s)) (record { place = record { some = lit≤ tt; few = lit≤ tt; within = omega arith }; digits = rw p (all-decimal 3 (sum8 (take (at + 8) s))); says = rw p (said-decimal 3 (sum8 (take (at + 8) s)) (omega (arith, sum8-below (take (at + 8) s)))) }) in
     let o : sumOk at s ≡ true = rw g (alike-self (sum8 (take (at + 8) s) ∷ [])) in
     trailer-fine k at (at + 7 + 5) s (then-fine (tailFault marks (at + 7) s) (leftOver s) (at + 7 + 5) t ∙ left-none s (at + 7 + 5) (omega arith)) ∙ close-fine k at s c o
-  where
-    whole : (v : ℕ) → length (trailerText v) ≡ 12
-    whole v = let q = length-decimal 3 v in rw (length-append trailer (124 ∷ sumText v), length-append (decimalOf 3 v) (10 ∷ []), q)

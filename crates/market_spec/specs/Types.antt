@@ -127,8 +127,8 @@ pub file-lines : (s : List ℕ) (q : ℕ) → length s ≤ 65536 → lineFault 4
 unfolding faultOf
 file-lines s q h e = rw (le-ltb 65536 (length s) h) (then-fine (lineFault 41 header 0 s) (λ (p : ℕ). linesFault (length s + 1) 0 p s) q e)
 
--- THE LOOP OVER LINES: k lines are passed, the next begins at p, and what is left gives
--- the same answer
+-- THE LOOP OVER LINES: k lines are passed, the next begins at p, and what is left gives the same
+-- answer
 
 pub record Left (s : List ℕ) (at p k : ℕ) : Type 0 where
   pub inside : p ≤ length s

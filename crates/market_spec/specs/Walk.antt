@@ -1,6 +1,7 @@
 -- CR 10: when each number is given, told by the places of a file and not by the function that
--- answers. `At`: the columns before a place stand right. `Walked`: so do the header and k lines
--- before a place, where the next line begins.
+-- answers.
+-- `At`: the columns before a place stand right. `Walked`: so do the header and k lines before a
+-- place, where the next line begins.
 use Prim.Native.Nat.{ℕ, zero, suc, _+_, _-_, _<_, _≤_}
 use mathlib.Core.Path.{_≡_, refl, sym, ap, _∙_}
 use mathlib.Core.Bool.{Bool, true, false, not, _&&_}
@@ -21,8 +22,8 @@ use Rattle.market_spec.specs.Types.{left-some, left-none, trailer-wrong,
 use Rattle.market_spec.specs.Told.{Told, at-place, refused, not-fine, type-most}
 use Rattle.market_spec.specs.LinesValues.{isLine, is-line}
 
--- A ROW OF COLUMNS from the place p0 on: those before p stand right, each with the byte behind
--- it; cs are left
+-- A ROW OF COLUMNS from the place p0 on: those before p stand right, each with the byte behind it;
+-- cs are left
 pub data At (s : List ℕ) (cs0 : List Column) (p0 : ℕ) : List Column → ℕ → Type 0 where
   start : At s cs0 p0 cs0 p0
   next : {c : Column} {cs : List Column} {p : ℕ} → At s cs0 p0 (c ∷ cs) p → p + wide c < length s → columnOk c (take (wide c) (drop p s)) ≡ true → getD s (p + wide c) 0 ≡ endOf cs → At s cs0 p0 cs (p + wide c + 1)

@@ -1,5 +1,6 @@
 -- CR 10, both round trips over bytes: what is written from the values of a sound file is that file;
--- and the values of a file that was written are those that it was written from.
+-- and the values of a file that was
+-- written are those that it was written from.
 use Prim.Native.Nat.{ℕ, zero, suc, _+_, _-_, _<_, _≤_, _^_, _/_}
 use mathlib.Core.Path.{_≡_, refl, sym, ap, _∙_}
 use mathlib.Core.Bool.{Bool, true, false, not, _&&_}
@@ -193,7 +194,7 @@ given-fits x e h =
     let l : 94 + length (linesText (v .lines)) ≤ 65536 = ⊎-elim (λ (a : 65536 < 94 + length (linesText (v .lines))). absurd (omega (arith, sized v (g .own-fitting) (g .lines-fitting) .many a))) (λ (a : 94 + length (linesText (v .lines)) ≤ 65536). a) (less 65536 (94 + length (linesText (v .lines)))) in
     rw (le-leb (length (fileOf v)) 65536 h, sized v (g .own-fitting) (g .lines-fitting) .few l .1, g .lines-fitting)
 
--- a sound file, written again from its values, has "the same bytes"
+-- "A sound file can be written again from its values with the same bytes"
 pub record Again (room : ℕ) (s : List ℕ) : Type 0 where
   pub answered : writtenAnswer room (valuesBytes (valuesOf s)) ≡ fine (length s)
   pub same-bytes : fileOf (valuesGiven (valuesBytes (valuesOf s))) ≡ s

@@ -1,5 +1,6 @@
 -- For each public function: two answers that its promise allows are equal, so are two later
--- contents of the buffer that it is lent, and a refusal leaves that as it was. Assumes nothing.
+-- contents of the buffer that it is lent,
+-- and a refusal leaves that as it was. Assumes nothing.
 use Prim.Native.Nat.{ℕ}
 use mathlib.Core.Path.{_≡_, sym, ap, _∙_}
 use mathlib.Core.List.{List}

@@ -266,8 +266,8 @@ pub size-end : (s : List ℕ) (p n : ℕ) → SizeLeft s p n → 4 < typeAt p s 
 unfolding linesBytes
 size-end s p n z h = let e = lines-end s p (z .lines) (z .stand) h in let w : length (linesBytes (z .lines)) ≡ 0 = rw e in omega (arith, z .whole, w)
 
--- THE LOOP THAT LAYS THE VALUES OF ALL LINES: what is left, laid over what stands there, gives
--- what is to be
+-- THE LOOP THAT LAYS THE VALUES OF ALL LINES: what is left, laid over what stands there, gives what
+-- is to be
 
 pub record GiveLeft (s : List ℕ) (p a : ℕ) (out goal : List ℕ) : Type 0 where
   pub lines : List Line

@@ -59,8 +59,8 @@ fn value_fits(s: &[u8], p: usize, i: usize) -> bool
     true
 }
 
-// Writes the column of row i over out from at on, made of the value that stands in s from p on
-// and fits it.
+// Lays the column of row i over out from at on, made of the value that stands in s from p on and
+// fits it.
 fn put_column(out: &mut [u8], at: usize, s: &[u8], p: usize, i: usize)
     requires { ⌜ (at + wide (rowOf i) ≤ length (now out)) × ((p + sizeOf (rowOf i) ≤ length (now s)) × (fits (rowOf i) (takenOf (rowOf i) (drop p (now s))) ≡ true)) ⌝ }
     ensures { λ _. ⌜ now (out .exit) ≡ laid at (textOf (rowOf i) (takenOf (rowOf i) (drop p (now (s .entry))))) (now (out .entry)) ⌝ }
@@ -80,7 +80,7 @@ fn put_column(out: &mut [u8], at: usize, s: &[u8], p: usize, i: usize)
     octets::lay(out, at, &s[p..e]);
 }
 
-// The values of the rows from first up to last, in s from p on: the place after them, or the first
+// The values of the rows from first up to last, in s from p on: the place behind them, or the first
 // that is cut short or does not fit.
 fn values_fit(s: &[u8], at: usize, first: usize, last: usize) -> Verdict
     requires { ⌜ (at ≤ length (now s)) × (last ≤ 58) ⌝ }
@@ -102,7 +102,7 @@ fn values_fit(s: &[u8], at: usize, first: usize, last: usize) -> Verdict
     Verdict::Fine(p)
 }
 
-// Writes the line of the rows from first up to last over out from at on, made of the values that
+// Lays the line of the rows from first up to last over out from at on, made of the values that
 // stand in s from `from` on, all of which fit.
 fn put_line(out: &mut [u8], at: usize, s: &[u8], from: usize, first: usize, last: usize)
     requires { ⌜ (last ≤ 58) × ((at + lengthOf (columns first last) ≤ length (now out)) × AllFit (columns first last) from (now s)) ⌝ }
@@ -124,7 +124,7 @@ fn put_line(out: &mut [u8], at: usize, s: &[u8], from: usize, first: usize, last
 
 // TAKING OUT
 
-// Writes a number's sign and units, nine bytes, over out from at on.
+// Lays a number's sign and units, nine bytes, over out from at on.
 fn give_number(out: &mut [u8], at: usize, m: u8, v: u64)
     requires { ⌜ at + 9 ≤ length (now out) ⌝ }
     ensures { λ _. ⌜ now (out .exit) ≡ laid at (m ∷ bytesOf 8 v) (now (out .entry)) ⌝ }
@@ -133,7 +133,7 @@ fn give_number(out: &mut [u8], at: usize, m: u8, v: u64)
     octets::put(out, at + 1, 8, v);
 }
 
-// Writes the value of row i's column, which stands right in s from p on, over out from at on.
+// Lays the value of row i's column, which stands right in s from p on, over out from at on.
 fn give_column(out: &mut [u8], at: usize, s: &[u8], p: usize, i: usize)
     requires { ⌜ (at + sizeOf (rowOf i) ≤ length (now out)) × ((p + wide (rowOf i) ≤ length (now s)) × (columnOk (rowOf i) (take (wide (rowOf i)) (drop p (now s))) ≡ true)) ⌝ }
     ensures { λ _. ⌜ now (out .exit) ≡ laid at (valueBytes (valueIn (rowOf i) (take (wide (rowOf i)) (drop p (now (s .entry)))))) (now (out .entry)) ⌝ }
@@ -157,7 +157,7 @@ fn give_column(out: &mut [u8], at: usize, s: &[u8], p: usize, i: usize)
     octets::lay(out, at, &s[p..e]);
 }
 
-// Writes the values of the rows from first up to last, a line of s from a place on with nothing
+// Lays the values of the rows from first up to last, a line of s from a place on with nothing
 // wrong, over out from at on.
 fn give_line(out: &mut [u8], at: usize, s: &[u8], from: usize, first: usize, last: usize)
     requires { ⌜ (last ≤ 58) × ((at + sizesOf (columns first last) ≤ length (now out)) × Right (columns first last) from (now s)) ⌝ }
@@ -255,7 +255,7 @@ fn values_size(s: &[u8]) -> usize
     }
 }
 
-// Writes the values of all lines of a sound file over out, after those of the header.
+// Lays the values of all lines of a sound file over out, behind those of the header.
 fn give_lines(out: &mut [u8], s: &[u8])
     requires { ⌜ Sound (now s) × (length (valuesBytes (valuesOf (now s))) ≤ length (now out)) ⌝ }
     ensures { λ _. ⌜ now (out .exit) ≡ laid 38 (linesBytes (valuesOf (now (s .entry)) .lines)) (now (out .entry)) ⌝ }
@@ -275,7 +275,7 @@ fn give_lines(out: &mut [u8], s: &[u8])
     }
 }
 
-// Writes all values of a sound file over out.
+// Lays all values of a sound file over out.
 fn give_all(out: &mut [u8], s: &[u8])
     requires { ⌜ Sound (now s) × (length (valuesBytes (valuesOf (now s))) ≤ length (now out)) ⌝ }
     ensures { λ _. ⌜ now (out .exit) ≡ laid 0 (valuesBytes (valuesOf (now (s .entry)))) (now (out .entry)) ⌝ }
@@ -284,8 +284,9 @@ fn give_all(out: &mut [u8], s: &[u8])
     give_lines(out, s);
 }
 
-// Takes the values out of a file, and returns how many bytes they are. What the check refuses is
-// refused so, and where they have no room the answer is 8; nothing is written then.
+// Takes the values out of a file, and answers how many bytes they are. What the check refuses is
+// refused so,
+// and where they have no room the answer is 8; nothing is written then.
 pub fn values(file: &[u8], out: &mut [u8]) -> Verdict
     ensures { λ r. ⌜ (verdictPaper r ≡ valuesAnswer (length (now (out .entry))) (now (file .entry))) × (now (out .exit) ≡ laidIf0 (valuesAnswer (length (now (out .entry))) (now (file .entry))) (valuesBytes (valuesOf (now (file .entry)))) (now (out .entry))) ⌝ }
 {
@@ -311,7 +312,7 @@ enum Judged {
     Bad(Fault, usize),
 }
 
-// The lines' values, after those of the header.
+// The lines' values, behind those of the header.
 fn judge_lines(s: &[u8]) -> Judged
     requires { ⌜ 38 ≤ length (now s) ⌝ }
     ensures { λ r. ⌜ judgedPaper r ≡ linesJudged (now (s .entry)) ⌝ }
@@ -350,7 +351,7 @@ fn judge(s: &[u8]) -> Judged
     }
 }
 
-// Writes the header of a file of k lines over out.
+// Lays the header of a file of k lines over out.
 fn put_head(out: &mut [u8], s: &[u8], k: usize)
     requires { ⌜ HeadGood (now s) k × (82 ≤ length (now out)) ⌝ }
     ensures { λ _. ⌜ now (out .exit) ≡ laid 0 (headText (valuesGiven (now (s .entry)))) (now (out .entry)) ⌝ }
@@ -361,7 +362,7 @@ fn put_head(out: &mut [u8], s: &[u8], k: usize)
     put_line(out, 0, &h, 0, 0, 9);
 }
 
-// Writes all lines over out, after the header.
+// Lays all lines over out, behind the header.
 fn put_lines(out: &mut [u8], s: &[u8])
     requires { ⌜ (valuesTaken (now s) ≡ fine 0) × (82 + length (linesText (valuesGiven (now s) .lines)) ≤ length (now out)) ⌝ }
     ensures { λ _. ⌜ now (out .exit) ≡ laid 82 (linesText (valuesGiven (now (s .entry)) .lines)) (now (out .entry)) ⌝ }
@@ -377,8 +378,8 @@ fn put_lines(out: &mut [u8], s: &[u8])
     }
 }
 
-// Writes the trailer over out at a place: TRAILER, a bar, the sum of all bytes up to
-// there, a newline.
+// Lays the trailer over out at a place: TRAILER, a bar, the sum of all bytes up to there, a
+// newline.
 fn put_trailer(out: &mut [u8], at: usize)
     requires { ⌜ at + 12 ≤ length (now out) ⌝ }
     ensures { λ _. ⌜ now (out .exit) ≡ laid at (trailerText (sum8 (take (at + 8) (laid at trailerFront (now (out .entry)))))) (now (out .entry)) ⌝ }
@@ -389,7 +390,7 @@ fn put_trailer(out: &mut [u8], at: usize)
     out[at + 11] = 10;
 }
 
-// Writes the file of n bytes and k lines over out.
+// Lays the file of n bytes and k lines over out.
 fn put_file(out: &mut [u8], s: &[u8], n: usize, k: usize)
     requires { ⌜ FileGood (now s) n k × (n ≤ length (now out)) ⌝ }
     ensures { λ _. ⌜ now (out .exit) ≡ laid 0 (fileOf (valuesGiven (now (s .entry)))) (now (out .entry)) ⌝ }
@@ -399,9 +400,9 @@ fn put_file(out: &mut [u8], s: &[u8], n: usize, k: usize)
     put_trailer(out, n - 12);
 }
 
-// Writes the file that values make, and returns how long it is. Refused are, by rising place among
-// the values, 40, 42 and 43; then 47 for too long a file, then 8 for too small a buffer; nothing is
-// written then.
+// Writes the file that values make, and answers how long it is. Refused are, by rising place among
+// the values, 40, 42 and 43;
+// then 47 for too long a file, then 8 for too small a buffer; nothing is written then.
 pub fn written(values: &[u8], out: &mut [u8]) -> Verdict
     ensures { λ r. ⌜ (verdictPaper r ≡ writtenAnswer (length (now (out .entry))) (now (values .entry))) × (now (out .exit) ≡ laidIf0 (writtenAnswer (length (now (out .entry))) (now (values .entry))) (fileOf (valuesGiven (now (values .entry)))) (now (out .entry))) ⌝ }
 {

@@ -1,5 +1,6 @@
 -- `give_line`. The invariant: what is left of the values, laid over what stands there now, gives
--- what is to be. The measure is the rows left. Assumes nothing.
+-- what is to be. The measure is the rows left.
+-- Assumes nothing.
 use Prim.Native.Nat.{_+_, _-_, _≤_, _<_, _^_}
 use borrow.Author.Needs.{needs}
 use native.Mathlib.Omega.{arith}

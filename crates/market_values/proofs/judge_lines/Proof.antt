@@ -1,5 +1,6 @@
 -- `judge_lines`. The invariant: what is left gives the same answer, and counts on (`JudgeLeft`).
--- The measure is the bytes left. Assumes nothing.
+-- The measure is the bytes left.
+-- Assumes nothing.
 use Prim.Native.Nat.{_+_, _-_, _≤_, _<_, _^_}
 use borrow.Author.Needs.{needs}
 use native.Mathlib.Omega.{arith}

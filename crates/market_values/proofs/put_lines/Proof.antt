@@ -1,5 +1,6 @@
 -- `put_lines`. The invariant: what is left of the lines, laid over what stands there now, gives
--- what is to be (`PutLeft`). The measure is the bytes left. Assumes nothing.
+-- what is to be (`PutLeft`).
+-- The measure is the bytes left. Assumes nothing.
 use Prim.Native.Nat.{_+_, _-_, _≤_, _<_, _^_}
 use borrow.Author.Needs.{needs}
 use native.Mathlib.Omega.{arith}

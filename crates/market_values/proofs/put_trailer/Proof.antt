@@ -1,5 +1,5 @@
--- `put_trailer`: the word and the bar as eight bytes, the sum of all before it, a newline.
--- Assumes nothing.
+-- `put_trailer`: the word and the bar as eight bytes, the sum of all before it, a newline. Assumes
+-- nothing.
 use mathlib.Core.Path.{_≡_, sym, ap, _∙_}
 use lib.ListN.{length, length-set}
 use Rattle.market_values.specs.Writing.{trailer-long, trailer-laid}

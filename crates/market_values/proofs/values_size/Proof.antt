@@ -1,5 +1,6 @@
 -- `values_size`. The invariant: what was counted and what is left are the values' bytes
--- (`SizeLeft`). The measure is the bytes left. Assumes nothing.
+-- (`SizeLeft`). The measure is the bytes left.
+-- Assumes nothing.
 use Prim.Native.Nat.{_+_, _-_, _≤_, _<_, _^_}
 use borrow.Author.Needs.{needs}
 use native.Mathlib.Omega.{arith}
