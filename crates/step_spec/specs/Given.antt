@@ -85,21 +85,71 @@ pub record Timed (n type : ℕ) (s : List ℕ) : Type 0 where
   pub before : Summed n type s
   pub real : Unreal (pieces (fieldsIn n s)) → ⊥
 
--- each number: the checks before it pass, and its own fails for all bytes to come; 1 where some
--- would still mend it. No other is given.
-pub data Reads (r : ℕ) (s : List ℕ) : Type 0 where
-  waits-begin : r ≡ 1 → (Begins s → ⊥) → (t : List ℕ) → Begins (s ++ t) → Reads r s
-  waits-length : r ≡ 1 → Begins s → ((n : ℕ) → Measures n s → ⊥) → (n : ℕ) (t : List ℕ) → Measures n (s ++ t) → Reads r s
-  waits-type : r ≡ 1 → (n : ℕ) → Sized n s → ((type : ℕ) → Types n type s → ⊥) → (type : ℕ) (t : List ℕ) → Types n type (s ++ t) → Reads r s
-  waits-sum : r ≡ 1 → (n type : ℕ) → Typed n type s → (Sums n s → ⊥) → (t : List ℕ) → Sums n (s ++ t) → Reads r s
-  no-begin : r ≡ 23 → ((t : List ℕ) → Begins (s ++ t) → ⊥) → Reads r s
-  no-length : r ≡ 24 → Begins s → ((n : ℕ) (t : List ℕ) → Measures n (s ++ t) → ⊥) → Reads r s
-  too-long : r ≡ 3 → (n : ℕ) → Headed n s → 8192 < endOf n + 7 → Reads r s
-  no-type : r ≡ 25 → (n : ℕ) → Sized n s → ((type : ℕ) (t : List ℕ) → Types n type (s ++ t) → ⊥) → Reads r s
-  no-sum : r ≡ 5 → (n type : ℕ) → Typed n type s → ((t : List ℕ) → Sums n (s ++ t) → ⊥) → Reads r s
-  no-time : r ≡ 7 → (n type : ℕ) → Summed n type s → Unreal (pieces (fieldsIn n s)) → Reads r s
-  no-fields : r ≡ 26 → (n type : ℕ) → Timed n type s → (FieldsSound type (fieldsIn n s) → ⊥) → Reads r s
-  is-frame : r ≡ 0 → (n type : ℕ) → Timed n type s → FieldsSound type (fieldsIn n s) → Reads r s
+-- each number: the checks before it pass, and its own fails for all bytes to come
+abbrev pub Given23 : List ℕ → Type 0
+Given23 s = (t : List ℕ) → Begins (s ++ t) → ⊥
+
+abbrev pub Given24 : List ℕ → Type 0
+Given24 s = Begins s × ((n : ℕ) (t : List ℕ) → Measures n (s ++ t) → ⊥)
+
+abbrev pub Given3 : List ℕ → Type 0
+Given3 s = (n : ℕ) × (Headed n s × (8192 < endOf n + 7))
+
+abbrev pub Given25 : List ℕ → Type 0
+Given25 s = (n : ℕ) × (Sized n s × ((type : ℕ) (t : List ℕ) → Types n type (s ++ t) → ⊥))
+
+abbrev pub Given5 : List ℕ → Type 0
+Given5 s = (n type : ℕ) × (Typed n type s × ((t : List ℕ) → Sums n (s ++ t) → ⊥))
+
+abbrev pub Given7 : List ℕ → Type 0
+Given7 s = (n type : ℕ) × (Summed n type s × Unreal (pieces (fieldsIn n s)))
+
+abbrev pub Given26 : List ℕ → Type 0
+Given26 s = (n type : ℕ) × (Timed n type s × (FieldsSound type (fieldsIn n s) → ⊥))
+
+-- 1: the check in turn does not pass, and would with some bytes behind
+pub data Given1 (s : List ℕ) : Type 0 where
+  waits-begin : (Begins s → ⊥) → (t : List ℕ) → Begins (s ++ t) → Given1 s
+  waits-length : Begins s → ((n : ℕ) → Measures n s → ⊥) → (n : ℕ) (t : List ℕ) → Measures n (s ++ t) → Given1 s
+  waits-type : (n : ℕ) → Sized n s → ((type : ℕ) → Types n type s → ⊥) → (type : ℕ) (t : List ℕ) → Types n type (s ++ t) → Given1 s
+  waits-sum : (n type : ℕ) → Typed n type s → (Sums n s → ⊥) → (t : List ℕ) → Sums n (s ++ t) → Given1 s
+
+abbrev pub Given0 : List ℕ → Type 0
+Given0 s = (n type : ℕ) × (Timed n type s × FieldsSound type (fieldsIn n s))
+
+-- the numbers that reading gives, and the condition of each; no other is given
+pub data Answer : Type 0 where
+  n0 : Answer
+  n1 : Answer
+  n3 : Answer
+  n5 : Answer
+  n7 : Answer
+  n23 : Answer
+  n24 : Answer
+  n25 : Answer
+  n26 : Answer
+
+abbrev pub numeral : Answer → ℕ
+numeral n0 = 0
+numeral n1 = 1
+numeral n3 = 3
+numeral n5 = 5
+numeral n7 = 7
+numeral n23 = 23
+numeral n24 = 24
+numeral n25 = 25
+numeral n26 = 26
+
+abbrev pub Reads : Answer → List ℕ → Type 0
+Reads n0 s = Given0 s
+Reads n1 s = Given1 s
+Reads n3 s = Given3 s
+Reads n5 s = Given5 s
+Reads n7 s = Given7 s
+Reads n23 s = Given23 s
+Reads n24 s = Given24 s
+Reads n25 s = Given25 s
+Reads n26 s = Given26 s
 
 -- WRITING a type and fields into so much room: 3, 25, 7, 26, 8
 

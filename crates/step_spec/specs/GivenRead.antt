@@ -7,6 +7,7 @@ use mathlib.Core.List.{List, [], _∷_, _++_}
 use mathlib.Core.Logic.{_⊎_, inl, inr, ⊎-elim, _↔_}
 use native.Mathlib.Nat.{add-zero}
 use native.Mathlib.Omega.{arith}
+use lib.Dec.{eqb}
 use lib.ListN.{length, getD, take, drop}
 use lib.Seq.{getD-drop}
 use borrow.Author.Tests.{not-true}
@@ -25,7 +26,7 @@ use Rattle.step_spec.specs.FrontLaws.{front-length, reads-on, reads-off}
 use Rattle.step_spec.specs.HeadLaws.{long-off, long-on, type-short, type-is}
 use Rattle.step_spec.specs.Sound.{pieceAt, FieldsSound, fields-sound, sound-fields}
 use Rattle.step_spec.specs.Stable.{never-1}
-use Rattle.step_spec.specs.Given.{Begins, Measures, startOf, endOf, Types, Sums, fieldsIn, Unreal, Headed, Sized, Typed, Summed, Timed, Reads, waits-begin, waits-length, waits-type, waits-sum, no-begin, no-length, too-long, no-type, no-sum, no-time, no-fields, is-frame}
+use Rattle.step_spec.specs.Given.{Begins, Measures, startOf, endOf, Types, Sums, fieldsIn, Unreal, Headed, Sized, Typed, Summed, Timed, Given0, Given1, Given3, Given5, Given7, Given23, Given24, Given25, Given26, waits-begin, waits-length, waits-type, waits-sum, Answer, n0, n1, n3, n5, n7, n23, n24, n25, n26, numeral, Reads}
 use Rattle.step_spec.specs.Decided.{Decides, holds-to, holds-from, refused-to, refused-from, waits-not, waits-from, begin-decides, lengthPart, length-decides, measures-pass, measured-start, measured-room, typePart, type-decides, sum-decides}
 
 -- A TIME THAT IS NOT REAL
@@ -179,72 +180,138 @@ module _ (s : List ℕ) where
 
   -- FROM THE CONDITION TO THE NUMBER
 
-  pub from : (r : ℕ) → Reads r s → verdictOf s ≡ r
-  from r (waits-begin e f t p) = row-23 1 (waits-from (begin-decides s) f t p) one ∙ sym e
-  from r (waits-length e b f n t p) = row-24 b 1 (waits-from (length-decides s (eleven b)) (λ q. f (q .0) (q .1)) t (n, p)) one ∙ sym e
-  from r (waits-type e n h f type t p) = row-25 n h 1 (type-part n h (p .five) ∙ waits-from (deciding n h (p .five)) (λ q. f (q .0) (q .1)) t (type, p)) one ∙ sym e
-  from r (waits-sum e n type h f t p) = row-5 n type h 1 (waits-from (sum-decides n s) f t p) one ∙ sym e
-  from r (no-begin e f) = row-23 23 (refused-from (begin-decides s) f) z23 ∙ sym e
-  from r (no-length e b f) = row-24 b 24 (refused-from (length-decides s (eleven b)) (λ t q. f (q .0) t (q .1))) z24 ∙ sym e
-  from r (too-long e n h l) = row-3 n h l ∙ sym e
-  from r (no-type e n h f) =
+  from-1 : Given1 s → verdictOf s ≡ 1
+  from-1 (waits-begin f t p) = row-23 1 (waits-from (begin-decides s) f t p) one
+  from-1 (waits-length b f n t p) = row-24 b 1 (waits-from (length-decides s (eleven b)) (λ q. f (q .0) (q .1)) t (n, p)) one
+  from-1 (waits-type n h f type t p) = row-25 n h 1 (type-part n h (p .five) ∙ waits-from (deciding n h (p .five)) (λ q. f (q .0) (q .1)) t (type, p)) one
+  from-1 (waits-sum n type h f t p) = row-5 n type h 1 (waits-from (sum-decides n s) f t p) one
+
+  from-25 : (n : ℕ) → Sized n s → ((type : ℕ) (t : List ℕ) → Types n type (s ++ t) → ⊥) → verdictOf s ≡ 25
+  from-25 n h f =
       ⊎-elim (λ (l : n < 5). row-25 n h 25 (type-short s (rw (long-is n (h .before)) l)) z25)
       (λ (l : 5 ≤ n). row-25 n h 25 (type-part n h l ∙ refused-from (deciding n h l) (λ t q. f (q .0) t (q .1))) z25)
       (less n 5)
-      ∙ sym e
-  from r (no-sum e n type h f) = row-5 n type h 5 (refused-from (sum-decides n s) f) z5 ∙ sym e
-  from r (no-time e n type h u) = row-7 n type h 7 (judged-time type (fieldsIn n s) u) ∙ sym e
-  from r (no-fields e n type h f) = row-7 n type (h .before) 26 (judged-fields type (fieldsIn n s) (h .real) f) ∙ sym e
-  from r (is-frame e n type h w) = row-7 n type (h .before) 0 (judged-all type (fieldsIn n s) (h .real) w) ∙ sym e
+
+  pub from : (a : Answer) → Reads a s → verdictOf s ≡ numeral a
+  from n0 (n, type, (h, w)) = row-7 n type (h .before) 0 (judged-all type (fieldsIn n s) (h .real) w)
+  from n1 w = from-1 w
+  from n3 (n, (h, l)) = row-3 n h l
+  from n5 (n, type, (h, f)) = row-5 n type h 5 (refused-from (sum-decides n s) f) z5
+  from n7 (n, type, (h, u)) = row-7 n type h 7 (judged-time type (fieldsIn n s) u)
+  from n23 f = row-23 23 (refused-from (begin-decides s) f) z23
+  from n24 (b, f) = row-24 b 24 (refused-from (length-decides s (eleven b)) (λ t q. f (q .0) t (q .1))) z24
+  from n25 (n, (h, f)) = from-25 n h f
+  from n26 (n, type, (h, f)) = row-7 n type (h .before) 26 (judged-fields type (fieldsIn n s) (h .real) f)
 
   -- FROM THE NUMBER TO THE CONDITION
 
-  told-7 : (n type : ℕ) → Summed n type s → Judged type (fieldsIn n s) → Reads (verdictOf s) s
-  told-7 n type h (time u) = no-time (row-7 n type h 7 (judged-time type (fieldsIn n s) u)) n type h u
-  told-7 n type h (unsound u f) = no-fields (row-7 n type h 26 (judged-fields type (fieldsIn n s) u f)) n type (record { before = h; real = u }) f
-  told-7 n type h (fine u w) = is-frame (row-7 n type h 0 (judged-all type (fieldsIn n s) u w)) n type (record { before = h; real = u }) w
+  record Told : Type 0 where
+    answer : Answer
+    number : verdictOf s ≡ numeral answer
+    condition : Reads answer s
 
-  told-5 : (n type : ℕ) → Typed n type s → Reads (verdictOf s) s
+  gives : (a : Answer) → Reads a s → Told
+  gives a w = record { answer = a; number = from a w; condition = w }
+
+  told-7 : (n type : ℕ) → Summed n type s → Judged type (fieldsIn n s) → Told
+  told-7 n type h (time u) = gives n7 (n, type, (h, u))
+  told-7 n type h (unsound u f) = gives n26 (n, type, (record { before = h; real = u }, f))
+  told-7 n type h (fine u w) = gives n0 (n, type, (record { before = h; real = u }, w))
+
+  told-5 : (n type : ℕ) → Typed n type s → Told
   told-5 n type h =
       let d = sum-decides n s in
       ⊎-elim (λ (e : sumCheck (endOf n) s ≡ 0). told-7 n type (record { before = h; sums = holds-to d e }) (judged type (fieldsIn n s))) (λ w.
-      ⊎-elim (λ (e : sumCheck (endOf n) s ≡ 1). let m = d .mends e in waits-sum (row-5 n type h 1 e one) n type h (waits-not d e) (m .0) (m .1)) (λ (e : sumCheck (endOf n) s ≡ 5). no-sum (row-5 n type h 5 e z5) n type h (refused-to d e)) w)
+      ⊎-elim (λ (e : sumCheck (endOf n) s ≡ 1). let m = d .mends e in gives n1 (waits-sum n type h (waits-not d e) (m .0) (m .1))) (λ (e : sumCheck (endOf n) s ≡ 5). gives n5 (n, type, (h, refused-to d e))) w)
       (d .range)
 
-  told-25 : (n : ℕ) → Sized n s → Reads (verdictOf s) s
+  told-25 : (n : ℕ) → Sized n s → Told
   told-25 n h =
-      ⊎-elim (λ (l : n < 5). no-type (row-25 n h 25 (type-short s (rw (long-is n (h .before)) l)) z25) n h (λ type t p. absurd (omega (arith, p .five)))) (λ (l : 5 ≤ n).
+      ⊎-elim (λ (l : n < 5). gives n25 (n, (h, λ type t p. absurd (omega (arith, p .five))))) (λ (l : 5 ≤ n).
       let d = deciding n h l in
       ⊎-elim (λ (e : typePart (startOf n) s ≡ 0). let q = holds-to d e in told-5 n (q .0) (record { before = h; types = q .1 })) (λ w.
-      ⊎-elim (λ (e : typePart (startOf n) s ≡ 1). let m = d .mends e in waits-type (row-25 n h 1 (type-part n h l ∙ e) one) n h (λ type p. waits-not d e (type, p)) (m .1 .0) (m .0) (m .1 .1))
-      (λ (e : typePart (startOf n) s ≡ 25). no-type (row-25 n h 25 (type-part n h l ∙ e) z25) n h (λ type t p. refused-to d e t (type, p)))
+      ⊎-elim (λ (e : typePart (startOf n) s ≡ 1). let m = d .mends e in gives n1 (waits-type n h (λ type p. waits-not d e (type, p)) (m .1 .0) (m .0) (m .1 .1)))
+      (λ (e : typePart (startOf n) s ≡ 25). gives n25 (n, (h, λ type t p. refused-to d e t (type, p))))
       w)
       (d .range))
       (less n 5)
 
-  told-24 : Begins s → Reads (verdictOf s) s
+  told-24 : Begins s → Told
   told-24 b =
       let d = length-decides s (eleven b) in
       ⊎-elim (λ (e : lengthPart s ≡ 0).
       let q = holds-to d e in
       let n = q .0 in
       let h : Headed n s = record { begins = b; measures = q .1 } in
-      ⊎-elim (λ (l : 8192 < endOf n + 7). too-long (row-3 n h l) n h l) (λ (l : endOf n + 7 ≤ 8192). told-25 n (record { before = h; short = l })) (less 8192 (endOf n + 7))) (λ w.
-      ⊎-elim (λ (e : lengthPart s ≡ 1). let m = d .mends e in waits-length (row-24 b 1 e one) b (λ n p. waits-not d e (n, p)) (m .1 .0) (m .0) (m .1 .1))
-      (λ (e : lengthPart s ≡ 24). no-length (row-24 b 24 e z24) b (λ n t p. refused-to d e t (n, p)))
+      ⊎-elim (λ (l : 8192 < endOf n + 7). gives n3 (n, (h, l))) (λ (l : endOf n + 7 ≤ 8192). told-25 n (record { before = h; short = l })) (less 8192 (endOf n + 7))) (λ w.
+      ⊎-elim (λ (e : lengthPart s ≡ 1). let m = d .mends e in gives n1 (waits-length b (λ n p. waits-not d e (n, p)) (m .1 .0) (m .0) (m .1 .1)))
+      (λ (e : lengthPart s ≡ 24). gives n24 (b, λ n t p. refused-to d e t (n, p)))
       w)
       (d .range)
 
-  pub told : Reads (verdictOf s) s
+  told : Told
   told =
       let d = begin-decides s in
       ⊎-elim (λ (e : front 23 begin s ≡ 0). told-24 (holds-to d e)) (λ w.
-      ⊎-elim (λ (e : front 23 begin s ≡ 1). let m = d .mends e in waits-begin (row-23 1 e one) (waits-not d e) (m .0) (m .1)) (λ (e : front 23 begin s ≡ 23). no-begin (row-23 23 e z23) (refused-to d e)) w)
+      ⊎-elim (λ (e : front 23 begin s ≡ 1). let m = d .mends e in gives n1 (waits-begin (waits-not d e) (m .0) (m .1))) (λ (e : front 23 begin s ≡ 23). gives n23 (refused-to d e)) w)
       (d .range)
 
+-- an answer by its number
+answerOf : ℕ → Answer
+answerOf n = pick (eqb n 0) n0 (pick (eqb n 1) n1 (pick (eqb n 3) n3 (pick (eqb n 5) n5 (pick (eqb n 7) n7 (pick (eqb n 23) n23 (pick (eqb n 24) n24 (pick (eqb n 25) n25 n26)))))))
+
+answer-of : (a : Answer) → answerOf (numeral a) ≡ a
+unfolding answerOf
+answer-of n0 = refl
+answer-of n1 = refl
+answer-of n3 = refl
+answer-of n5 = refl
+answer-of n7 = refl
+answer-of n23 = refl
+answer-of n24 = refl
+answer-of n25 = refl
+answer-of n26 = refl
+
 -- READING GIVES A NUMBER EXACTLY IF ITS CONDITION HOLDS
-pub read-given : (r : ℕ) (s : List ℕ) → (stepReadOf s .number ≡ r) ↔ Reads r s
-read-given r s = (λ (e : stepReadOf s .number ≡ r). let v : verdictOf s ≡ r = sym (number-is s) ∙ e in rw v at (told s), λ (w : Reads r s). number-is s ∙ from s r w)
+pub read-given : (a : Answer) (s : List ℕ) → (stepReadOf s .number ≡ numeral a) ↔ Reads a s
+read-given a s = (to, λ (w : Reads a s). number-is s ∙ from s a w)
+  where
+    to : stepReadOf s .number ≡ numeral a → Reads a s
+    to e =
+        let t = told s in
+        let same-answer : t .answer ≡ a = sym (answer-of (t .answer)) ∙ ap answerOf (sym (t .number) ∙ sym (number-is s) ∙ e) ∙ answer-of a in
+        rw same-answer at (t .condition)
+
+-- and gives no other
+pub read-numbered : (s : List ℕ) → (a : Answer) × (stepReadOf s .number ≡ numeral a)
+read-numbered s = (told s .answer, number-is s ∙ told s .number)
+
+pub given-0 : (s : List ℕ) → (stepReadOf s .number ≡ 0) ↔ Given0 s
+given-0 = read-given n0
+
+pub given-1 : (s : List ℕ) → (stepReadOf s .number ≡ 1) ↔ Given1 s
+given-1 = read-given n1
+
+pub given-3 : (s : List ℕ) → (stepReadOf s .number ≡ 3) ↔ Given3 s
+given-3 = read-given n3
+
+pub given-5 : (s : List ℕ) → (stepReadOf s .number ≡ 5) ↔ Given5 s
+given-5 = read-given n5
+
+pub given-7 : (s : List ℕ) → (stepReadOf s .number ≡ 7) ↔ Given7 s
+given-7 = read-given n7
+
+pub given-23 : (s : List ℕ) → (stepReadOf s .number ≡ 23) ↔ Given23 s
+given-23 = read-given n23
+
+pub given-24 : (s : List ℕ) → (stepReadOf s .number ≡ 24) ↔ Given24 s
+given-24 = read-given n24
+
+pub given-25 : (s : List ℕ) → (stepReadOf s .number ≡ 25) ↔ Given25 s
+given-25 = read-given n25
+
+pub given-26 : (s : List ℕ) → (stepReadOf s .number ≡ 26) ↔ Given26 s
+given-26 = read-given n26
 
 -- 8,192 bytes or more never answer 1
 pub reading-never-1 : (s : List ℕ) → 8192 ≤ length s → stepReadOf s .number ≡ 1 → ⊥
