@@ -255,3 +255,19 @@ answers {s} (sound {k = k} {p = p} h c d) = whole-is h ∙ close-fine k p s c d
 -- each answer exactly when its end is there
 pub given-exactly : (s : List ℕ) (p : Paper) → (faultOf s ≡ p) ↔ Finding s p
 given-exactly s p = (λ e. rw e at (found s), λ d. answers d)
+
+-- every answer is 0 or a refusal
+pub finding-told : {s : List ℕ} {p : Paper} → Finding s p → Told p
+finding-told (large a) = refused 47 _ (λ z. omega arith) refl
+finding-told (header-wrong a b) = refused 41 _ (λ z. omega arith) refl
+finding-told (header-cut a b) = refused 40 _ (λ z. omega arith) refl
+finding-told (type-wrong a b c) = refused 42 _ (λ z. omega arith) refl
+finding-told (type-cut a b c) = refused 40 _ (λ z. omega arith) refl
+finding-told (column-wrong a b c d) = refused 43 _ (λ z. omega arith) refl
+finding-told (line-cut-short a b c d) = refused 40 _ (λ z. omega arith) refl
+finding-told (mark-wrong a b c d f g) = refused 45 _ (λ z. omega arith) refl
+finding-told (trailer-cut a b c d f) = refused 40 _ (λ z. omega arith) refl
+finding-told (left-over a b c d f) = refused 40 _ (λ z. omega arith) refl
+finding-told (count-wrong a b) = refused 44 _ (λ z. omega arith) refl
+finding-told (sum-wrong a b c) = refused 46 _ (λ z. omega arith) refl
+finding-told (sound a b c) = at-place _ refl

@@ -29,6 +29,7 @@ use Rattle.market_spec.specs.LineValues.{lineFits, line-text-long}
 use Rattle.market_spec.specs.LinesValues.{Line, linesFit, linesText}
 use Rattle.market_spec.specs.TrailerText.{sumText}
 use Rattle.market_spec.specs.Sound.{Values, headValues, headText, bodyOf, fileOf, valuesFit, valuesOf, Sound, sound-exactly, sound-made, body-long, lines-few, written-of-values, values-of-written}
+use Rattle.market_spec.specs.Walk.{Finding, found, finding-told}
 use Rattle.market_spec.specs.ValueBytes.{rowBytes, takenOf, takenLine, takenFault}
 use Rattle.market_spec.specs.TakenBack.{row-told, row-fits, row-made, row-bytes}
 use Rattle.market_spec.specs.FileBytes.{own, ownValues, ownOf, linesBytes, valuesBytes, valuesAnswer, linesTaken, valuesTaken, linesGiven, valuesGiven, writtenAnswer}
@@ -230,3 +231,17 @@ values-again room n x p =
       same-values = s .same-values;
       same-bytes = λ b. ap valuesBytes (s .same-values) ∙ given-bytes x b (m .taken);
     }
+
+-- values are given of sound files alone, with their size
+pub taken-out : (room n : ℕ) (s : List ℕ) → valuesAnswer room s ≡ fine n → Sound s × (length (valuesBytes (valuesOf s)) ≡ n)
+taken-out room n s p = by (found s) refl
+  where
+    end : (q : Paper) → Told q → faultOf s ≡ q → Sound s × (length (valuesBytes (valuesOf s)) ≡ n)
+    end q (refused m i z e) f = absurd (not-fine m i n z (sym (values-wrong room s m i z (f ∙ e)) ∙ p))
+    end q (at-place k e) f =
+        ⊎-elim (λ (b : room < length (valuesBytes (valuesOf s))). absurd (not-fine 8 0 n (λ z. omega arith) (sym (values-lack room s k (f ∙ e) b) ∙ p)))
+        (λ (b : length (valuesBytes (valuesOf s)) ≤ room). ((k, f ∙ e), ap placeOf (sym (values-fine room s k (f ∙ e) b) ∙ p)))
+        (less room (length (valuesBytes (valuesOf s))))
+
+    by : {q : Paper} → Finding s q → faultOf s ≡ q → Sound s × (length (valuesBytes (valuesOf s)) ≡ n)
+    by {q} d f = end q (finding-told d) f

@@ -45,7 +45,7 @@ pub written-one-answer : OneAnswer _ written-kinds.ps written-kinds.r written.Po
 written-one-answer κs a x y s t p q = verdict-one x y (p .0 ∙ sym (q .0))
 
 pub written-one-buffer : OneBuffer _ written-kinds.ps written-kinds.r written.Post (λ κs s. now (s .1 .0))
-written-one-buffer κs a x y s t p q = p .1 ∙ sym (q .1)
+written-one-buffer κs a x y s t p q = p .1 .0 ∙ sym (q .1 .0)
 
 pub written-refused-keeps : RefusedKeeps _ written-kinds.ps written-kinds.r written.Post (λ κs x. Refuses x) (λ κs a. now (a .1 .0)) (λ κs s. now (s .1 .0))
-written-refused-keeps κs a x s p w = kept x _ _ _ _ w (p .0) (p .1)
+written-refused-keeps κs a x s p w = kept x _ _ _ _ w (p .0) (p .1 .0)

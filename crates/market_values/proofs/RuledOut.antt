@@ -57,7 +57,7 @@ written-wrong =
 
 pub written-rules-out : RulesOut (Kept _ written-kinds.ps written-kinds.r written.Post) (λ c. (now (c .args .0), now (c .args .1 .0))) (λ c. left (verdictPaper (c .result)) (now (c .exit .1 .0))) written-wrong
 unfolding spaces numberText columnText numberFits decimalOf widthIn digitsOf numeral sumOf sum8 laid textOf fits lineText linesText bodyOf fileOf takenOf takenLine takenFault linesTaken valuesTaken linesGiven valuesGiven writtenAnswer
-written-rules-out = ruled lefts (λ (i : List ℕ × List ℕ). left (writtenAnswer (length (i .1)) (i .0)) (laidIf0 (writtenAnswer (length (i .1)) (i .0)) (fileOf (valuesGiven (i .0))) (i .1))) (λ c p. left-is p) _ refl
+written-rules-out = ruled lefts (λ (i : List ℕ × List ℕ). left (writtenAnswer (length (i .1)) (i .0)) (laidIf0 (writtenAnswer (length (i .1)) (i .0)) (fileOf (valuesGiven (i .0))) (i .1))) (λ c p. left-is (p .0, p .1 .0)) _ refl
 
 -- values of a file above 65,536 bytes are 47, whatever room there is, and nothing is written
 pub written-47 : (s d : List ℕ) → valuesTaken s ≡ fine 0 → 65536 < length (fileOf (valuesGiven s)) → Holds {I = List ℕ × List ℕ} {O = Left} (Kept _ written-kinds.ps written-kinds.r written.Post) (λ c. (now (c .args .0), now (c .args .1 .0))) (λ c. left (verdictPaper (c .result)) (now (c .exit .1 .0))) ((s, d) only left (fault 47 0) d)
@@ -66,4 +66,4 @@ written-47 s d e h =
     (λ p a.
     let f : List ℕ × List ℕ → Left = λ i. left (writtenAnswer (length (i .1)) (i .0)) (laidIf0 (writtenAnswer (length (i .1)) (i .0)) (fileOf (valuesGiven (i .0))) (i .1)) in
     let z : f (s, d) ≡ left (fault 47 0) d = rw (written-large (length d) s e h) in
-    sym (a .outcome) ∙ left-is (a .promised) ∙ ap f (a .given) ∙ z)
+    sym (a .outcome) ∙ left-is (a .promised .0, a .promised .1 .0) ∙ ap f (a .given) ∙ z)

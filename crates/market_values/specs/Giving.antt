@@ -377,3 +377,7 @@ not-laid p n q x d z e = (sym e, rw (e, ne-eqb n 0 z))
 
 pub is-laid : (p : Paper) (n : ℕ) (x y d : List ℕ) → p ≡ fine n → y ≡ laid 0 x d → (fine n ≡ p) × (y ≡ laidIf0 p x d)
 is-laid p n x y d e q = (sym e, rw e q)
+
+-- and what was lent to be read is bytes
+pub with-bytes : {A B C : Type 0} → C → A × B → A × (B × C)
+with-bytes c (a, b) = (a, (b, c))

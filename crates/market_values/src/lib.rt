@@ -6,7 +6,7 @@ ghost use mathlib.Core.List.{_++_, _∷_, []};
 ghost use Prim.Native.Nat.{_+_, _-_, _≤_, _<_};
 ghost use lib.ListN.{length, take, drop};
 ghost use Rattle.terms.specs.Paper.{answer};
-ghost use Rattle.octets.specs.Octets.{laid, bytesOf, sum8};
+ghost use Rattle.octets.specs.Octets.{laid, bytesOf, sum8, Bytes};
 ghost use Rattle.market_columns.specs.Columns.{rowOf, columns, wide, columnOk};
 ghost use Rattle.market_columns.specs.Tables.{lengthOf};
 ghost use Rattle.market_columns.specs.Values.{fits, textOf, valueIn};
@@ -404,7 +404,7 @@ fn put_file(out: &mut [u8], s: &[u8], n: usize, k: usize)
 // the values, 40, 42 and 43;
 // then 47 for too long a file, then 8 for too small a buffer; nothing is written then.
 pub fn written(values: &[u8], out: &mut [u8]) -> Verdict
-    ensures { λ r. ⌜ (verdictPaper r ≡ writtenAnswer (length (now (out .entry))) (now (values .entry))) × (now (out .exit) ≡ laidIf0 (writtenAnswer (length (now (out .entry))) (now (values .entry))) (fileOf (valuesGiven (now (values .entry)))) (now (out .entry))) ⌝ }
+    ensures { λ r. ⌜ (verdictPaper r ≡ writtenAnswer (length (now (out .entry))) (now (values .entry))) × ((now (out .exit) ≡ laidIf0 (writtenAnswer (length (now (out .entry))) (now (values .entry))) (fileOf (valuesGiven (now (values .entry)))) (now (out .entry))) × Bytes (now (values .entry))) ⌝ }
 {
     match judge(values) {
         Judged::Bad(f, p) => Verdict::Refused(f, p),

@@ -14,7 +14,7 @@ same-length : tie.Need-same-length
 same-length c = search needs
 
 returns : tie.Need-returns
-returns c = let v = c .before .before .before in (c .finding-of .ensures ∙ v .written .ensures .0, v .written .ensures .1)
+returns c = let v = c .before .before .before in (c .finding-of .ensures ∙ v .written .ensures .0, v .written .ensures .1 .0)
 
 pub rk-market-write-spec : {M : Type 1} → statement M
 rk-market-write-spec = tie.close (tie.spec written-requires finding-of-requires same-length returns)

@@ -5,7 +5,7 @@ use mathlib.Core.Path.{_≡_, sym, ap, _∙_}
 use lib.ListN.{length}
 use Rattle.market_spec.specs.WrittenAgain.{written-wrong, written-large, written-lacks, written-fine}
 use Rattle.market.specs.Papers.{fault-some}
-use Rattle.market_values.specs.Giving.{not-laid, is-laid}
+use Rattle.market_values.specs.Giving.{not-laid, is-laid, with-bytes}
 use Rattle.market_values.specs.Writing.{judgedPaper, judged-bad, GoodIs, judged-good, good-file, good-large}
 use Rattle.market_values.proofs.written.Statement.{statement}
 use Rattle.market_values.proofs.written.Tie as tie
@@ -23,14 +23,14 @@ returns : tie.Need-returns
 returns c =
     let x = c .before .before in
     let j = judged-good _ _ _ (ap judgedPaper (sym (x .n .given .1)) ∙ x .before .before .judge .ensures) in
-    not-laid _ 47 0 _ _ (λ z. omega arith) (written-large _ _ (j .taken) (good-large _ _ _ j (c .if1 .taken)))
+    with-bytes (λ i. x .before .before .before .before .shared-slice-known .given i .fits) (not-laid _ 47 0 _ _ (λ z. omega arith) (written-large _ _ (j .taken) (good-large _ _ _ j (c .if1 .taken))))
 
 returns-2 : tie.Need-returns-2
 returns-2 c =
     let x = c .before .before .before in
     let j = judged-good _ _ _ (ap judgedPaper (sym (x .n .given .1)) ∙ x .before .before .judge .ensures) in
     let f = good-file _ _ _ j (c .before .if1 .left) in
-    not-laid _ 8 0 _ _ (λ z. omega arith) (written-lacks _ _ (j .taken) (rw (f .1) (c .before .if1 .left)) (rw (f .1) (c .if2 .taken)))
+    with-bytes (λ i. x .before .before .before .before .shared-slice-known .given i .fits) (not-laid _ 8 0 _ _ (λ z. omega arith) (written-lacks _ _ (j .taken) (rw (f .1) (c .before .if1 .left)) (rw (f .1) (c .if2 .taken))))
 
 put-file-requires : tie.Need-put-file-requires
 put-file-requires c κs =
@@ -41,7 +41,7 @@ put-file-requires c κs =
 returns-3 : tie.Need-returns-3
 returns-3 c =
     let e = judged-bad _ _ _ (fault-some (c .before .f .given .0 .0)) (ap judgedPaper (sym (c .before .f .given .1)) ∙ c .before .before .before .judge .ensures) in
-    not-laid _ _ _ _ _ (fault-some (c .before .f .given .0 .0)) (written-wrong _ _ _ _ (fault-some (c .before .f .given .0 .0)) e)
+    with-bytes (λ i. c .before .before .before .before .before .shared-slice-known .given i .fits) (not-laid _ _ _ _ _ (fault-some (c .before .f .given .0 .0)) (written-wrong _ _ _ _ (fault-some (c .before .f .given .0 .0)) e))
 
 same-length : tie.Need-same-length
 same-length c = search needs
@@ -53,7 +53,7 @@ returns-4 c =
     let j = judged-good _ _ _ (ap judgedPaper (sym (x .n .given .1)) ∙ x .before .before .judge .ensures) in
     let f = good-file _ _ _ j (y .before .if1 .left) in
     let b = x .before .before .before .before .before .args in
-    is-laid _ _ _ _ _ (rw (f .1) at (written-fine (length (b .out .now)) (b .values .now) (j .taken) (rw (f .1) (y .before .if1 .left)) (rw (f .1) (y .if2 .left)))) (c .before .before .put-file .ensures)
+    with-bytes (λ i. x .before .before .before .before .shared-slice-known .given i .fits) (is-laid _ _ _ _ _ (rw (f .1) at (written-fine (length (b .out .now)) (b .values .now) (j .taken) (rw (f .1) (y .before .if1 .left)) (rw (f .1) (y .if2 .left)))) (c .before .before .put-file .ensures))
 
 pub written-spec : {M : Type 1} → statement M
 written-spec =
