@@ -20,7 +20,8 @@ use Rattle.market_spec.specs.File.{fault, fine, placeOf, andThen, lineFa
 use Rattle.market_spec.specs.Files.{then-fine, line-long, layout-some, lines-trailer, lines-cut, lines-type, lines-line}
 use Rattle.market_columns.specs.Values.{Value, textOf}
 use Rattle.market_spec.specs.LineValues.{lineValues, lineText, lineFits, line-reads, line-values, line-writes, line-text-long}
-use Rattle.market_spec.specs.Told.{Told, not-fine, then-both, line-told, type-most}
+use Rattle.market_spec.specs.Told.{Told, not-fine, then-both, line-told}
+use Rattle.market_spec.specs.Types.{type-most}
 
 -- a line's type, 1 to 4 for MD401, MD404, MD405, MD406, and its values
 pub record Line : Type 0 where

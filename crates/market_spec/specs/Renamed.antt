@@ -23,8 +23,8 @@ use Rattle.market_columns.specs.Tables.{lengthOf}
 use Rattle.market_spec.specs.File.{fault, fine, placeOf, andThen, endOf, lineFault, wordOf, beginsAt, typeAt, layoutOf, marks, markOk, tailFault, leftOver, countOk, sumOk, closing, trailerFault, linesFault, faultOf}
 use Rattle.market_spec.specs.LinesValues.{isLine, is-line, type-drop}
 use Rattle.market_spec.specs.Files.{then-fine, then-fault, line-long, lines-trailer, lines-cut, lines-type, lines-line, close-count, close-sum, close-fine}
-use Rattle.market_spec.specs.Types.{file-large, file-header, file-lines}
-use Rattle.market_spec.specs.Told.{Told, at-place, refused, line-told, type-most}
+use Rattle.market_spec.specs.Types.{file-large, file-header, file-lines, type-most}
+use Rattle.market_spec.specs.Told.{Told, at-place, refused, line-told}
 use Rattle.market_spec.specs.Walk.{line-not}
 
 -- from a line's start on: the same bytes, or a line whose type, code and all behind the name are

@@ -94,26 +94,3 @@ tail-passed m ms at e s p =
     (two (markOk m (getD s at 0))))
     (λ (l : length s ≤ at). absurd (not-fine 40 (length s) e (λ q. omega arith) (sym (tail-cut m ms at s l) ∙ p)))
     (less at (length s))
-
--- the type at a line's start is 0 to 6
-pub type-most : (at : ℕ) (s : List ℕ) → typeAt at s ≤ 6
-type-most at s =
-    ⊎-elim (λ (a : beginsAt (wordOf 0 5) at s ≡ 1). omega (arith, type-1 at s a))
-    (λ (a : beginsAt (wordOf 0 5) at s ≡ 1 → ⊥).
-    ⊎-elim (λ (b : beginsAt (wordOf 5 5) at s ≡ 1). omega (arith, type-2 at s a b))
-    (λ (b : beginsAt (wordOf 5 5) at s ≡ 1 → ⊥).
-    ⊎-elim (λ (c : beginsAt (wordOf 10 5) at s ≡ 1). omega (arith, type-3 at s a b c))
-    (λ (c : beginsAt (wordOf 10 5) at s ≡ 1 → ⊥).
-    ⊎-elim (λ (d : beginsAt (wordOf 15 5) at s ≡ 1). omega (arith, type-4 at s a b c d))
-    (λ (d : beginsAt (wordOf 15 5) at s ≡ 1 → ⊥).
-    ⊎-elim (λ (f : beginsAt (wordOf 20 7) at s ≡ 1). omega (arith, type-5 at s a b c d f))
-    (λ (f : beginsAt (wordOf 20 7) at s ≡ 1 → ⊥). rw (type-other at s a b c d f ((((eqb (beginsAt (wordOf 0 5) at s) 2 || eqb (beginsAt (wordOf 5 5) at s) 2) || eqb (beginsAt (wordOf 10 5) at s) 2) || eqb (beginsAt (wordOf 15 5) at s) 2) || eqb (beginsAt (wordOf 20 7) at s) 2) refl) (at-most ((((eqb (beginsAt (wordOf 0 5) at s) 2 || eqb (beginsAt (wordOf 5 5) at s) 2) || eqb (beginsAt (wordOf 10 5) at s) 2) || eqb (beginsAt (wordOf 15 5) at s) 2) || eqb (beginsAt (wordOf 20 7) at s) 2)))
-    (same (beginsAt (wordOf 20 7) at s) 1))
-    (same (beginsAt (wordOf 15 5) at s) 1))
-    (same (beginsAt (wordOf 10 5) at s) 1))
-    (same (beginsAt (wordOf 5 5) at s) 1))
-    (same (beginsAt (wordOf 0 5) at s) 1)
-  where
-    at-most : (t : Bool) → pick {A = ℕ} t 6 0 ≤ 6
-    at-most true = omega arith
-    at-most false = omega arith

@@ -24,7 +24,7 @@ use Rattle.market_columns.specs.Columns.{alike}
 use Rattle.market_columns.specs.ColumnLaws.{alike-is, alike-self}
 use Rattle.market_spec.specs.File.{fault, fine, placeOf, andThen, wordOf, trailer, beginsAt, typeAt, marks, markOk, tailFault, leftOver, countOk, sumOk, closing, trailerFault}
 use Rattle.market_spec.specs.Files.{then-fine, tail-on, close-count, close-sum, close-fine}
-use Rattle.market_spec.specs.Types.{type-1, type-2, type-3, type-4, type-5, type-other, left-some, left-none, trailer-fine}
+use Rattle.market_spec.specs.Types.{trailer-word, left-some, left-none, trailer-fine}
 use Rattle.market_spec.specs.Told.{Told, at-place, refused, not-fine, then-both, tail-told, Marked, tail-passed}
 
 -- a trailer that says the sum v
@@ -83,28 +83,6 @@ word-is word at s e =
     (same (length (take (length word) (drop at s))) (length word)))
     (λ (a : alike (take (length (take (length word) (drop at s))) word) (take (length word) (drop at s)) ≡ false). absurd (omega (arith, rw a at e)))
     (two (alike (take (length (take (length word) (drop at s))) word) (take (length word) (drop at s))))
-
-trailer-word : (at : ℕ) (s : List ℕ) → typeAt at s ≡ 5 → beginsAt (wordOf 20 7) at s ≡ 1
-trailer-word at s e =
-    ⊎-elim (λ (a : beginsAt (wordOf 0 5) at s ≡ 1). absurd (omega (arith, type-1 at s a)))
-    (λ (a : beginsAt (wordOf 0 5) at s ≡ 1 → ⊥).
-    ⊎-elim (λ (b : beginsAt (wordOf 5 5) at s ≡ 1). absurd (omega (arith, type-2 at s a b)))
-    (λ (b : beginsAt (wordOf 5 5) at s ≡ 1 → ⊥).
-    ⊎-elim (λ (c : beginsAt (wordOf 10 5) at s ≡ 1). absurd (omega (arith, type-3 at s a b c)))
-    (λ (c : beginsAt (wordOf 10 5) at s ≡ 1 → ⊥).
-    ⊎-elim (λ (d : beginsAt (wordOf 15 5) at s ≡ 1). absurd (omega (arith, type-4 at s a b c d)))
-    (λ (d : beginsAt (wordOf 15 5) at s ≡ 1 → ⊥).
-    ⊎-elim (λ (f : beginsAt (wordOf 20 7) at s ≡ 1). f)
-    (λ (f : beginsAt (wordOf 20 7) at s ≡ 1 → ⊥). absurd (not-5 ((((eqb (beginsAt (wordOf 0 5) at s) 2 || eqb (beginsAt (wordOf 5 5) at s) 2) || eqb (beginsAt (wordOf 10 5) at s) 2) || eqb (beginsAt (wordOf 15 5) at s) 2) || eqb (beginsAt (wordOf 20 7) at s) 2) (sym (type-other at s a b c d f ((((eqb (beginsAt (wordOf 0 5) at s) 2 || eqb (beginsAt (wordOf 5 5) at s) 2) || eqb (beginsAt (wordOf 10 5) at s) 2) || eqb (beginsAt (wordOf 15 5) at s) 2) || eqb (beginsAt (wordOf 20 7) at s) 2) refl) ∙ e)))
-    (same (beginsAt (wordOf 20 7) at s) 1))
-    (same (beginsAt (wordOf 15 5) at s) 1))
-    (same (beginsAt (wordOf 10 5) at s) 1))
-    (same (beginsAt (wordOf 5 5) at s) 1))
-    (same (beginsAt (wordOf 0 5) at s) 1)
-  where
-    not-5 : (t : Bool) → _≡_ {A = ℕ} (pick t 6 0) 5 → ⊥
-    not-5 true q = omega arith
-    not-5 false q = omega arith
 
 sum-says : (at : ℕ) (s : List ℕ) → sumOk at s ≡ true → digitsAt (at + 8) 3 s ≡ number (sum8 (take (at + 8) s))
 sum-says at s e = in-both (digits-either (at + 8) 3 s)

@@ -5,7 +5,7 @@ use mathlib.Core.Bool.{Bool, true, false, _||_}
 use mathlib.Core.Logic.{⊎-elim}
 use mathlib.Core.List.{List, [], _∷_}
 use native.Mathlib.Omega.{arith}
-use lib.Dec.{leb, ltb, eqb}
+use lib.Dec.{leb, ltb, eqb, lit≤}
 use lib.ListN.{length, take, drop, length-drop, length-take, drop-of-length-le}
 use borrow.Author.Tests.{le-leb, lt-leb, lt-ltb, le-ltb, eq-eqb, ne-eqb, eqb-true, eqb-false}
 use Rattle.terms.specs.Paper.{Paper, pick}
@@ -59,7 +59,7 @@ module _ (at : ℕ) (s : List ℕ) where
             unfolding typeAt
             type-other t e = rw (ne-eqb b1 1 n1, ne-eqb b2 1 n2, ne-eqb b3 1 n3, ne-eqb b4 1 n4, ne-eqb b5 1 n5, e)
 
-  -- a trailer stands whole
+  -- a word stands whole
   word-room : (w start : ℕ) → length (wordOf start w) ≡ w → beginsAt (wordOf start w) at s ≡ 1 → at ≤ length s → at + w ≤ length s
   unfolding beginsAt
   word-room w start n e h =
@@ -70,27 +70,52 @@ module _ (at : ℕ) (s : List ℕ) where
       (λ (a : alike (take (length (take (length (wordOf start w)) (drop at s))) (wordOf start w)) (take (length (wordOf start w)) (drop at s)) ≡ false). absurd (omega (arith, rw a at e)))
       (two (alike (take (length (take (length (wordOf start w)) (drop at s))) (wordOf start w)) (take (length (wordOf start w)) (drop at s))))
 
-  pub trailer-room : at ≤ length s → typeAt at s ≡ 5 → at + 7 ≤ length s
-  trailer-room h e =
-      ⊎-elim (λ (a : b1 ≡ 1). absurd (omega (arith, type-1 a)))
-      (λ (a : b1 ≡ 1 → ⊥).
-      ⊎-elim (λ (b : b2 ≡ 1). absurd (omega (arith, type-2 a b)))
-      (λ (b : b2 ≡ 1 → ⊥).
-      ⊎-elim (λ (c : b3 ≡ 1). absurd (omega (arith, type-3 a b c)))
-      (λ (c : b3 ≡ 1 → ⊥).
-      ⊎-elim (λ (d : b4 ≡ 1). absurd (omega (arith, type-4 a b c d)))
-      (λ (d : b4 ≡ 1 → ⊥).
-      ⊎-elim (λ (f : b5 ≡ 1). word-room 7 20 refl f h)
-      (λ (f : b5 ≡ 1 → ⊥). absurd (not-5 ((((eqb b1 2 || eqb b2 2) || eqb b3 2) || eqb b4 2) || eqb b5 2) (sym (type-other a b c d f ((((eqb b1 2 || eqb b2 2) || eqb b3 2) || eqb b4 2) || eqb b5 2) refl) ∙ e)))
-      (same b5 1))
-      (same b4 1))
-      (same b3 1))
-      (same b2 1))
-      (same b1 1)
-    where
-      not-5 : (t : Bool) → _≡_ {A = ℕ} (pick t 6 0) 5 → ⊥
-      not-5 true q = omega arith
-      not-5 false q = omega arith
+-- WHAT STANDS THERE, once for all: a line's type, the trailer's word, or no word whole
+pub data TypeView (at : ℕ) (s : List ℕ) : Type 0 where
+  line-type : (t : ℕ) → t ≤ 4 → typeAt at s ≡ t → TypeView at s
+  trailer-type : beginsAt (wordOf 20 7) at s ≡ 1 → typeAt at s ≡ 5 → TypeView at s
+  no-type : (cut : Bool) → typeAt at s ≡ pick cut 6 0 → TypeView at s
+
+pub type-view : (at : ℕ) (s : List ℕ) → TypeView at s
+type-view at s =
+    ⊎-elim (λ (a : b1 at s ≡ 1). line-type 1 (lit≤ tt) (type-1 at s a))
+    (λ (a : b1 at s ≡ 1 → ⊥).
+    ⊎-elim (λ (b : b2 at s ≡ 1). line-type 2 (lit≤ tt) (type-2 at s a b))
+    (λ (b : b2 at s ≡ 1 → ⊥).
+    ⊎-elim (λ (c : b3 at s ≡ 1). line-type 3 (lit≤ tt) (type-3 at s a b c))
+    (λ (c : b3 at s ≡ 1 → ⊥).
+    ⊎-elim (λ (d : b4 at s ≡ 1). line-type 4 (lit≤ tt) (type-4 at s a b c d))
+    (λ (d : b4 at s ≡ 1 → ⊥).
+    ⊎-elim (λ (f : b5 at s ≡ 1). trailer-type f (type-5 at s a b c d f))
+    (λ (f : b5 at s ≡ 1 → ⊥). no-type ((((eqb (b1 at s) 2 || eqb (b2 at s) 2) || eqb (b3 at s) 2) || eqb (b4 at s) 2) || eqb (b5 at s) 2) (type-other at s a b c d f ((((eqb (b1 at s) 2 || eqb (b2 at s) 2) || eqb (b3 at s) 2) || eqb (b4 at s) 2) || eqb (b5 at s) 2) refl))
+    (same (b5 at s) 1))
+    (same (b4 at s) 1))
+    (same (b3 at s) 1))
+    (same (b2 at s) 1))
+    (same (b1 at s) 1)
+
+pub trailer-word : (at : ℕ) (s : List ℕ) → typeAt at s ≡ 5 → beginsAt (wordOf 20 7) at s ≡ 1
+trailer-word at s e = by (type-view at s)
+  where
+    by : TypeView at s → beginsAt (wordOf 20 7) at s ≡ 1
+    by (line-type t h q) = absurd (omega arith)
+    by (trailer-type w q) = w
+    by (no-type true q) = absurd (omega arith)
+    by (no-type false q) = absurd (omega arith)
+
+-- a trailer stands whole
+pub trailer-room : (at : ℕ) (s : List ℕ) → at ≤ length s → typeAt at s ≡ 5 → at + 7 ≤ length s
+trailer-room at s h e = word-room at s 7 20 refl (trailer-word at s e) h
+
+-- the type at a line's start is 0 to 6
+pub type-most : (at : ℕ) (s : List ℕ) → typeAt at s ≤ 6
+type-most at s = by (type-view at s)
+  where
+    by : TypeView at s → typeAt at s ≤ 6
+    by (line-type t h q) = omega arith
+    by (trailer-type w q) = omega arith
+    by (no-type true q) = omega arith
+    by (no-type false q) = omega arith
 
 -- LEFT-OVER BYTES
 

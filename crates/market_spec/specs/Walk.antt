@@ -18,8 +18,8 @@ use Rattle.market_columns.specs.Columns.{Column, header, wide, columnOk}
 use Rattle.market_spec.specs.File.{fault, fine, placeOf, andThen, endOf, lineFault, typeAt, layoutOf, marks, markOk, tailFault, leftOver, countOk, sumOk, closing, trailerFault, linesFault, faultOf}
 use Rattle.market_spec.specs.Lines.{line-cut, line-wrong, line-ends, line-bar, line-on}
 use Rattle.market_spec.specs.Files.{then-fine, then-fault, line-long, layout-some, tail-cut, tail-wrong, tail-on, lines-trailer, lines-cut, lines-type, lines-line, close-count, close-sum, close-fine}
-use Rattle.market_spec.specs.Types.{left-some, left-none, trailer-wrong, trailer-fine, file-large, file-header, file-lines}
-use Rattle.market_spec.specs.Told.{Told, at-place, refused, not-fine, type-most}
+use Rattle.market_spec.specs.Types.{left-some, left-none, trailer-wrong, trailer-fine, file-large, file-header, file-lines, type-most}
+use Rattle.market_spec.specs.Told.{Told, at-place, refused, not-fine}
 use Rattle.market_spec.specs.LinesValues.{isLine, is-line}
 
 -- A ROW OF COLUMNS from the place p0 on: those before p stand right, each with the byte behind it;

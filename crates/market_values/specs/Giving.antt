@@ -25,7 +25,8 @@ use Rattle.market_columns.specs.Values.{Value, valueIn, fits, column-reads}
 use Rattle.market_columns.specs.Tables.{lengthOf}
 use Rattle.market_spec.specs.File.{fault, fine, andThen, lineFault, linesFault, typeAt, layoutOf, faultOf}
 use Rattle.market_spec.specs.Files.{line-long, lines-trailer, lines-cut, lines-type, lines-line}
-use Rattle.market_spec.specs.Told.{not-fine, Then, then-both, line-told, type-most}
+use Rattle.market_spec.specs.Told.{not-fine, Then, then-both, line-told}
+use Rattle.market_spec.specs.Types.{type-most}
 use Rattle.market_spec.specs.LinesValues.{Line, isLine, linesFit, linesText, linesValues, is-line}
 use Rattle.market_spec.specs.Sound.{Values, Sound, headValues, bodyOf, fileOf, valuesOf, valuesFit, Parts, parts, sound-exactly, file-parts}
 use Rattle.market_spec.specs.TrailerText.{trailerText}
