@@ -336,6 +336,7 @@ fn explain_tells_a_refusal_by_number_and_name() {
         let ran = run(&folder, &["explain", "sample", place]);
         let start = format!("sample: place {place}: refused, {answer}: ");
         assert!(ran.out().starts_with(&start), "{place}");
+        assert!(!ran.out().contains("no frame reads here"), "{place}");
         assert!(
             ran.out().lines().nth(1).unwrap().starts_with(more),
             "{place}"
