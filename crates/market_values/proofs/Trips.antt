@@ -1,5 +1,6 @@
--- Both round trips over calls, as the two promises allow them: a file that `written` wrote is sound, and its values are the bytes that it was
--- written from; and what is written from the values that `values` took out is the file. Assumes nothing.
+-- Both round trips over calls, as the two promises allow them: a file that `written` wrote is
+-- sound, and its values are the bytes that it was written from; and what is written from the values
+-- that `values` took out is the file. Assumes nothing.
 use Prim.Native.Nat.{ℕ, _≤_}
 use mathlib.Core.Path.{_≡_, refl, sym, ap, _∙_}
 use mathlib.Core.List.{List}
