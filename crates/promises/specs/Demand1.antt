@@ -12,7 +12,7 @@ use Rattle.terms.specs.Counters.{tickOf}
 use Rattle.terms.specs.Paper.{Paper}
 use Rattle.terms.specs.Refusals.{numberOf}
 use Rattle.terms.specs.declared.Refusal.{Refusal}
-use Rattle.terms.specs.declared.Refusal.the-variants.{More, MsgType, Long, Length, Sum, Field, Time, Room, Place, Range, Repeat, Far, State, Busy, Whole, Unasked, Status, Channel, Closed, Entries, Places}
+use Rattle.terms.specs.declared.Refusal.the-variants.{More, MsgType, Long, Length, Sum, Field, Time, Room, Place, Range, Repeat, Far, State, Busy, Whole, Unasked, Status, Channel, Closed, Entries, Places, Early, Sequence, Over, Again}
 use Rattle.octets.specs.declared.Written.{Written}
 use Rattle.octets.specs.declared.Written.the-variants as written
 use Rattle.octets.specs.Papers.{writtenPaper}
@@ -413,9 +413,9 @@ host-market-answers =
 -- "AND REFUSES WHAT IT CAN'T USE WITH A NUMBER FROM DOCUMENT 01"
 
 -- the numbers of document 01's table, 1 to 6, 8 to 18 and 20, and of the requests: 7 (CR 6), 19
--- and 29 (CR 1)
+-- and 29 (CR 1), 30 to 33 (CR 12)
 unfoldable pub inTable : ℕ → Bool
-inTable n = (leb 1 n && leb n 20) || eqb n 29
+inTable n = (leb 1 n && leb n 20) || (leb 29 n && leb n 33)
 
 pub refusal-in-table : (w : Refusal) → inTable (numberOf w) ≡ true
 unfolding inTable
@@ -440,6 +440,10 @@ refusal-in-table Channel = refl
 refusal-in-table Closed = refl
 refusal-in-table Entries = refl
 refusal-in-table Places = refl
+refusal-in-table Early = refl
+refusal-in-table Sequence = refl
+refusal-in-table Over = refl
+refusal-in-table Again = refl
 
 -- an answer's number is 0, or one of the table
 pub data Numbered : ℕ → Type 0 where

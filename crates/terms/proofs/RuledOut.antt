@@ -12,7 +12,7 @@ use Rattle.terms.specs.declared.ChannelNumber.{ChannelNumber}
 use Rattle.terms.specs.declared.Refusal.{Refusal}
 use Rattle.terms.specs.declared.Verdict.{Verdict}
 use Rattle.terms.specs.declared.Verdict.the-variants.{Fine, Refused}
-use Rattle.terms.specs.declared.Refusal.the-variants.{Sum, Field, Time, Closed, Entries, Places}
+use Rattle.terms.specs.declared.Refusal.the-variants.{Sum, Field, Time, Closed, Entries, Places, Early, Sequence, Over, Again}
 use Rattle.terms.proofs.SessionNumber.new.Reads as session-new
 use Rattle.terms.proofs.SessionNumber.new.Kinds as session-new-kinds
 use Rattle.terms.proofs.SessionNumber.value.Reads as session-value
@@ -66,6 +66,10 @@ Refusal-number-wrong =
     ∷ Entries never 18  -- counted on, without the gaps of the table
     ∷ Closed only 19  -- not 20, which is another's
     ∷ Places only 29  -- not counted on behind 20
+    ∷ Early only 30
+    ∷ Sequence never 30  -- a wrong number told as too early
+    ∷ Over only 32  -- not 33, which is another's
+    ∷ Again never 32  -- a second logon told as the end
     ∷ []
 
 pub Refusal-number-rules-out : RulesOut (Kept _ number-kinds.ps number-kinds.r number.Post) (λ c. c .args .0) (λ c. c .result) Refusal-number-wrong

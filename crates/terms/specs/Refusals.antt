@@ -7,7 +7,7 @@ use lib.Dec.{eqb}
 use borrow.Author.Tests.{eqb-false}
 use Rattle.terms.specs.Paper.{Paper, refusal, pick}
 use Rattle.terms.specs.declared.Refusal.{Refusal}
-use Rattle.terms.specs.declared.Refusal.the-variants.{More, MsgType, Long, Length, Sum, Field, Time, Room, Place, Range, Repeat, Far, State, Busy, Whole, Unasked, Status, Channel, Closed, Entries, Places}
+use Rattle.terms.specs.declared.Refusal.the-variants.{More, MsgType, Long, Length, Sum, Field, Time, Room, Place, Range, Repeat, Far, State, Busy, Whole, Unasked, Status, Channel, Closed, Entries, Places, Early, Sequence, Over, Again}
 
 abbrev pub numberOf : Refusal → ℕ
 numberOf More = 1  -- more
@@ -31,6 +31,10 @@ numberOf Channel = 18  -- channel
 numberOf Closed = 19  -- a call after a stream's closing one, of document 02, CR 1
 numberOf Entries = 20  -- entries
 numberOf Places = 29  -- places of a stream past 64 bits, of document 02, CR 1
+numberOf Early = 30  -- anything but logon or logout before the logon answer; this and the next three of document 02, CR 12
+numberOf Sequence = 31  -- MsgSeqNum not the expected one
+numberOf Over = 32  -- session over, or a counter at its last number
+numberOf Again = 33  -- a second logon
 
 -- the refusal of a number of the table
 unfoldable pub refusalOf : ℕ → Refusal
@@ -55,7 +59,11 @@ refusalOf n =
     (pick (eqb n 18) Channel
     (pick (eqb n 19) Closed
     (pick (eqb n 20) Entries
-    Places)))))))))))))))))))
+    (pick (eqb n 29) Places
+    (pick (eqb n 30) Early
+    (pick (eqb n 31) Sequence
+    (pick (eqb n 32) Over
+    Again)))))))))))))))))))))))
 
 pub refusal-back : (w : Refusal) → refusalOf (numberOf w) ≡ w
 unfolding refusalOf
@@ -80,6 +88,10 @@ refusal-back Channel = refl
 refusal-back Closed = refl
 refusal-back Entries = refl
 refusal-back Places = refl
+refusal-back Early = refl
+refusal-back Sequence = refl
+refusal-back Over = refl
+refusal-back Again = refl
 
 -- two refusals of one number are one
 pub refusal-one : (v w : Refusal) → numberOf v ≡ numberOf w → v ≡ w
@@ -108,6 +120,10 @@ refusal-not-0 Channel = refl
 refusal-not-0 Closed = refl
 refusal-not-0 Entries = refl
 refusal-not-0 Places = refl
+refusal-not-0 Early = refl
+refusal-not-0 Sequence = refl
+refusal-not-0 Over = refl
+refusal-not-0 Again = refl
 
 -- an answer told from its paper: by its values where it is 0, else by its number
 unfoldable pub told : {A : Type 0} → (List ℕ → A) → (Refusal → A) → Paper → A

@@ -86,6 +86,10 @@ pub enum Refusal {
     Closed,
     Entries,
     Places,
+    Early,
+    Sequence,
+    Over,
+    Again,
 }
 
 impl Refusal {
@@ -115,6 +119,10 @@ impl Refusal {
             Refusal::Closed => 19,
             Refusal::Entries => 20,
             Refusal::Places => 29,
+            Refusal::Early => 30,
+            Refusal::Sequence => 31,
+            Refusal::Over => 32,
+            Refusal::Again => 33,
         }
     }
 }
