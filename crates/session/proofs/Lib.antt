@@ -1,0 +1,4 @@
+pub mod Arrived
+pub mod OneAnswer
+pub mod AsTheTable
+pub mod RuledOut

@@ -1,0 +1,202 @@
+-- When each refusal is given, both ways, for every session and every call. Assumes nothing.
+use mathlib.Core.Path.{_≡_, refl, sym, ap, _∙_}
+use mathlib.Core.Bool.{Bool, true, false, _&&_, _||_}
+use mathlib.Core.Logic.{_⊎_, ⊎-elim, _↔_}
+use Prim.Native.Nat.{ℕ}
+use native.Mathlib.Omega.{arith}
+use borrow.Author.Tests.{eqb-true, eq-eqb}
+use lib.Dec.{eqb}
+use Rattle.terms.specs.Cases.{clash, two}
+use Rattle.terms.specs.Paper.{pick}
+use Rattle.session_spec.specs.Table.{State, new, waiting, active, leaving, over, Event, Begin, Time, Leave, Ask, Logon, Logout, Other, Faulty, Cell, refuse, rowOf}
+use Rattle.session_spec.specs.Calls.{Line, soundOf, clockOf, deadAt, dueAt, resolved, cellOf, numberIn, kindIn, misnumbered, gone, spent, ordered, ownNumber, numberTo}
+use Rattle.session_spec.specs.Given.{unanswered, talks, second, closed, stopped, early, Given30, Given31, Given32, Given33}
+use Rattle.session_spec.specs.Faults.{Fault, faultNumber}
+use Rattle.session_spec.proofs.Faults.{not-reading}
+use Rattle.session_spec.proofs.Outcome.{number-sound}
+
+-- the numbers that stand in the table
+pub record RowTests (s : State) (e : Event) (n : ℕ) : Type 0 where
+  pub is-30 : eqb n 30 ≡ (unanswered s && talks e)
+  pub is-31 : eqb n 31 ≡ false
+  pub is-32 : eqb n 32 ≡ closed s e
+  pub is-33 : eqb n 33 ≡ second s e
+
+own-30 : (why : Fault) → eqb (faultNumber why) 30 ≡ false
+own-30 why = not-reading why 30 (omega arith)
+
+own-31 : (why : Fault) → eqb (faultNumber why) 31 ≡ false
+own-31 why = not-reading why 31 (omega arith)
+
+own-32 : (why : Fault) → eqb (faultNumber why) 32 ≡ false
+own-32 why = not-reading why 32 (omega arith)
+
+own-33 : (why : Fault) → eqb (faultNumber why) 33 ≡ false
+own-33 why = not-reading why 33 (omega arith)
+
+row-tests : (s : State) (e : Event) (dead due : Bool) → RowTests s e (numberIn (resolved dead due (rowOf s e)))
+row-tests new Begin dead due = record { is-30 = refl; is-31 = refl; is-32 = refl; is-33 = refl }
+row-tests new Time dead due = record { is-30 = refl; is-31 = refl; is-32 = refl; is-33 = refl }
+row-tests new Leave dead due = record { is-30 = refl; is-31 = refl; is-32 = refl; is-33 = refl }
+row-tests new Ask dead due = record { is-30 = refl; is-31 = refl; is-32 = refl; is-33 = refl }
+row-tests new (Logon number heart) dead due = record { is-30 = refl; is-31 = refl; is-32 = refl; is-33 = refl }
+row-tests new (Logout number) dead due = record { is-30 = refl; is-31 = refl; is-32 = refl; is-33 = refl }
+row-tests new (Other number) dead due = record { is-30 = refl; is-31 = refl; is-32 = refl; is-33 = refl }
+row-tests new (Faulty why) dead due = record { is-30 = own-30 why; is-31 = own-31 why; is-32 = own-32 why; is-33 = own-33 why }
+row-tests waiting Begin dead due = record { is-30 = refl; is-31 = refl; is-32 = refl; is-33 = refl }
+row-tests waiting Time dead due = record { is-30 = refl; is-31 = refl; is-32 = refl; is-33 = refl }
+row-tests waiting Leave dead due = record { is-30 = refl; is-31 = refl; is-32 = refl; is-33 = refl }
+row-tests waiting Ask dead due = record { is-30 = refl; is-31 = refl; is-32 = refl; is-33 = refl }
+row-tests waiting (Logon number heart) dead due = record { is-30 = refl; is-31 = refl; is-32 = refl; is-33 = refl }
+row-tests waiting (Logout number) dead due = record { is-30 = refl; is-31 = refl; is-32 = refl; is-33 = refl }
+row-tests waiting (Other number) dead due = record { is-30 = refl; is-31 = refl; is-32 = refl; is-33 = refl }
+row-tests waiting (Faulty why) dead due = record { is-30 = own-30 why; is-31 = own-31 why; is-32 = own-32 why; is-33 = own-33 why }
+row-tests active Begin dead due = record { is-30 = refl; is-31 = refl; is-32 = refl; is-33 = refl }
+row-tests active Time true due = record { is-30 = refl; is-31 = refl; is-32 = refl; is-33 = refl }
+row-tests active Time false true = record { is-30 = refl; is-31 = refl; is-32 = refl; is-33 = refl }
+row-tests active Time false false = record { is-30 = refl; is-31 = refl; is-32 = refl; is-33 = refl }
+row-tests active Leave dead due = record { is-30 = refl; is-31 = refl; is-32 = refl; is-33 = refl }
+row-tests active Ask dead due = record { is-30 = refl; is-31 = refl; is-32 = refl; is-33 = refl }
+row-tests active (Logon number heart) dead due = record { is-30 = refl; is-31 = refl; is-32 = refl; is-33 = refl }
+row-tests active (Logout number) dead due = record { is-30 = refl; is-31 = refl; is-32 = refl; is-33 = refl }
+row-tests active (Other number) dead due = record { is-30 = refl; is-31 = refl; is-32 = refl; is-33 = refl }
+row-tests active (Faulty why) dead due = record { is-30 = own-30 why; is-31 = own-31 why; is-32 = own-32 why; is-33 = own-33 why }
+row-tests leaving Begin dead due = record { is-30 = refl; is-31 = refl; is-32 = refl; is-33 = refl }
+row-tests leaving Time true due = record { is-30 = refl; is-31 = refl; is-32 = refl; is-33 = refl }
+row-tests leaving Time false due = record { is-30 = refl; is-31 = refl; is-32 = refl; is-33 = refl }
+row-tests leaving Leave dead due = record { is-30 = refl; is-31 = refl; is-32 = refl; is-33 = refl }
+row-tests leaving Ask dead due = record { is-30 = refl; is-31 = refl; is-32 = refl; is-33 = refl }
+row-tests leaving (Logon number heart) dead due = record { is-30 = refl; is-31 = refl; is-32 = refl; is-33 = refl }
+row-tests leaving (Logout number) dead due = record { is-30 = refl; is-31 = refl; is-32 = refl; is-33 = refl }
+row-tests leaving (Other number) dead due = record { is-30 = refl; is-31 = refl; is-32 = refl; is-33 = refl }
+row-tests leaving (Faulty why) dead due = record { is-30 = own-30 why; is-31 = own-31 why; is-32 = own-32 why; is-33 = own-33 why }
+row-tests over Begin dead due = record { is-30 = refl; is-31 = refl; is-32 = refl; is-33 = refl }
+row-tests over Time dead due = record { is-30 = refl; is-31 = refl; is-32 = refl; is-33 = refl }
+row-tests over Leave dead due = record { is-30 = refl; is-31 = refl; is-32 = refl; is-33 = refl }
+row-tests over Ask dead due = record { is-30 = refl; is-31 = refl; is-32 = refl; is-33 = refl }
+row-tests over (Logon number heart) dead due = record { is-30 = refl; is-31 = refl; is-32 = refl; is-33 = refl }
+row-tests over (Logout number) dead due = record { is-30 = refl; is-31 = refl; is-32 = refl; is-33 = refl }
+row-tests over (Other number) dead due = record { is-30 = refl; is-31 = refl; is-32 = refl; is-33 = refl }
+row-tests over (Faulty why) dead due = record { is-30 = own-30 why; is-31 = own-31 why; is-32 = own-32 why; is-33 = own-33 why }
+
+cell-tests : (l : Line) (t : ℕ) (e : Event) → RowTests (l .state) e (numberIn (cellOf l t e))
+unfolding cellOf
+cell-tests l t e = row-tests (l .state) e (deadAt l t) (dueAt l t)
+
+-- ======== A row of checks
+
+abbrev chain : Bool → Bool → Bool → ℕ → ℕ
+chain b w d n = pick b 30 (pick w 31 (pick d 32 n))
+
+to-30 : (b w d : Bool) (n : ℕ) → eqb n 30 ≡ b → chain b w d n ≡ 30 → b ≡ true
+to-30 true w d n t e = refl
+to-30 false true d n t e = absurd (omega arith)
+to-30 false false true n t e = absurd (omega arith)
+to-30 false false false n t e = absurd (clash (eq-eqb n 30 e) t)
+
+to-31 : (b w d : Bool) (n : ℕ) → eqb n 31 ≡ false → chain b w d n ≡ 31 → (b ≡ false) × (w ≡ true)
+to-31 true w d n t e = absurd (omega arith)
+to-31 false true d n t e = (refl, refl)
+to-31 false false true n t e = absurd (omega arith)
+to-31 false false false n t e = absurd (clash (eq-eqb n 31 e) t)
+
+to-32 : (b w d c : Bool) (n : ℕ) → eqb n 32 ≡ c → chain b w d n ≡ 32 → (b ≡ false) × ((w ≡ false) × (d || c ≡ true))
+to-32 true w d c n t e = absurd (omega arith)
+to-32 false true d c n t e = absurd (omega arith)
+to-32 false false true c n t e = (refl, (refl, refl))
+to-32 false false false c n t e = (refl, (refl, sym t ∙ eq-eqb n 32 e))
+
+to-33 : (b w d c : Bool) (n : ℕ) → eqb n 33 ≡ c → chain b w d n ≡ 33 → (b ≡ false) × ((w ≡ false) × ((d ≡ false) × (c ≡ true)))
+to-33 true w d c n t e = absurd (omega arith)
+to-33 false true d c n t e = absurd (omega arith)
+to-33 false false true c n t e = absurd (omega arith)
+to-33 false false false c n t e = (refl, (refl, (refl, sym t ∙ eq-eqb n 33 e)))
+
+of-32 : (d c : Bool) (n : ℕ) → eqb n 32 ≡ c → d || c ≡ true → pick d 32 n ≡ 32
+of-32 true c n t h = refl
+of-32 false c n t h = eqb-true n 32 (t ∙ h)
+
+-- ======== The number of a call
+
+ordered-chain : (b w d : Bool) (n : ℕ) → eqb n 30 ≡ b → ordered w d n ≡ chain b w d n
+ordered-chain b w d n q = rw q
+
+own-chain : (l : Line) (t : ℕ) (e : Event) (cell : Cell) (b : Bool) → eqb (numberIn cell) 30 ≡ b
+    → ownNumber l t e cell ≡ chain b (misnumbered l e) (gone l t e || spent l e (kindIn cell)) (numberIn cell)
+unfolding ownNumber
+own-chain l t e cell b p = ordered-chain b (misnumbered l e) (gone l t e || spent l e (kindIn cell)) (numberIn cell) p
+
+from-31 : (b w d : Bool) (n : ℕ) → b ≡ false → w ≡ true → chain b w d n ≡ 31
+from-31 b w d n p q = rw (p, q)
+
+from-32 : (b w d c : Bool) (n : ℕ) → b ≡ false → w ≡ false → eqb n 32 ≡ c → d || c ≡ true → chain b w d n ≡ 32
+from-32 b w d c n p q t h = rw (p, q) (of-32 d c n t h)
+
+from-33 : (b w d c : Bool) (n : ℕ) → b ≡ false → w ≡ false → d ≡ false → eqb n 33 ≡ c → c ≡ true → chain b w d n ≡ 33
+from-33 b w d c n p q r t h = rw (p, q, r) (eqb-true n 33 (t ∙ h))
+
+module _ (l : Line) (now : ℕ) (e : Event) where
+  abbrev cell-number : ℕ
+  cell-number = numberIn (cellOf l (clockOf l now) e)
+
+  tests : RowTests (l .state) e cell-number
+  tests = cell-tests l (clockOf l now) e
+
+  told : soundOf l ≡ true → numberTo l now e ≡ chain (early l e) (misnumbered l e) (stopped l now e) cell-number
+  told s = number-sound l now e s ∙ own-chain l (clockOf l now) e (cellOf l (clockOf l now) e) (early l e) (tests .is-30)
+
+  broken : soundOf l ≡ false → numberTo l now e ≡ 13
+  unfolding numberTo
+  broken s = rw s
+
+  sound-of : (m : ℕ) → (13 ≡ m → ⊥) → numberTo l now e ≡ m → soundOf l ≡ true
+  sound-of m p h = ⊎-elim (λ t. t) (λ f. absurd (p (sym (broken f) ∙ h))) (two (soundOf l))
+
+  pub given-30 : (numberTo l now e ≡ 30) ↔ Given30 l now e
+  given-30 = (
+    λ h. let s = sound-of 30 (λ q. omega arith) h in record { rules = s; too-early = to-30 (early l e) (misnumbered l e) (stopped l now e) cell-number (tests .is-30) (sym (told s) ∙ h) },
+    λ g. told (g .rules) ∙ ap (λ (b : Bool). chain b (misnumbered l e) (stopped l now e) cell-number) (g .too-early),
+  )
+
+  pub given-31 : (numberTo l now e ≡ 31) ↔ Given31 l now e
+  given-31 = (
+    λ h. let s = sound-of 31 (λ q. omega arith) h in
+        let q = to-31 (early l e) (misnumbered l e) (stopped l now e) cell-number (tests .is-31) (sym (told s) ∙ h) in
+        record { rules = s; not-early = q .0; wrong-number = q .1 },
+    λ g. told (g .rules) ∙ from-31 (early l e) (misnumbered l e) (stopped l now e) cell-number (g .not-early) (g .wrong-number),
+  )
+
+  pub given-32 : (numberTo l now e ≡ 32) ↔ Given32 l now e
+  given-32 = (
+    λ h. let s = sound-of 32 (λ q. omega arith) h in
+        let q = to-32 (early l e) (misnumbered l e) (stopped l now e) (closed (l .state) e) cell-number (tests .is-32) (sym (told s) ∙ h) in
+        record { rules = s; not-early = q .0; in-order = q .1 .0; at-end = q .1 .1 },
+    λ g. told (g .rules) ∙ from-32 (early l e) (misnumbered l e) (stopped l now e) (closed (l .state) e) cell-number (g .not-early) (g .in-order) (tests .is-32) (g .at-end),
+  )
+
+  pub given-33 : (numberTo l now e ≡ 33) ↔ Given33 l now e
+  given-33 = (
+    λ h. let s = sound-of 33 (λ q. omega arith) h in
+        let q = to-33 (early l e) (misnumbered l e) (stopped l now e) (second (l .state) e) cell-number (tests .is-33) (sym (told s) ∙ h) in
+        record { rules = s; not-early = q .0; in-order = q .1 .0; going = q .1 .1 .0; again = q .1 .1 .1 },
+    λ g. told (g .rules) ∙ from-33 (early l e) (misnumbered l e) (stopped l now e) (second (l .state) e) cell-number (g .not-early) (g .in-order) (g .going) (tests .is-33) (g .again),
+  )
+
+-- reading's own refusal comes first, in every state and on a dead line too
+own-fault : (l : Line) (t : ℕ) (why : Fault) (cell : Cell) → cell ≡ refuse (faultNumber why) → ownNumber l t (Faulty why) cell ≡ faultNumber why
+unfolding ownNumber
+own-fault l t why cell p = rw (p, own-30 why)
+
+fault-row : (s : State) (why : Fault) (dead due : Bool) → resolved dead due (rowOf s (Faulty why)) ≡ refuse (faultNumber why)
+fault-row new why dead due = refl
+fault-row waiting why dead due = refl
+fault-row active why dead due = refl
+fault-row leaving why dead due = refl
+fault-row over why dead due = refl
+
+fault-cell : (l : Line) (t : ℕ) (why : Fault) → cellOf l t (Faulty why) ≡ refuse (faultNumber why)
+unfolding cellOf
+fault-cell l t why = fault-row (l .state) why (deadAt l t) (dueAt l t)
+
+pub own-first : (l : Line) (now : ℕ) (why : Fault) → soundOf l ≡ true → numberTo l now (Faulty why) ≡ faultNumber why
+own-first l now why s = number-sound l now (Faulty why) s ∙ own-fault l (clockOf l now) why _ (fault-cell l (clockOf l now) why)
