@@ -97,8 +97,8 @@ Session-opened-one-answer κs a x y s t p q = session-one x y (p ∙ sym q)
 pub Session-turn-one-answer : OneAnswer _ turn-kinds.ps turn-kinds.r turn.Post
 Session-turn-one-answer κs a x y s t p q = turn-one x y (p .0 ∙ sym (q .0)) (p .1 ∙ sym (q .1))
 
-pub Session-may_send-one-answer : OneAnswer _ may-send-kinds.ps may-send-kinds.r may-send.Post
-Session-may_send-one-answer κs a x y s t p q = verdict-one x y (p ∙ sym q)
+pub Session-may-send-one-answer : OneAnswer _ may-send-kinds.ps may-send-kinds.r may-send.Post
+Session-may-send-one-answer κs a x y s t p q = verdict-one x y (p ∙ sym q)
 
 pub Session-received-one-answer : OneAnswer _ received-kinds.ps received-kinds.r received.Post
 Session-received-one-answer κs a x y s t p q = arrival-one x y (p .0 ∙ sym (q .0)) (p .1 .0 ∙ sym (q .1 .0)) (p .1 .1 ∙ sym (q .1 .1))

@@ -154,9 +154,9 @@ may-send-wrong =
     ∷ (quitting, 2000) never 0  -- behind our logout
     ∷ []
 
-pub Session-may_send-rules-out : RulesOut (Kept _ may-send-kinds.ps may-send-kinds.r may-send.Post) (λ c. (lineOf (c .args .0), c .args .1 .0)) (λ c. verdictNumber (c .result)) may-send-wrong
+pub Session-may-send-rules-out : RulesOut (Kept _ may-send-kinds.ps may-send-kinds.r may-send.Post) (λ c. (lineOf (c .args .0), c .args .1 .0)) (λ c. verdictNumber (c .result)) may-send-wrong
 unfolding soundOf deadAt dueAt cellOf ownNumber numberTo answerTo
-Session-may_send-rules-out = ruled numbers (λ (i : Line × ℕ). answerTo (i .0) (i .1) Ask .number) (λ c p. p) _ refl
+Session-may-send-rules-out = ruled numbers (λ (i : Line × ℕ). answerTo (i .0) (i .1) Ask .number) (λ c p. p) _ refl
 
 -- OPENED is given nothing
 abbrev pub opened-wrong : List (Row Unit (List ℕ))

@@ -1,0 +1,4 @@
+pub mod Kept
+pub mod OneAnswer
+pub mod Rows
+pub mod RuledOut
