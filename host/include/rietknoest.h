@@ -50,7 +50,7 @@ enum rk_answer {
     RK_ROOM = 8,     /* output buffer shorter than what is to be written */
     RK_PLACE = 9,    /* search start beyond the end */
     RK_NUMBER = 10,  /* tick 0 or over 18 digits; announced top over 18; channel over 9,999 */
-    RK_REPEAT = 11,  /* tick already received */
+    RK_REPEAT = 11,  /* tick already received, or given up */
     RK_FAR = 12,     /* tick above floor + 256 and not a repeat */
     RK_STATE = 13,   /* the state breaks its rules: you see it only if other code wrote it */
     RK_BUSY = 14,    /* a request is pending */

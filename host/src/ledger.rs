@@ -70,7 +70,7 @@ impl Settled {
 #[derive(Clone, Copy, Debug, Default, PartialEq, Eq)]
 pub struct LedgerStatus {
     pub channel: ChannelNumber,
-    /// Every number up to it was received.
+    /// Every number up to it was received or given up.
     pub floor: TickNumber,
     /// The largest number offered or announced.
     pub top: TickNumber,

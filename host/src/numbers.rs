@@ -55,7 +55,7 @@ refusals! {
     Room = 8, "room", "the output buffer is too short";
     Place = 9, "place", "the search starts beyond the end";
     Number = 10, "number", "a tick number is 0 or above 18 digits, or a channel above 9,999";
-    Repeat = 11, "repeat", "the tick was received before";
+    Repeat = 11, "repeat", "the tick was received before, or given up";
     Far = 12, "far", "the tick is more than 256 above the floor";
     State = 13, "state", "the state breaks its rules: other code wrote it";
     Busy = 14, "busy", "a request is pending";

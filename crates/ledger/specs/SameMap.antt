@@ -22,12 +22,12 @@ within l n = ltb (l .floor .0) n && leb n (l .floor .0 + 256)
 unfoldable pub heldNow : Ledger → ℕ → Bool
 heldNow l n = within l n && placeSet l (n % 256)
 
--- and before request 9: the place was the distance from floor + 1
+-- and in the map of before request 9: the place was the distance from floor + 1
 unfoldable pub heldOld : Ledger → ℕ → Bool
 heldOld l n = within l n && placeSet l (n - l .floor .0 - 1)
 
--- "the same set of numbers": a ledger now and one before request 9 that differ in nothing
--- but the places
+-- "the same set of numbers": a ledger now and one with the old map that differ in nothing but
+-- the places
 pub record SameHeld (now old : Ledger) : Type 0 where
   pub channel-same : now .channel ≡ old .channel
   pub floor-same : now .floor ≡ old .floor
@@ -35,7 +35,7 @@ pub record SameHeld (now old : Ledger) : Type 0 where
   pub pending-same : now .pending ≡ old .pending
   pub held-same : (n : ℕ) → heldNow now n ≡ heldOld old n
 
--- the row of calls ran before request 9
+-- the row of calls runs with the old map
 pub record OldRuns (channel : ℕ) (calls : Calls) : Type 0 where
   pub ledger : Ledger
   pub history : History

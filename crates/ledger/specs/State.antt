@@ -1,6 +1,7 @@
--- How the code keeps a book: only `bookOf` and `ledgerOf` know it. A number's place in the map is
--- its remainder by 256, so that the map is read round from the place of floor + 1, and laid back
--- so; `place-is` of proofs/SameMap.antt says it of each number.
+-- How the code keeps a book: `bookOf` and `ledgerOf`. A number's place in the map is its remainder
+-- by 256, so that the map is read round from the place of floor + 1, and laid back so; `place-is`
+-- of proofs/SameMap.antt says it of each number. A reply's two sets have the same form: `laidFrom`
+-- below, `replyPaper` of Papers.antt, `setsIn` and `settledRow` of `host_ledger` read them so too.
 use Rattle.terms.specs.Counters.{tickOf, channelOf}
 use Prim.Native.Nat.{ℕ, _+_, max}
 use lib.Dec.{eqb}

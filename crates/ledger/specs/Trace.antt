@@ -29,6 +29,6 @@ Promise l call next paper = PromiseBy bookOf ledgerOf l call next paper
 abbrev pub Ran : ℕ → Calls → Ledger → History → Type 0
 Ran channel calls l h = RanBy bookOf ledgerOf channel calls l h
 
--- a row of calls as the code before request 9 ran it
+-- a row of calls with the map of before request 9: the answers are today's, the places the old ones
 abbrev pub OldRan : ℕ → Calls → Ledger → History → Type 0
 OldRan channel calls l h = RanBy oldBookOf oldLedgerOf channel calls l h

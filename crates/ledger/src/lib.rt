@@ -66,7 +66,7 @@ pub enum ReplyAnswer {
 
 // Beside the answer two sets, each a map whose places are read as the ledger's are: a number's
 // place is its remainder by 256. They hold numbers from `first`, the floor + 1 as it was before the
-// call, to 256 after it. Beside a refusal `first` is 0, and both are empty.
+// call, to 255 after it. Beside a refusal `first` is 0, and both are empty.
 pub struct Replied {
     pub next: Ledger,
     pub answer: ReplyAnswer,
@@ -305,7 +305,7 @@ impl Ledger {
     fn tick_verdict(self, n: u64) -> Verdict
         ensures { λ r. ⌜ verdictNumber r ≡ ownNumber (bookOf self) (Tick 0 n) ⌝ }
     {
-        let floor = self.floor.value(); // all up to it are received
+        let floor = self.floor.value(); // all up to it are received or given up
         let map = self.map;
         if n < 1 {
             return Verdict::Bad(Refusal::Range);

@@ -62,8 +62,8 @@ pub record Answers (channel : ℕ) (calls : Calls) : Type 0 where
   pub announcement : (n : ℕ) → AnnounceAnswers n (answerTo (after channel calls) (Announce channel n))
   pub reply : (first status : ℕ) → ReplyAnswers (trace channel calls) first status (answerTo (after channel calls) (Reply channel first status))
 
--- What a call on a broken state is answered: 13 and nothing beside it, and a count of 0. For every
--- call, whatever channel and number it names.
+-- What a call on a broken state is answered: 13, with nothing but 0 beside it: a count's 0, a
+-- reply's 0, 0, 0. For every call, whatever channel and number it names.
 pub record Broken (b : Book) : Type 0 where
   pub tick : (channel n : ℕ) → answerTo b (Tick channel n) ≡ refusal 13
   pub announcement : (channel n : ℕ) → answerTo b (Announce channel n) ≡ refusal 13

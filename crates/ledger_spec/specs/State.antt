@@ -31,7 +31,7 @@ largest = 999999999999999999
 pub largest-is : largest + 1 ≡ 10 ^ 18
 largest-is = refl
 
--- received: up to the floor, or held above it
+-- settled: up to the floor, where each is received or given up, or held above it
 unfoldable pub has : Book → ℕ → Bool
 has b n = orElse (leb n (b .floor)) (isSet (b .bits) (n - b .floor - 1))
 

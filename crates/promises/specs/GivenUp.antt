@@ -1,7 +1,8 @@
--- Request 7, sentence by sentence: when the exchange has no data. Of every row of calls of the code
--- on a ledger that it opened, and of whatever the promise of a further call allows; then of the
--- calls through the host. The words are those of GivenUp.antt and Words.antt of `ledger_spec`, told
--- from the calls and answers alone.
+-- Request 7, sentence by sentence: when the exchange has no data. Of every row of calls of the
+-- code on a ledger that it opened, and of whatever the promise of a further call allows; then of
+-- the calls through the host. `only-4-gives-up` and `asks-no-more` are over the definitions that
+-- the promises cite (`answerTo`, `trace`), and not over calls of the code. The words are those of
+-- GivenUp.antt and Words.antt of `ledger_spec`, told from the calls and answers alone.
 use Prim.Native.Nat.{ℕ, _≤_}
 use mathlib.Core.Path.{_≡_}
 use mathlib.Core.Logic.{_↔_}

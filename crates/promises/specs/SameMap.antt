@@ -1,6 +1,7 @@
 -- Request 9, sentence by sentence: the map that does not move. `Ran` is a row of calls of the code,
--- `OldRan` one of the code before the request, whose map moved with the floor; `heldNow` and
--- `heldOld` read the four words of each.
+-- `OldRan` the same calls with the map of before the request, which moved with the floor. The
+-- answers are today's on both sides (request 7 too): two maps are compared, and not two versions
+-- of the code. `heldNow` and `heldOld` read the four words of each.
 use Prim.Native.Nat.{ℕ, _+_, _%_, _/_, _≤_, _<_}
 use mathlib.Core.Bool.{true, false}
 use mathlib.Core.Path.{_≡_}

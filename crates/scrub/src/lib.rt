@@ -44,8 +44,8 @@ fn paint_span(buf: &mut [u8], kind: Kind, n: usize, i: usize, v: u8) -> u8
     w
 }
 
-// Paints all spans of that body, whatever they are. v is the sum of header and body; the answer is
-// their sum then.
+// Paints the private spans of that body, whatever its type. v is the sum of header and body; the
+// answer is their sum then.
 fn paint_all(buf: &mut [u8], kind: Kind, n: usize, v: u8) -> u8
     requires { ⌜ (24 + n ≤ length (now buf)) × ((suits kind n ≡ true) × (v ≡ sum8 (take (24 + n) (now buf)))) ⌝ }
     ensures { λ r. ⌜ (now (buf .exit) ≡ laid 24 (painted (privateOf kind (bodyIn n (now (buf .entry)))) (bodyIn n (now (buf .entry)))) (now (buf .entry))) × (r ≡ sum8 (take (24 + n) (now (buf .exit)))) ⌝ }
