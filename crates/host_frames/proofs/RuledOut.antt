@@ -22,7 +22,7 @@ use Rattle.entries.specs.Reader.{openOf, placed, stands, entryAt, stepOf, place
 use Rattle.private.specs.Private.{tailOf}
 use Rattle.private.specs.Scrub.{painted, summed, scrubAnswer, scrubbed}
 use Rattle.host_words.specs.Told.{toldBy, Tells}
-use Rattle.host_frames.specs.Frames.{readTold, searchTold, privateTold, entriesTold, entryNumbers, entryTold}
+use Rattle.host_frames.specs.Frames.{readTold, searchTold, privateTold, tailNumber, tailTold, entriesTold, entryNumbers, entryTold}
 use Rattle.host_frames.proofs.rk_read.Reads as rk-read
 use Rattle.host_frames.proofs.rk_read.Kinds as rk-read-kinds
 use Rattle.host_frames.proofs.rk_write.Reads as rk-write
@@ -33,6 +33,8 @@ use Rattle.host_frames.proofs.rk_scrub.Reads as rk-scrub
 use Rattle.host_frames.proofs.rk_scrub.Kinds as rk-scrub-kinds
 use Rattle.host_frames.proofs.rk_private.Reads as rk-private
 use Rattle.host_frames.proofs.rk_private.Kinds as rk-private-kinds
+use Rattle.host_frames.proofs.rk_tail_field.Reads as rk-tail-field
+use Rattle.host_frames.proofs.rk_tail_field.Kinds as rk-tail-field-kinds
 use Rattle.host_frames.proofs.rk_entries.Reads as rk-entries
 use Rattle.host_frames.proofs.rk_entries.Kinds as rk-entries-kinds
 use Rattle.host_frames.proofs.rk_entry.Reads as rk-entry
@@ -92,6 +94,19 @@ rk-private-wrong =
 pub rk-private-rules-out : RulesOut (Kept _ rk-private-kinds.ps rk-private-kinds.r rk-private.Post) (λ c. (c .args .0, (now (c .args .1 .0), (c .args .1 .1 .0, now (c .args .1 .1 .1 .0))))) (λ c. told (c .result) (now (c .exit .1 .1 .1 .0))) rk-private-wrong
 unfolding numeral digitsOf kindOf suits measureOf layoutOf suitsTail tailOk tailOf toldBy privateTold
 rk-private-rules-out = ruled (beside numbers lists) (λ (i : ℕ × (List ℕ × (ℕ × List ℕ))). tells (privateTold (i .0) (i .1 .0) (i .1 .1 .0)) (i .1 .1 .1)) (λ c p. said p) _ refl
+
+-- RK_TAIL_FIELD: a body, the number of a field, and the told row before
+abbrev pub rk-tail-field-wrong : List (Row (List ℕ × (ℕ × List ℕ)) Answer)
+rk-tail-field-wrong =
+    (tickOn 0x4D44323131 0x30 (replicate 139 0x41), (1, replicate 4 7)) only told 0 (46 ∷ 18 ∷ 1 ∷ 0 ∷ [])  -- QuoteID
+    ∷ (tickOn 0x4D44323131 0x30 (replicate 139 0x41), (2, replicate 4 7)) never told 0 (64 ∷ 12 ∷ 1 ∷ 0 ∷ [])  -- MemberID told as public
+    ∷ (tickOn 0x4D44323131 0x30 (replicate 138 0x41), (1, replicate 4 7)) only told 6 (replicate 4 7)  -- a field outside its order
+    ∷ (replicate 44 0, (0, replicate 4 7)) only told 4 (replicate 4 7)
+    ∷ []
+
+pub rk-tail-field-rules-out : RulesOut (Kept _ rk-tail-field-kinds.ps rk-tail-field-kinds.r rk-tail-field.Post) (λ c. (now (c .args .0), (c .args .1 .0, now (c .args .1 .1 .0)))) (λ c. told (c .result) (now (c .exit .1 .1 .0))) rk-tail-field-wrong
+unfolding numeral digitsOf suits measureOf layoutOf suitsTail tailOk toldBy tailNumber tailTold
+rk-tail-field-rules-out = ruled (beside numbers lists) (λ (i : List ℕ × (ℕ × List ℕ)). tells (tailTold (i .0) (i .1 .0)) (i .1 .1)) (λ c p. said p) _ refl
 
 -- ENTRIES: a snapshot of stream MD001 with this SecurityType, and two entries of 10 bytes, of types
 -- 5 and 6 and prices 7 and 8

@@ -6,6 +6,10 @@ use lib.Dec.{eqb}
 use lib.ListN.{length}
 use Rattle.terms.specs.Paper.{Paper, answer, pick}
 use Rattle.rules.specs.Table.{kindOf, measureOf}
+use Rattle.rules.specs.declared.Kind.the-variants.{M201}
+use Rattle.rules.specs.Fields.{namedIn, tailOk}
+use Rattle.tails.specs.declared.TailField.{TailField}
+use Rattle.tails.specs.Fields.{tailFields, fieldAt}
 use Rattle.frame_spec.specs.Frame.{msgType, readOf, bodyRead}
 use Rattle.frame_spec.specs.Search.{searchOf}
 use Rattle.frame_view.specs.declared.View.{View}
@@ -36,6 +40,16 @@ spanNumbers p = p .place ∷ p .len ∷ p .fill ∷ []
 -- reading's checks 2, 3 and 4 of the type and the length
 unfoldable pub privateTold : ℕ → List ℕ → ℕ → Paper
 privateTold type body i = answer (measureOf (kindOf type) (length body)) (spanNumbers (spanAt i (privateOf (kindOf type) body)))
+
+-- a field of an M201's extension; 6 where the body's length does not suit the layout that it names
+abbrev pub fieldNumbers : TailField → List ℕ
+fieldNumbers f = f .place ∷ f .len ∷ f .text ∷ f .hidden ∷ []
+
+unfoldable pub tailNumber : List ℕ → ℕ
+tailNumber body = pick (eqb (measureOf M201 (length body)) 0) (pick (tailOk body) 0 6) (measureOf M201 (length body))
+
+unfoldable pub tailTold : List ℕ → ℕ → Paper
+tailTold body i = answer (tailNumber body) (fieldNumbers (fieldAt i (tailFields (namedIn body) (length body))))
 
 -- the first entry stands at 73
 unfoldable pub entriesTold : List ℕ → Paper

@@ -9,11 +9,12 @@ ghost use Rattle.frame_spec.specs.Write.{message, writeOf, leftOf};
 ghost use Rattle.private.specs.Scrub.{scrubAnswer, scrubbed};
 ghost use Rattle.entries.specs.Papers.{entryPaper};
 ghost use Rattle.host_words.specs.Told.{Tells};
-ghost use Rattle.host_frames.specs.Frames.{readTold, searchTold, privateTold, entriesTold, entryNumbers, entryTold};
+ghost use Rattle.host_frames.specs.Frames.{readTold, searchTold, privateTold, tailTold, entriesTold, entryNumbers, entryTold};
 use entries::Entry;
 use frame::Found;
 use frame::Read;
 use octets::Written;
+use rules::Kind;
 use terms::SessionNumber;
 use terms::Verdict;
 
@@ -126,6 +127,27 @@ pub extern "C" fn rk_private(msg_type: u32, body: &[u8], i: usize, told: &mut [u
         Verdict::Fine => {
             let s = private::private_span(kind, body, i);
             *told = [s.place as u64, s.len as u64, s.fill as u64];
+            0
+        }
+    }
+}
+
+// Field number i of the extension of an M201 body, counted from 0; or 3, 4 or 6 where no M201 has
+// such a body, by its length. Results: where it starts in the body and how many bytes it has, 1 for
+// letters and 0 for a number, 1 for private and 0 else; from the last on, an empty one.
+#[no_mangle]
+pub extern "C" fn rk_tail_field(body: &[u8], i: usize, told: &mut [u64; 4]) -> u32
+    ensures { λ r. ⌜ Tells (tailTold (now (body .entry)) i) (now (told .entry)) r (now (told .exit)) ⌝ }
+{
+    match rules::measure(Kind::M201, body.len()) {
+        Verdict::Refused(why) => why.number(),
+        Verdict::Fine => {
+            let layout = rules::layout_of(octets::u40_at(body, 11), octets::u8_at(body, 28));
+            if !rules::suits_tail(layout, body.len()) {
+                return 6;
+            }
+            let f = tails::tail_field(layout, body.len(), i);
+            *told = [f.place as u64, f.len as u64, f.text, f.hidden];
             0
         }
     }

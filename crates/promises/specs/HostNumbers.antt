@@ -14,10 +14,10 @@ use Rattle.terms.specs.Cases.{less}
 use Rattle.octets.specs.Octets.{be}
 use Rattle.octets.specs.Papers.{roomFor}
 use Rattle.rules.specs.declared.Kind.{Kind}
-use Rattle.rules.specs.declared.Kind.the-variants.{M102}
+use Rattle.rules.specs.declared.Kind.the-variants.{M102, M201}
 use Rattle.rules.specs.Table.{kindOf, known, suits, measureOf}
 use Rattle.calendar.specs.Calendar.{realTime}
-use Rattle.rules.specs.Fields.{fieldsOk, judgeOf}
+use Rattle.rules.specs.Fields.{tailOk, fieldsOk, judgeOf}
 use Rattle.frame_spec.specs.Frame.{checked, readOf, reads, bodyLength}
 use Rattle.frame_spec.specs.GivenRead.{read-given}
 use Rattle.frame_spec.specs.Write.{Message, writeOf}
@@ -36,7 +36,7 @@ use Rattle.stream_spec.specs.Calls as stream-calls
 use Rattle.stream_spec.specs.Calls.{givenOf, numberFor, answerFor}
 use Rattle.host_words.specs.Told.{Tells}
 use Rattle.host_stream_spec.specs.Lent.{lent, streamIn}
-use Rattle.host_frames.specs.Frames.{readTold, searchTold, privateTold, entriesTold, entryTold}
+use Rattle.host_frames.specs.Frames.{readTold, searchTold, privateTold, tailNumber, tailTold, entriesTold, entryTold}
 use Rattle.host_words.specs.Words.{bookIn}
 use Rattle.host_words.specs.Calls.{callTold}
 use Rattle.host_ledger.specs.Words.{ledgerTold}
@@ -51,6 +51,8 @@ use Rattle.host_frames.proofs.rk_scrub.Reads as rk-scrub
 use Rattle.host_frames.proofs.rk_scrub.Kinds as rk-scrub-kinds
 use Rattle.host_frames.proofs.rk_private.Reads as rk-private
 use Rattle.host_frames.proofs.rk_private.Kinds as rk-private-kinds
+use Rattle.host_frames.proofs.rk_tail_field.Reads as rk-tail-field
+use Rattle.host_frames.proofs.rk_tail_field.Kinds as rk-tail-field-kinds
 use Rattle.host_frames.proofs.rk_entries.Reads as rk-entries
 use Rattle.host_frames.proofs.rk_entries.Kinds as rk-entries-kinds
 use Rattle.host_frames.proofs.rk_entry.Reads as rk-entry
@@ -173,6 +175,7 @@ pub record HostNumbered : Type 0 where
   pub searching : (s : List ℕ) (from : ℕ) → Numbered (searchTold s from .number)
   pub scrubbing : (s : List ℕ) → Numbered (scrubAnswer s .number)
   pub spans : (type : ℕ) (body : List ℕ) (i : ℕ) → Numbered (privateTold type body i .number)
+  pub fields : (body : List ℕ) (i : ℕ) → Numbered (tailTold body i .number)
   pub opening-entries : (body : List ℕ) → Numbered (entriesTold body .number)
   pub stepping : (body : List ℕ) (place : ℕ) → Numbered (entryTold body place .number)
   pub opening : (channel : ℕ) → Numbered (openNumber channel)
@@ -184,7 +187,7 @@ pub record HostNumbered : Type 0 where
   pub checking : (s : List ℕ) → Numbered (cleanTold s .number)
 
 pub host-numbered : HostNumbered
-unfolding readTold searchTold privateTold entriesTold entryTold ledgerTold listingTold cleanTold walk.walkAnswer clean.cleanAnswer clean.checkOf inTable
+unfolding readTold searchTold privateTold tailNumber tailTold entriesTold entryTold ledgerTold listingTold cleanTold walk.walkAnswer clean.cleanAnswer clean.checkOf inTable
 host-numbered =
     record {
       reading = reading;
@@ -192,6 +195,7 @@ host-numbered =
       searching = searching;
       scrubbing = scrubbing;
       spans = λ type body i. measured (kindOf type) (length body);
+      fields = λ body i. picked (eqb (measureOf M201 (length body)) 0) (pick (tailOk body) 0 6) (measureOf M201 (length body)) (picked (tailOk body) 0 6 (done refl) (refused refl)) (measured M201 (length body));
       opening-entries = opening-entries;
       stepping = stepping;
       opening = λ channel. picked (ltb 9999 channel) 10 0 (refused refl) (done refl);
@@ -220,6 +224,9 @@ rk-search-numbered κs a x s p = tells-numbered p (host-numbered .searching _ _)
 
 pub rk-scrub-numbered : Promises _ rk-scrub-kinds.ps rk-scrub-kinds.r rk-scrub.Post (λ κs a x s. Numbered x)
 rk-scrub-numbered κs a x s p = tells-numbered (p .0) (host-numbered .scrubbing _)
+
+pub rk-tail-field-numbered : Promises _ rk-tail-field-kinds.ps rk-tail-field-kinds.r rk-tail-field.Post (λ κs a x s. Numbered x)
+rk-tail-field-numbered κs a x s p = tells-numbered p (host-numbered .fields _ _)
 
 pub rk-private-numbered : Promises _ rk-private-kinds.ps rk-private-kinds.r rk-private.Post (λ κs a x s. Numbered x)
 rk-private-numbered κs a x s p = tells-numbered p (host-numbered .spans _ _ _)
