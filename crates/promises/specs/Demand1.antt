@@ -87,6 +87,9 @@ use Rattle.step_frame.proofs.OneAnswer as step_frame
 use Rattle.step_scrub.proofs.OneAnswer as step_scrub
 use Rattle.step_tags.proofs.OneAnswer as step_tags
 use Rattle.host_market.proofs.OneAnswer as host_market
+use Rattle.host_session.proofs.OneAnswer as host_session
+use Rattle.session.proofs.OneAnswer as session
+use Rattle.tails.proofs.OneAnswer as tails
 
 -- "EVERY PUBLIC ENTRY POINT TAKES ALL INPUT": of each public function, the theorem that its promise
 -- fixes the answer for all input. (tools/promises compares these lists with the public functions.)
@@ -410,6 +413,39 @@ host-market-answers =
     let rk-market-write-one-answer = host_market.rk-market-write-one-answer in
     named
 
+-- host_frames
+host-frames-answers : Named
+host-frames-answers =
+    let rk-tail-field-one-answer = host_frames.rk-tail-field-one-answer in
+    named
+
+-- host_session
+host-session-answers : Named
+host-session-answers =
+    let rk-session-open-one-answer = host_session.rk-session-open-one-answer in
+    let rk-session-begin-one-answer = host_session.rk-session-begin-one-answer in
+    let rk-session-time-one-answer = host_session.rk-session-time-one-answer in
+    let rk-session-leave-one-answer = host_session.rk-session-leave-one-answer in
+    let rk-session-ask-one-answer = host_session.rk-session-ask-one-answer in
+    let rk-session-receive-one-answer = host_session.rk-session-receive-one-answer in
+    let rk-session-may-send-one-answer = host_session.rk-session-may-send-one-answer in
+    named
+
+-- session
+session-answers : Named
+session-answers =
+    let Session-opened-one-answer = session.Session-opened-one-answer in
+    let Session-turn-one-answer = session.Session-turn-one-answer in
+    let Session-may-send-one-answer = session.Session-may-send-one-answer in
+    let Session-received-one-answer = session.Session-received-one-answer in
+    named
+
+-- tails
+tails-answers : Named
+tails-answers =
+    let tail-field-one-answer = tails.tail-field-one-answer in
+    named
+
 -- "AND REFUSES WHAT IT CAN'T USE WITH A NUMBER FROM DOCUMENT 01"
 
 -- the numbers of document 01's table, 1 to 6, 8 to 18 and 20, and of the requests: 7 (CR 6), 19
@@ -697,6 +733,23 @@ host-market-buffers =
     let rk-market-values-refused-keeps = host_market.rk-market-values-refused-keeps in
     let rk-market-write-one-buffer = host_market.rk-market-write-one-buffer in
     let rk-market-write-refused-keeps = host_market.rk-market-write-refused-keeps in
+    named
+
+-- host_frames
+host-frames-buffers : Named
+host-frames-buffers =
+    let rk-tail-field-one-buffer = host_frames.rk-tail-field-one-buffer in
+    named
+
+-- host_session
+host-session-buffers : Named
+host-session-buffers =
+    let rk-session-open-one-buffer = host_session.rk-session-open-one-buffer in
+    let rk-session-begin-one-buffer = host_session.rk-session-begin-one-buffer in
+    let rk-session-time-one-buffer = host_session.rk-session-time-one-buffer in
+    let rk-session-leave-one-buffer = host_session.rk-session-leave-one-buffer in
+    let rk-session-ask-one-buffer = host_session.rk-session-ask-one-buffer in
+    let rk-session-receive-one-buffer = host_session.rk-session-receive-one-buffer in
     named
 
 -- "ONLY A TICK NUMBER TOO FAR AHEAD CHANGES THE LEDGER, AND ONLY ITS KNOWN TOP."
