@@ -1,7 +1,7 @@
-// What C and Rust may call on a session, answered and told as in `host_frames`. A session is eight numbers,
-// the host's to keep and not to read: state (new 0, waiting 1, active 2, leaving 3, over 4), the
-// MsgSeqNum of our next message and of the next frame, the last time, when we last sent, when a
-// frame was last taken, the agreed interval, and 0. A refusal writes nothing.
+// What C and Rust may call on a session, answered and told as in `host_frames`. A session is eight
+// numbers, the host's to keep and not to read: state (new 0, waiting 1, active 2, leaving 3,
+// over 4), the MsgSeqNum of our next message and of the next frame, the last time, when we last
+// sent, when a frame was last taken, the agreed interval, and 0. A refusal writes nothing.
 ghost use mathlib.Core.Path.{_≡_};
 ghost use mathlib.Core.Bool.{_&&_};
 ghost use lib.Dec.{eqb, leb};

@@ -14,3 +14,4 @@ pub mod Parts
 pub mod Pieces
 pub mod SameMap
 pub mod GivenUp
+pub mod Session

@@ -19,8 +19,8 @@ bounds Time = (omega arith, omega arith)
 pub fault-pos : (why : Fault) → faultNumber why ≡ 0 → ⊥
 fault-pos why e = let b = bounds why in omega arith
 
--- a number from 30 on is none of reading's
-pub not-reading : (why : Fault) (n : ℕ) → 30 ≤ n → eqb (faultNumber why) n ≡ false
+-- a number from 8 on is none of reading's
+pub not-reading : (why : Fault) (n : ℕ) → 8 ≤ n → eqb (faultNumber why) n ≡ false
 not-reading why n h = ne-eqb _ _ (λ (e : faultNumber why ≡ n). let b = bounds why in omega arith)
 
 pub numbered-back : (n : ℕ) → 1 ≤ n → n ≤ 7 → faultNumber (faultNumbered n) ≡ n

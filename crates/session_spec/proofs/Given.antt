@@ -17,10 +17,14 @@ use Rattle.session_spec.proofs.Outcome.{number-sound}
 
 -- the numbers that stand in the table
 pub record RowTests (s : State) (e : Event) (n : ℕ) : Type 0 where
+  pub not-13 : eqb n 13 ≡ false
   pub is-30 : eqb n 30 ≡ (unanswered s && talks e)
   pub is-31 : eqb n 31 ≡ false
   pub is-32 : eqb n 32 ≡ closed s e
   pub is-33 : eqb n 33 ≡ second s e
+
+own-13 : (why : Fault) → eqb (faultNumber why) 13 ≡ false
+own-13 why = not-reading why 13 (omega arith)
 
 own-30 : (why : Fault) → eqb (faultNumber why) 30 ≡ false
 own-30 why = not-reading why 30 (omega arith)
@@ -35,49 +39,49 @@ own-33 : (why : Fault) → eqb (faultNumber why) 33 ≡ false
 own-33 why = not-reading why 33 (omega arith)
 
 row-tests : (s : State) (e : Event) (dead due : Bool) → RowTests s e (numberIn (resolved dead due (rowOf s e)))
-row-tests new Begin dead due = record { is-30 = refl; is-31 = refl; is-32 = refl; is-33 = refl }
-row-tests new Time dead due = record { is-30 = refl; is-31 = refl; is-32 = refl; is-33 = refl }
-row-tests new Leave dead due = record { is-30 = refl; is-31 = refl; is-32 = refl; is-33 = refl }
-row-tests new Ask dead due = record { is-30 = refl; is-31 = refl; is-32 = refl; is-33 = refl }
-row-tests new (Logon number heart) dead due = record { is-30 = refl; is-31 = refl; is-32 = refl; is-33 = refl }
-row-tests new (Logout number) dead due = record { is-30 = refl; is-31 = refl; is-32 = refl; is-33 = refl }
-row-tests new (Other number) dead due = record { is-30 = refl; is-31 = refl; is-32 = refl; is-33 = refl }
-row-tests new (Faulty why) dead due = record { is-30 = own-30 why; is-31 = own-31 why; is-32 = own-32 why; is-33 = own-33 why }
-row-tests waiting Begin dead due = record { is-30 = refl; is-31 = refl; is-32 = refl; is-33 = refl }
-row-tests waiting Time dead due = record { is-30 = refl; is-31 = refl; is-32 = refl; is-33 = refl }
-row-tests waiting Leave dead due = record { is-30 = refl; is-31 = refl; is-32 = refl; is-33 = refl }
-row-tests waiting Ask dead due = record { is-30 = refl; is-31 = refl; is-32 = refl; is-33 = refl }
-row-tests waiting (Logon number heart) dead due = record { is-30 = refl; is-31 = refl; is-32 = refl; is-33 = refl }
-row-tests waiting (Logout number) dead due = record { is-30 = refl; is-31 = refl; is-32 = refl; is-33 = refl }
-row-tests waiting (Other number) dead due = record { is-30 = refl; is-31 = refl; is-32 = refl; is-33 = refl }
-row-tests waiting (Faulty why) dead due = record { is-30 = own-30 why; is-31 = own-31 why; is-32 = own-32 why; is-33 = own-33 why }
-row-tests active Begin dead due = record { is-30 = refl; is-31 = refl; is-32 = refl; is-33 = refl }
-row-tests active Time true due = record { is-30 = refl; is-31 = refl; is-32 = refl; is-33 = refl }
-row-tests active Time false true = record { is-30 = refl; is-31 = refl; is-32 = refl; is-33 = refl }
-row-tests active Time false false = record { is-30 = refl; is-31 = refl; is-32 = refl; is-33 = refl }
-row-tests active Leave dead due = record { is-30 = refl; is-31 = refl; is-32 = refl; is-33 = refl }
-row-tests active Ask dead due = record { is-30 = refl; is-31 = refl; is-32 = refl; is-33 = refl }
-row-tests active (Logon number heart) dead due = record { is-30 = refl; is-31 = refl; is-32 = refl; is-33 = refl }
-row-tests active (Logout number) dead due = record { is-30 = refl; is-31 = refl; is-32 = refl; is-33 = refl }
-row-tests active (Other number) dead due = record { is-30 = refl; is-31 = refl; is-32 = refl; is-33 = refl }
-row-tests active (Faulty why) dead due = record { is-30 = own-30 why; is-31 = own-31 why; is-32 = own-32 why; is-33 = own-33 why }
-row-tests leaving Begin dead due = record { is-30 = refl; is-31 = refl; is-32 = refl; is-33 = refl }
-row-tests leaving Time true due = record { is-30 = refl; is-31 = refl; is-32 = refl; is-33 = refl }
-row-tests leaving Time false due = record { is-30 = refl; is-31 = refl; is-32 = refl; is-33 = refl }
-row-tests leaving Leave dead due = record { is-30 = refl; is-31 = refl; is-32 = refl; is-33 = refl }
-row-tests leaving Ask dead due = record { is-30 = refl; is-31 = refl; is-32 = refl; is-33 = refl }
-row-tests leaving (Logon number heart) dead due = record { is-30 = refl; is-31 = refl; is-32 = refl; is-33 = refl }
-row-tests leaving (Logout number) dead due = record { is-30 = refl; is-31 = refl; is-32 = refl; is-33 = refl }
-row-tests leaving (Other number) dead due = record { is-30 = refl; is-31 = refl; is-32 = refl; is-33 = refl }
-row-tests leaving (Faulty why) dead due = record { is-30 = own-30 why; is-31 = own-31 why; is-32 = own-32 why; is-33 = own-33 why }
-row-tests over Begin dead due = record { is-30 = refl; is-31 = refl; is-32 = refl; is-33 = refl }
-row-tests over Time dead due = record { is-30 = refl; is-31 = refl; is-32 = refl; is-33 = refl }
-row-tests over Leave dead due = record { is-30 = refl; is-31 = refl; is-32 = refl; is-33 = refl }
-row-tests over Ask dead due = record { is-30 = refl; is-31 = refl; is-32 = refl; is-33 = refl }
-row-tests over (Logon number heart) dead due = record { is-30 = refl; is-31 = refl; is-32 = refl; is-33 = refl }
-row-tests over (Logout number) dead due = record { is-30 = refl; is-31 = refl; is-32 = refl; is-33 = refl }
-row-tests over (Other number) dead due = record { is-30 = refl; is-31 = refl; is-32 = refl; is-33 = refl }
-row-tests over (Faulty why) dead due = record { is-30 = own-30 why; is-31 = own-31 why; is-32 = own-32 why; is-33 = own-33 why }
+row-tests new Begin dead due = record { not-13 = refl; is-30 = refl; is-31 = refl; is-32 = refl; is-33 = refl }
+row-tests new Time dead due = record { not-13 = refl; is-30 = refl; is-31 = refl; is-32 = refl; is-33 = refl }
+row-tests new Leave dead due = record { not-13 = refl; is-30 = refl; is-31 = refl; is-32 = refl; is-33 = refl }
+row-tests new Ask dead due = record { not-13 = refl; is-30 = refl; is-31 = refl; is-32 = refl; is-33 = refl }
+row-tests new (Logon number heart) dead due = record { not-13 = refl; is-30 = refl; is-31 = refl; is-32 = refl; is-33 = refl }
+row-tests new (Logout number) dead due = record { not-13 = refl; is-30 = refl; is-31 = refl; is-32 = refl; is-33 = refl }
+row-tests new (Other number) dead due = record { not-13 = refl; is-30 = refl; is-31 = refl; is-32 = refl; is-33 = refl }
+row-tests new (Faulty why) dead due = record { not-13 = own-13 why; is-30 = own-30 why; is-31 = own-31 why; is-32 = own-32 why; is-33 = own-33 why }
+row-tests waiting Begin dead due = record { not-13 = refl; is-30 = refl; is-31 = refl; is-32 = refl; is-33 = refl }
+row-tests waiting Time dead due = record { not-13 = refl; is-30 = refl; is-31 = refl; is-32 = refl; is-33 = refl }
+row-tests waiting Leave dead due = record { not-13 = refl; is-30 = refl; is-31 = refl; is-32 = refl; is-33 = refl }
+row-tests waiting Ask dead due = record { not-13 = refl; is-30 = refl; is-31 = refl; is-32 = refl; is-33 = refl }
+row-tests waiting (Logon number heart) dead due = record { not-13 = refl; is-30 = refl; is-31 = refl; is-32 = refl; is-33 = refl }
+row-tests waiting (Logout number) dead due = record { not-13 = refl; is-30 = refl; is-31 = refl; is-32 = refl; is-33 = refl }
+row-tests waiting (Other number) dead due = record { not-13 = refl; is-30 = refl; is-31 = refl; is-32 = refl; is-33 = refl }
+row-tests waiting (Faulty why) dead due = record { not-13 = own-13 why; is-30 = own-30 why; is-31 = own-31 why; is-32 = own-32 why; is-33 = own-33 why }
+row-tests active Begin dead due = record { not-13 = refl; is-30 = refl; is-31 = refl; is-32 = refl; is-33 = refl }
+row-tests active Time true due = record { not-13 = refl; is-30 = refl; is-31 = refl; is-32 = refl; is-33 = refl }
+row-tests active Time false true = record { not-13 = refl; is-30 = refl; is-31 = refl; is-32 = refl; is-33 = refl }
+row-tests active Time false false = record { not-13 = refl; is-30 = refl; is-31 = refl; is-32 = refl; is-33 = refl }
+row-tests active Leave dead due = record { not-13 = refl; is-30 = refl; is-31 = refl; is-32 = refl; is-33 = refl }
+row-tests active Ask dead due = record { not-13 = refl; is-30 = refl; is-31 = refl; is-32 = refl; is-33 = refl }
+row-tests active (Logon number heart) dead due = record { not-13 = refl; is-30 = refl; is-31 = refl; is-32 = refl; is-33 = refl }
+row-tests active (Logout number) dead due = record { not-13 = refl; is-30 = refl; is-31 = refl; is-32 = refl; is-33 = refl }
+row-tests active (Other number) dead due = record { not-13 = refl; is-30 = refl; is-31 = refl; is-32 = refl; is-33 = refl }
+row-tests active (Faulty why) dead due = record { not-13 = own-13 why; is-30 = own-30 why; is-31 = own-31 why; is-32 = own-32 why; is-33 = own-33 why }
+row-tests leaving Begin dead due = record { not-13 = refl; is-30 = refl; is-31 = refl; is-32 = refl; is-33 = refl }
+row-tests leaving Time true due = record { not-13 = refl; is-30 = refl; is-31 = refl; is-32 = refl; is-33 = refl }
+row-tests leaving Time false due = record { not-13 = refl; is-30 = refl; is-31 = refl; is-32 = refl; is-33 = refl }
+row-tests leaving Leave dead due = record { not-13 = refl; is-30 = refl; is-31 = refl; is-32 = refl; is-33 = refl }
+row-tests leaving Ask dead due = record { not-13 = refl; is-30 = refl; is-31 = refl; is-32 = refl; is-33 = refl }
+row-tests leaving (Logon number heart) dead due = record { not-13 = refl; is-30 = refl; is-31 = refl; is-32 = refl; is-33 = refl }
+row-tests leaving (Logout number) dead due = record { not-13 = refl; is-30 = refl; is-31 = refl; is-32 = refl; is-33 = refl }
+row-tests leaving (Other number) dead due = record { not-13 = refl; is-30 = refl; is-31 = refl; is-32 = refl; is-33 = refl }
+row-tests leaving (Faulty why) dead due = record { not-13 = own-13 why; is-30 = own-30 why; is-31 = own-31 why; is-32 = own-32 why; is-33 = own-33 why }
+row-tests over Begin dead due = record { not-13 = refl; is-30 = refl; is-31 = refl; is-32 = refl; is-33 = refl }
+row-tests over Time dead due = record { not-13 = refl; is-30 = refl; is-31 = refl; is-32 = refl; is-33 = refl }
+row-tests over Leave dead due = record { not-13 = refl; is-30 = refl; is-31 = refl; is-32 = refl; is-33 = refl }
+row-tests over Ask dead due = record { not-13 = refl; is-30 = refl; is-31 = refl; is-32 = refl; is-33 = refl }
+row-tests over (Logon number heart) dead due = record { not-13 = refl; is-30 = refl; is-31 = refl; is-32 = refl; is-33 = refl }
+row-tests over (Logout number) dead due = record { not-13 = refl; is-30 = refl; is-31 = refl; is-32 = refl; is-33 = refl }
+row-tests over (Other number) dead due = record { not-13 = refl; is-30 = refl; is-31 = refl; is-32 = refl; is-33 = refl }
+row-tests over (Faulty why) dead due = record { not-13 = own-13 why; is-30 = own-30 why; is-31 = own-31 why; is-32 = own-32 why; is-33 = own-33 why }
 
 cell-tests : (l : Line) (t : ℕ) (e : Event) → RowTests (l .state) e (numberIn (cellOf l t e))
 unfolding cellOf
@@ -87,6 +91,12 @@ cell-tests l t e = row-tests (l .state) e (deadAt l t) (dueAt l t)
 
 abbrev chain : Bool → Bool → Bool → ℕ → ℕ
 chain b w d n = pick b 30 (pick w 31 (pick d 32 n))
+
+no-13 : (b w d : Bool) (n : ℕ) → eqb n 13 ≡ false → chain b w d n ≡ 13 → ⊥
+no-13 true w d n t e = omega arith
+no-13 false true d n t e = omega arith
+no-13 false false true n t e = omega arith
+no-13 false false false n t e = clash (eq-eqb n 13 e) t
 
 to-30 : (b w d : Bool) (n : ℕ) → eqb n 30 ≡ b → chain b w d n ≡ 30 → b ≡ true
 to-30 true w d n t e = refl
@@ -151,6 +161,13 @@ module _ (l : Line) (now : ℕ) (e : Event) where
 
   sound-of : (m : ℕ) → (13 ≡ m → ⊥) → numberTo l now e ≡ m → soundOf l ≡ true
   sound-of m p h = ⊎-elim (λ t. t) (λ f. absurd (p (sym (broken f) ∙ h))) (two (soundOf l))
+
+  -- 13 comes before all others
+  pub given-13 : (numberTo l now e ≡ 13) ↔ (soundOf l ≡ false)
+  given-13 = (
+    λ h. ⊎-elim (λ s. absurd (no-13 (early l e) (misnumbered l e) (stopped l now e) cell-number (tests .not-13) (sym (told s) ∙ h))) (λ f. f) (two (soundOf l)),
+    broken,
+  )
 
   pub given-30 : (numberTo l now e ≡ 30) ↔ Given30 l now e
   given-30 = (
