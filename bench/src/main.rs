@@ -383,6 +383,52 @@ fn replies() {
     reply("passes none", none);
 }
 
+/// How many of a span are missing, on ledgers that hold few and many: every second number from 3 on.
+fn spans() {
+    const MOST: u64 = 999_999_999_999_999_999;
+    let channel = host::ChannelNumber::new(100);
+    for held in [0, 5, 200_u64] {
+        let mut state = plain::Ledger::open(100);
+        done(state.announce(100, MOST));
+        for i in 0..held {
+            done(state.tick(100, if held > 100 { 3 + i } else { 3 + 2 * i }));
+        }
+        let ours = host::Ledger::from_words(state.words());
+        for (name, size) in [
+            ("10", 10),
+            ("10^6", 1_000_000),
+            ("10^17", 100_000_000_000_000_000),
+        ] {
+            let (a, b) = (2, 1 + size);
+            let [from, to] = [a, b].map(host::TickNumber::new);
+            let count = number(ours.missing_between(channel, from, to));
+            assert_eq!(count, state.missing_between(100, a, b));
+            let input = format!("{held} held, a span of {name}");
+            // as if a question had 50 bytes, for the turns
+            let job = Job {
+                name: "missing between",
+                input: &input,
+                bytes: 50 * 1_000,
+                goal: Some(1.3),
+            };
+            job.race(
+                "question",
+                50,
+                || {
+                    for _ in 0..1_000 {
+                        done(black_box(&ours).missing_between(channel, from, to));
+                    }
+                },
+                || {
+                    for _ in 0..1_000 {
+                        done(black_box(&state).missing_between(100, a, b));
+                    }
+                },
+            );
+        }
+    }
+}
+
 // CAPTURES
 
 fn walk(input: &str, capture: &[u8]) {
@@ -586,6 +632,7 @@ fn main() {
     println!("|---|---|---|---|---|---|");
     sum_and_fill();
     replies();
+    spans();
     step::rows();
     captures("64 KiB", KIB_64);
     market::race();

@@ -416,6 +416,23 @@ impl Ledger {
         Ok((first, given_up, passed))
     }
 
+    pub fn missing_between(&self, channel: u16, a: u64, b: u64) -> Result<u64, u32> {
+        self.checked(channel)?;
+        if !(1..=LARGEST).contains(&a) || !(1..=LARGEST).contains(&b) {
+            return Err(10);
+        }
+        let (low, high) = (a.max(self.floor + 1), b.min(self.top));
+        if high < low {
+            return Ok(0);
+        }
+        let (width, off) = (high + 1 - low, low - self.floor - 1);
+        if off >= 256 {
+            return Ok(width);
+        }
+        let held = Ledger::only(self.map, low, width.min(256 - off));
+        Ok(width - held.iter().map(|w| u64::from(w.count_ones())).sum::<u64>())
+    }
+
     pub fn announce(&mut self, channel: u16, last: u64) -> Result<(), u32> {
         self.checked(channel)?;
         if last > LARGEST {

@@ -220,6 +220,12 @@ uint32_t rk_ledger_reply(rk_ledger *state, uint16_t channel, uint64_t first, uin
  * Returns 0, 13. 0 writes *told. */
 uint32_t rk_ledger_told(const rk_ledger *state, rk_told *told);
 
+/* How many numbers from a to b, both included, are missing: neither received nor given up, and not
+ * above the top. 0 if b is below a. It takes the same time for any span.
+ * Returns 0, 10 (a or b is 0 or has more than 18 digits), 13, 18. 0 writes *told. */
+uint32_t rk_ledger_missing(const rk_ledger *state, uint16_t channel, uint64_t a, uint64_t b,
+                           uint64_t *told);
+
 /* CAPTURES */
 
 /* Room for the records of any capture of len bytes; room for the listing of so many records. */
@@ -270,7 +276,8 @@ uint32_t rk_is_clean(const uint8_t *capture, size_t len, rk_found *told);
  * become a frame. Each call takes some microseconds, so collect single bytes first.
  *
  * Keep and copy the struct as you like, but do not read or make its words and bytes. The ledger may
- * be passed to rk_listing, rk_ledger_told, rk_ledger_request and rk_ledger_reply. The last two
+ * be passed to rk_listing, rk_ledger_told, rk_ledger_missing, rk_ledger_request and
+ * rk_ledger_reply. The last two
  * change its pending request, and a reply of status 4 its floor and map too: in these it then differs
  * from rk_walk's. A call on a stream that breaks the state rules returns 13. */
 typedef struct {

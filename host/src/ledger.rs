@@ -147,6 +147,19 @@ impl Ledger {
         result(answer, LedgerStatus::from_row(&row))
     }
 
+    /// How many numbers from `a` to `b`, both included, are missing: neither received nor given up,
+    /// and not above the top. 0 if `b` is below `a`. It takes the same time for any span.
+    pub fn missing_between(
+        &self,
+        channel: ChannelNumber,
+        a: TickNumber,
+        b: TickNumber,
+    ) -> Result<u64, Refusal> {
+        let mut count = 0;
+        let answer = raw::ledger_missing(self, channel, a, b, &mut count);
+        result(answer, count)
+    }
+
     /// The words, to save the ledger. Save [`STATE_FORM`] with them.
     #[must_use]
     pub const fn to_words(self) -> [u64; 9] {

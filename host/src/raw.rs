@@ -112,6 +112,7 @@ extern "C" {
     fn rk_ledger_request(state: *mut Ledger, channel: u16, told: *mut Request) -> u32;
     fn rk_ledger_reply(state: *mut Ledger, channel: u16, first: u64, status: u8, told: *mut Settled) -> u32;
     fn rk_ledger_told(state: *const Ledger, told: *mut StatusRow) -> u32;
+    fn rk_ledger_missing(state: *const Ledger, channel: u16, a: u64, b: u64, told: *mut u64) -> u32;
     fn rk_walk(capture: *const u8, len: usize, records: *mut u8, records_len: usize, state: *mut Ledger, told: *mut Counts) -> u32;
     fn rk_listing(records: *const u8, records_len: usize, frames: u64, refused: u64, state: *const Ledger, text: *mut u8, text_len: usize, told: *mut u64) -> u32;
     fn rk_clean(capture: *const u8, len: usize, out: *mut u8, out_len: usize, told: *mut Cleaned) -> u32;
@@ -225,6 +226,18 @@ pub fn ledger_told(state: &Ledger, told: &mut StatusRow) -> u32 {
     // SAFETY: `state` is a row of nine, with any words in it, and only read; `told` is a row of
     // seven, which `state` can't overlap: it is `&mut`.
     unsafe { rk_ledger_told(state, told) }
+}
+
+pub fn ledger_missing(
+    state: &Ledger,
+    channel: ChannelNumber,
+    a: TickNumber,
+    b: TickNumber,
+    told: &mut u64,
+) -> u32 {
+    // SAFETY: `state` is a row of nine, with any words in it, and only read; `told` is a number,
+    // which `state` can't overlap: it is `&mut`.
+    unsafe { rk_ledger_missing(state, channel.value(), a.value(), b.value(), told) }
 }
 
 // CAPTURES

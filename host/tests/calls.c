@@ -242,6 +242,13 @@ int main(void) {
                 for (n = t.row.first; n < end; n++) if (RK_IN(t.row.passed, n)) TELL(n);
             }
             ledger_kept(&was, answer);
+        } else if (strcmp(name, "missing") == 0) {
+            uint16_t channel = (uint16_t)number();
+            uint64_t a = number(), b = number();
+            ROW(uint64_t, t);
+            answer = rk_ledger_missing(&ledger, channel, a, b, &t.row);
+            if (ANSWERED(answer, t)) TELL(t.row);
+            ledger_kept(&was, answer);
         } else if (strcmp(name, "told") == 0) {
             ROW(rk_told, t);
             answer = rk_ledger_told(&ledger, &t.row);

@@ -494,7 +494,7 @@ fn ledgers(s: &mut Script, d: &mut Dice) {
         let (near, edge) = (words[1].wrapping_add(d.below(262)), d.edge());
         let n = d.of(&[near, near, near, edge]);
         let (its, tick) = (ChannelNumber::new(channel), TickNumber::new(n));
-        match d.below(6) {
+        match d.below(8) {
             0 => {
                 let answer = ledger.announce(its, tick).map(|()| (vec![], None));
                 s.ask("announce", &format!("{channel} {n}"), answer, Some(&ledger));
@@ -534,6 +534,18 @@ fn ledgers(s: &mut Script, d: &mut Dice) {
                     (row.to_vec(), None)
                 });
                 s.ask("told", "", answer, Some(&ledger));
+            }
+            4 => {
+                let (near, edge) = (words[1].wrapping_add(d.below(262)), d.edge());
+                let to = d.of(&[near, near, words[2], edge]);
+                let answer = ledger.missing_between(its, tick, TickNumber::new(to));
+                let answer = answer.map(|count| (vec![count], None));
+                s.ask(
+                    "missing",
+                    &format!("{channel} {n} {to}"),
+                    answer,
+                    Some(&ledger),
+                );
             }
             _ => {
                 let answer = ledger.tick(its, tick);

@@ -12,7 +12,7 @@ use Rattle.terms.specs.Paper.{one-number}
 use Rattle.terms.specs.Cases.{two}
 use Rattle.octets.specs.Papers.{room-there, laid-kept}
 use Rattle.frame_spec.specs.Frame.{checked}
-use Rattle.ledger_spec.specs.Calls.{Missing}
+use Rattle.ledger_spec.specs.Calls.{Ask, Missing}
 use Rattle.walk_spec.specs.Walk.{fitsIn, walkAnswer, walkLeaves}
 use Rattle.walk_spec.specs.Answers.{left-kept, answer-done}
 use Rattle.clean_spec.specs.Clean as clean
@@ -50,9 +50,9 @@ module _ (records : List ℕ) (frames refused : ℕ) (w text : List ℕ) where
   pub listing-kept : (listingTold records frames refused w (length text) .number ≡ 0 → ⊥) → listingLeaves records frames refused w text ≡ text
   unfolding listingTold listingLeaves checked
   listing-kept z =
-      ⊎-elim (λ (t : eqb (callTold w Missing .number) 0 ≡ true).
+      ⊎-elim (λ (t : eqb (callTold w (Ask Missing) .number) 0 ≡ true).
       ⊎-elim (λ (r : leb (0 + length bytes) (length text) ≡ true). absurd (z (rw t (one-number (room-there 0 (length bytes) (length text) r)))))
       (λ (f : leb (0 + length bytes) (length text) ≡ false). rw t (laid-kept 0 (length bytes) bytes text refl f))
       (two (leb (0 + length bytes) (length text))))
-      (λ (f : eqb (callTold w Missing .number) 0 ≡ false). rw f)
-      (two (eqb (callTold w Missing .number) 0))
+      (λ (f : eqb (callTold w (Ask Missing) .number) 0 ≡ false). rw f)
+      (two (eqb (callTold w (Ask Missing) .number) 0))

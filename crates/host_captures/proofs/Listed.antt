@@ -19,7 +19,7 @@ use Rattle.octets.specs.Overlays.{take-front}
 use Rattle.octets.specs.Papers.{roomFor, laidIfRoom, room-there, room-lacks, laid-there, laid-kept}
 use Rattle.frame_spec.specs.Frame.{checked}
 use Rattle.ledger_spec.specs.State.{Book, StateRules}
-use Rattle.ledger_spec.specs.Calls.{Missing, ownNumber, numberTo, answerTo}
+use Rattle.ledger_spec.specs.Calls.{Ask, Missing, ownNumber, numberTo, answerTo}
 use Rattle.ledger_spec.proofs.Numbers.{checked-test}
 use Rattle.ledger_spec.specs.Words.{valueAt}
 use Rattle.ledger.specs.declared.Ledger.{Ledger}
@@ -76,16 +76,16 @@ module _ (w : Walk) (r : StateRules (w .ledger)) where
   words = wordsOf (ledgerOf (w .ledger))
 
   -- 13 never comes
-  counts : numberTo (w .ledger) Missing ≡ 0
+  counts : numberTo (w .ledger) (Ask Missing) ≡ 0
   unfolding ownNumber
-  counts = checked-test (w .ledger) Missing r refl
+  counts = checked-test (w .ledger) (Ask Missing) r refl
 
-  sound : callTold words Missing .number ≡ 0
+  sound : callTold words (Ask Missing) .number ≡ 0
   unfolding answerTo
-  sound = ap (λ (b : Book). numberTo b Missing) (book-back (w .ledger) r) ∙ counts
+  sound = ap (λ (b : Book). numberTo b (Ask Missing)) (book-back (w .ledger) r) ∙ counts
 
-  missing-is : valueAt (callTold words Missing) 0 ≡ valueAt (answerTo (w .ledger) Missing) 0
-  missing-is = ap (λ (b : Book). valueAt (answerTo b Missing) 0) (book-back (w .ledger) r)
+  missing-is : valueAt (callTold words (Ask Missing)) 0 ≡ valueAt (answerTo (w .ledger) (Ask Missing)) 0
+  missing-is = ap (λ (b : Book). valueAt (answerTo b (Ask Missing)) 0) (book-back (w .ledger) r)
 
   last-is : lastLine (w .frames) (w .refused) words ≡ lastOf w
   unfolding ledgerOf

@@ -18,7 +18,7 @@ use Rattle.terms.specs.Paper.{Paper, one-number}
 use Rattle.terms.specs.Cases.{two}
 use Rattle.octets.specs.Papers.{roomFor, laidIfRoom, room-there, room-lacks, laid-there, laid-kept}
 use Rattle.frame_spec.specs.Frame.{checked}
-use Rattle.ledger_spec.specs.Calls.{Missing, ownNumber, numberTo, answerTo}
+use Rattle.ledger_spec.specs.Calls.{Ask, Missing, ownNumber, numberTo, answerTo}
 use Rattle.ledger_spec.specs.State.{Book, StateRules}
 use Rattle.ledger_spec.proofs.Given.{given-13}
 use Rattle.ledger_spec.proofs.Numbers.{checked-test}
@@ -125,9 +125,9 @@ module _ (κs : Lfts 4) (a : Dens κs listing-kinds.ps) (y : resT listing-kinds.
   text-is = refl
 
   module _ (r : StateRules book) where
-    counts : callTold (now (a .1 .1 .1 .0)) Missing .number ≡ 0
+    counts : callTold (now (a .1 .1 .1 .0)) (Ask Missing) .number ≡ 0
     unfolding answerTo ownNumber
-    counts = checked-test book Missing r refl
+    counts = checked-test book (Ask Missing) r refl
 
     told-as : listingTold (now (a .0)) (a .1 .0) (a .1 .1 .0) (now (a .1 .1 .1 .0)) (length before) ≡ roomFor 0 (length text) (length before)
     unfolding listingTold checked
@@ -165,5 +165,5 @@ module _ (κs : Lfts 4) (a : Dens κs listing-kinds.ps) (y : resT listing-kinds.
   unfolding listingTold checked answerTo
   rk-listing-given-13 = (
     λ (e : y ≡ 13) (r : StateRules book). not-13 r e,
-    λ (n : StateRules book → ⊥). let e : numberTo book Missing ≡ 13 = given-13 book Missing .1 n in p .0 .answered ∙ rw e,
+    λ (n : StateRules book → ⊥). let e : numberTo book (Ask Missing) ≡ 13 = given-13 book (Ask Missing) .1 n in p .0 .answered ∙ rw e,
   )

@@ -10,7 +10,7 @@ use Rattle.terms.specs.declared.TickNumber.{TickNumber}
 use Rattle.octets.specs.Papers.{roomFor, laidIfRoom}
 use Rattle.frame_spec.specs.Frame.{checked}
 use Rattle.ledger_spec.specs.Words.{valueAt}
-use Rattle.ledger_spec.specs.Calls.{Missing}
+use Rattle.ledger_spec.specs.Calls.{Ask, Missing}
 use Rattle.ledger.specs.State.{ledgerOf}
 use Rattle.ledger.specs.declared.Ledger.{Ledger}
 use Rattle.listing_text.specs.declared.Summary.{Summary}
@@ -33,7 +33,7 @@ lastLine frames refused w =
       refused = refused;
       floor = ledgerIn w .floor;
       top = ledgerIn w .top;
-      missing = valueAt (callTold w Missing) 0;
+      missing = valueAt (callTold w (Ask Missing)) 0;
     }
 
 abbrev pub listed : List ℕ → ℕ → ℕ → List ℕ → List ℕ
@@ -41,11 +41,11 @@ listed records frames refused w = listingOf records (lastLine frames refused w)
 
 -- 13 where the words break the state rules, then 8
 unfoldable pub listingTold : List ℕ → ℕ → ℕ → List ℕ → ℕ → Paper
-listingTold records frames refused w room = checked (callTold w Missing .number) (roomFor 0 (length (listed records frames refused w)) room)
+listingTold records frames refused w room = checked (callTold w (Ask Missing) .number) (roomFor 0 (length (listed records frames refused w)) room)
 
 unfoldable pub listingLeaves : List ℕ → ℕ → ℕ → List ℕ → List ℕ → List ℕ
 listingLeaves records frames refused w text =
-    pick (eqb (callTold w Missing .number) 0) (laidIfRoom 0 (listed records frames refused w) text) text
+    pick (eqb (callTold w (Ask Missing) .number) 0) (laidIfRoom 0 (listed records frames refused w) text) text
 
 unfoldable pub cleanTold : List ℕ → Paper
 cleanTold capture = retold perhaps (checkOf capture)
@@ -57,11 +57,11 @@ pub walk-words : (capture : List ℕ) (room : ℕ) (was : List ℕ) {n : ℕ} {l
 unfolding walkWords
 walk-words capture room was ne le e = e ∙ ap₂ (λ (m : ℕ) (x : Ledger). keptBy m x was) ne le
 
-pub last-line : (frames refused : ℕ) (w : List ℕ) (floor top : TickNumber) (missing : ℕ) → floor ≡ ledgerIn w .floor → top ≡ ledgerIn w .top → missing ≡ valueAt (callTold w Missing) 0
+pub last-line : (frames refused : ℕ) (w : List ℕ) (floor top : TickNumber) (missing : ℕ) → floor ≡ ledgerIn w .floor → top ≡ ledgerIn w .top → missing ≡ valueAt (callTold w (Ask Missing)) 0
     → _≡_ {A = Summary} (record { frames = frames; refused = refused; floor = floor; top = top; missing = missing }) (lastLine frames refused w)
 last-line frames refused w floor top missing e f g = rw (e, f, g)
 
-module _ (records : List ℕ) (frames refused : ℕ) (w text : List ℕ) (n : ℕ) (e : n ≡ callTold w Missing .number) where
+module _ (records : List ℕ) (frames refused : ℕ) (w text : List ℕ) (n : ℕ) (e : n ≡ callTold w (Ask Missing) .number) where
   pub listing-refused : (was : List ℕ) → (n ≡ 0 → ⊥)
       → Tells (listingTold records frames refused w (length text)) was n was × (text ≡ listingLeaves records frames refused w text)
   unfolding listingTold listingLeaves checked

@@ -2,6 +2,7 @@
 -- all that it is lent, and a refusal leaves them as they were. What a function is lent is put in
 -- one list, told row first, then words. Assumes nothing.
 use mathlib.Core.Path.{_≡_, sym, ap₂, _∙_}
+use mathlib.Core.List.{[], _∷_}
 use denote.Ref.{now}
 use Rattle.terms.specs.OneAnswer.{OneAnswer}
 use Rattle.terms.specs.OneBuffer.{OneBuffer, RefusedKeeps}
@@ -17,6 +18,8 @@ use Rattle.host_ledger.proofs.rk_ledger_request.Reads as rk-ledger-requ
 use Rattle.host_ledger.proofs.rk_ledger_request.Kinds as rk-ledger-request-kinds
 use Rattle.host_ledger.proofs.rk_ledger_reply.Reads as rk-ledger-reply
 use Rattle.host_ledger.proofs.rk_ledger_reply.Kinds as rk-ledger-reply-kinds
+use Rattle.host_ledger.proofs.rk_ledger_missing.Reads as rk-ledger-missing
+use Rattle.host_ledger.proofs.rk_ledger_missing.Kinds as rk-ledger-missing-kinds
 use Rattle.host_ledger.proofs.rk_ledger_told.Reads as rk-ledger-told
 use Rattle.host_ledger.proofs.rk_ledger_told.Kinds as rk-ledger-told-kinds
 
@@ -67,6 +70,15 @@ rk-ledger-reply-one-buffer κs a x y s t p q = ap₂ both (p .0 .told ∙ sym (q
 
 pub rk-ledger-reply-refused-keeps : RefusedKeeps _ rk-ledger-reply-kinds.ps rk-ledger-reply-kinds.r rk-ledger-reply.Post (λ κs x. Refuses x) (λ κs a. both (now (a .1 .1 .1 .1 .0)) (now (a .0))) (λ κs s. both (now (s .1 .1 .1 .1 .0)) (now (s .0)))
 rk-ledger-reply-refused-keeps κs a x s p w = ap₂ both (tells-kept (p .0) w) (p .1 ∙ reply-kept _ _ _ _ (λ z. w (p .0 .answered ∙ z)))
+
+pub rk-ledger-missing-one-answer : OneAnswer _ rk-ledger-missing-kinds.ps rk-ledger-missing-kinds.r rk-ledger-missing.Post
+rk-ledger-missing-one-answer κs a x y s t p q = p .answered ∙ sym (q .answered)
+
+pub rk-ledger-missing-one-buffer : OneBuffer _ rk-ledger-missing-kinds.ps rk-ledger-missing-kinds.r rk-ledger-missing.Post (λ κs s. now (s .1 .1 .1 .1 .0) ∷ [])
+rk-ledger-missing-one-buffer κs a x y s t p q = p .told ∙ sym (q .told)
+
+pub rk-ledger-missing-refused-keeps : RefusedKeeps _ rk-ledger-missing-kinds.ps rk-ledger-missing-kinds.r rk-ledger-missing.Post (λ κs x. Refuses x) (λ κs a. now (a .1 .1 .1 .1 .0) ∷ []) (λ κs s. now (s .1 .1 .1 .1 .0) ∷ [])
+rk-ledger-missing-refused-keeps κs a x s p w = tells-kept p w
 
 pub rk-ledger-told-one-answer : OneAnswer _ rk-ledger-told-kinds.ps rk-ledger-told-kinds.r rk-ledger-told.Post
 rk-ledger-told-one-answer κs a x y s t p q = p .answered ∙ sym (q .answered)

@@ -22,15 +22,16 @@ use Rattle.tick_map.specs.Bits.{bitsIn, mapOf}
 use Rattle.tick_map.specs.Ring.{rotated, laid}
 use Rattle.tick_map.proofs.Ring.{rotated-laid}
 use Rattle.ledger_spec.specs.State.{Book, soundOf, StateRules}
-use Rattle.ledger_spec.specs.Calls.{Call, Tick, Announce, Request, Reply, Missing, Held, offered, elsewhere, ownNumber, checkedOf, reach, leaps, gaveUp, handed, raised, done, valuesOf, beside, numberTo, answerTo, nextOf, openOf, missingCount, heldCount}
+use Rattle.ledger_spec.specs.Calls.{Call, Tick, Announce, Request, Reply, Question, Ask, Missing, Held, Between, betweenCount, countOf, offered, elsewhere, ownNumber, checkedOf, reach, leaps, gaveUp, handed, raised, done, valuesOf, beside, numberTo, answerTo, nextOf, openOf, missingCount, heldCount}
 use Rattle.ledger_spec.specs.Trace.{Calls, none, _▸_, after, History, start, _▸_⇒_, trace}
 use Rattle.ledger_spec.specs.Words.{valueAt, answered, givesUp, givenUp}
 use Rattle.ledger_spec.specs.Answers.{TickAnswers, AnnounceAnswers, ReplyAnswers}
+use Rattle.ledger_spec.specs.Between.{BetweenAnswers}
 use Rattle.ledger_spec.specs.GivenUp.{InRange, NamesApart}
 use Rattle.ledger_spec.specs.Demand3.{Demand3, Requests}
 use Rattle.ledger_spec.proofs.Answers.{keeps}
 use Rattle.ledger_spec.proofs.Demand3.{demand-3}
-use Rattle.ledger_spec.proofs.Told.{told-tick, told-announce, told-request, told-reply, told-late, told-gives-up, told-names-apart}
+use Rattle.ledger_spec.proofs.Told.{told-tick, told-announce, told-request, told-reply, told-between, told-late, told-gives-up, told-names-apart}
 use Rattle.ledger_spec.proofs.Given.{given-13}
 use Rattle.ledger_spec.proofs.Numbers.{checked-facts, checked-test}
 use Rattle.ledger_spec.proofs.Rules.{rules-facts, rules-test}
@@ -39,7 +40,7 @@ use Rattle.ledger.specs.declared.Ledger.{Ledger}
 use Rattle.ledger.specs.declared.Pending.{Pending}
 use Rattle.ledger.specs.declared.Pending.the-variants.{Nothing, Range}
 use Rattle.ledger.specs.State.{askedOf, bookOf, ledgerOf, topped}
-use Rattle.ledger.proofs.Seam.{laid-of, done-by, far-by}
+use Rattle.ledger.proofs.Seam.{laid-of, done-by, far-by, question-next}
 use Rattle.host_words.specs.Told.{Tells, toldBy, seen}
 use Rattle.host_words.specs.Words.{firstAsked, lastAsked, wordsOf, ledgerIn, withTop, bookIn}
 use Rattle.host_words.specs.Calls.{keptBy, callTold, wordsAfter}
@@ -58,6 +59,8 @@ use Rattle.host_ledger.proofs.rk_ledger_request.Reads as request
 use Rattle.host_ledger.proofs.rk_ledger_request.Kinds as request-kinds
 use Rattle.host_ledger.proofs.rk_ledger_reply.Reads as reply
 use Rattle.host_ledger.proofs.rk_ledger_reply.Kinds as reply-kinds
+use Rattle.host_ledger.proofs.rk_ledger_missing.Reads as missing
+use Rattle.host_ledger.proofs.rk_ledger_missing.Kinds as missing-kinds
 use Rattle.host_ledger.proofs.rk_ledger_told.Reads as told
 use Rattle.host_ledger.proofs.rk_ledger_told.Kinds as told-kinds
 
@@ -220,29 +223,21 @@ asked-numbers Nothing = refl
 asked-numbers (Range first last) = refl
 
 module _ (w : List ℕ) where
-  row-is : numberTo (bookIn w) Missing ≡ 0 → ledgerTold w .values ≡ bookNumbers (bookIn w)
+  row-is : numberTo (bookIn w) (Ask Missing) ≡ 0 → ledgerTold w .values ≡ bookNumbers (bookIn w)
   unfolding ledgerTold answerTo valuesOf bookOf numberTo ownNumber
   row-is z = rw (z, asked-numbers (ledgerIn w .pending))
 
-  -- a count leaves the book, and so the words
-  module _ (call : Call) (here : elsewhere (bookIn w) call ≡ false) (own : ownNumber (bookIn w) call ≡ 0) (same : done (bookIn w) call ≡ bookIn w) where
-    count-next : nextOf (bookIn w) call ≡ bookIn w
-    unfolding nextOf numberTo checkedOf
-    count-next =
-        ⊎-elim (λ (t : soundOf (bookIn w) ≡ true). rw (t, here, own, same)) (λ (f : soundOf (bookIn w) ≡ false). rw f) (two (soundOf (bookIn w)))
-
-    count-called : {a : Paper} → a ≡ callTold w call → Called w call w a
-    unfolding answerTo
-    count-called {a} e =
-        record {
-          number = one-number e;
-          answer-is = e;
-          next-is = sym count-next;
-          words-are = λ (b : Book) (r : StateRules b) (g : w ≡ wordsOf (ledgerOf b)).
-              let q : bookIn w ≡ b = ap bookIn g ∙ book-back b r in
-              g ∙ ap (λ (y : Book). wordsOf (ledgerOf y)) (sym (ap (λ (y : Book). nextOf y call) (sym q) ∙ count-next ∙ q));
-          kept = λ (z : a .number ≡ 0 → ⊥) (n : a .number ≡ 12 → ⊥). refl;
-        }
+  -- a question leaves the book, and so the words
+  count-called : (q : Question) {a : Paper} → a ≡ callTold w (Ask q) → Called w (Ask q) w a
+  unfolding answerTo
+  count-called q {a} e =
+      record {
+        number = one-number e;
+        answer-is = e;
+        next-is = sym (question-next (bookIn w) q);
+        words-are = λ (b : Book) (r : StateRules b) (g : w ≡ wordsOf (ledgerOf b)). g ∙ ap (λ (y : Book). wordsOf (ledgerOf y)) (sym (question-next b q));
+        kept = λ (z : a .number ≡ 0 → ⊥) (n : a .number ≡ 12 → ⊥). refl;
+      }
 
   count-seen : (call : Call) (k : ℕ) {x c : ℕ} → valuesOf (bookIn w) call ≡ k ∷ [] → beside call ≡ 0 ∷ [] → x ≡ numberTo (bookIn w) call → (x ≡ 0 → c ≡ k) → counted x c ≡ callTold w call
   unfolding answerTo
@@ -250,7 +245,7 @@ module _ (w : List ℕ) where
       ⊎-elim (λ (z : x ≡ 0). rw (← g, z, h z, e)) (λ (z : x ≡ 0 → ⊥). rw (← g, ne-eqb x 0 z, f)) (same x 0)
 
 module _ (κs : Lfts 2) (a : Dens κs told-kinds.ps) (x : resT told-kinds.r κs .Denot) (s : AtExit (endedOf 2 told-kinds.ps told-kinds.r) κs) (p : told.Post κs a x s) where
-  told-number : x ≡ numberTo (bookIn (now (a .0))) Missing
+  told-number : x ≡ numberTo (bookIn (now (a .0))) (Ask Missing)
   unfolding ledgerTold answerTo
   told-number = p .answered
 
@@ -262,23 +257,41 @@ module _ (κs : Lfts 2) (a : Dens κs told-kinds.ps) (x : resT told-kinds.r κs 
   -- exactly where the words keep the state rules; else 13
   pub told-sound : StateRules (bookIn (now (a .0))) → x ≡ 0
   unfolding ownNumber
-  told-sound r = told-number ∙ checked-test (bookIn (now (a .0))) Missing r refl
+  told-sound r = told-number ∙ checked-test (bookIn (now (a .0))) (Ask Missing) r refl
 
   pub told-broken : (StateRules (bookIn (now (a .0))) → ⊥) → x ≡ 13
-  told-broken n = told-number ∙ given-13 (bookIn (now (a .0))) Missing .1 n
+  told-broken n = told-number ∙ given-13 (bookIn (now (a .0))) (Ask Missing) .1 n
 
   -- its fourth number is a call of the missing count, its fifth one of the held count
-  pub told-is-missing : Called (now (a .0)) Missing (now (a .0)) (counted x (getD (now (s .1 .0)) 3 0))
+  pub told-is-missing : Called (now (a .0)) (Ask Missing) (now (a .0)) (counted x (getD (now (s .1 .0)) 3 0))
   unfolding ownNumber done valuesOf
   told-is-missing =
-      count-called (now (a .0)) Missing refl refl refl
-      (count-seen (now (a .0)) Missing (missingCount (bookIn (now (a .0)))) refl refl told-number (λ (z : x ≡ 0). ap (λ (l : List ℕ). getD l 3 0) (told-row z)))
+      count-called (now (a .0)) Missing
+      (count-seen (now (a .0)) (Ask Missing) (missingCount (bookIn (now (a .0)))) refl refl told-number (λ (z : x ≡ 0). ap (λ (l : List ℕ). getD l 3 0) (told-row z)))
 
-  pub told-is-held : Called (now (a .0)) Held (now (a .0)) (counted x (getD (now (s .1 .0)) 4 0))
+  pub told-is-held : Called (now (a .0)) (Ask Held) (now (a .0)) (counted x (getD (now (s .1 .0)) 4 0))
   unfolding ownNumber done valuesOf numberTo
   told-is-held =
-      count-called (now (a .0)) Held refl refl refl
-      (count-seen (now (a .0)) Held (heldCount (bookIn (now (a .0)))) refl refl told-number (λ (z : x ≡ 0). ap (λ (l : List ℕ). getD l 4 0) (told-row z)))
+      count-called (now (a .0)) Held
+      (count-seen (now (a .0)) (Ask Held) (heldCount (bookIn (now (a .0)))) refl refl told-number (λ (z : x ≡ 0). ap (λ (l : List ℕ). getD l 4 0) (told-row z)))
+
+-- the number told beside 0 is the count
+told-0 : (w : List ℕ) (q : Question) (was : ℕ) {x m : ℕ} → x ≡ callTold w (Ask q) .number → m ∷ [] ≡ toldBy (callTold w (Ask q)) (was ∷ []) → x ≡ 0 → m ≡ countOf (bookIn w) q
+unfolding valuesOf toldBy answerTo
+told-0 w q was {x} {m} e f z =
+    let n : numberTo (bookIn w) (Ask q) ≡ 0 = sym e ∙ z in
+    let g : m ∷ [] ≡ countOf (bookIn w) q ∷ [] = f ∙ rw n in
+    ap (λ (l : List ℕ). getD l 0 0) g
+
+-- how many from one number to another are missing
+pub between-is-call : (κs : Lfts 2) (a : Dens κs missing-kinds.ps) (x : resT missing-kinds.r κs .Denot) (s : AtExit (endedOf 2 missing-kinds.ps missing-kinds.r) κs) → missing.Post κs a x s
+    → Called (now (a .0)) (Ask (Between (a .1 .0) (a .1 .1 .0) (a .1 .1 .1 .0))) (now (a .0)) (counted x (now (s .1 .1 .1 .1 .0)))
+unfolding valuesOf toldBy answerTo
+between-is-call κs a x s p =
+    let q = Between (a .1 .0) (a .1 .1 .0) (a .1 .1 .1 .0) in
+    count-called (now (a .0)) q
+    (count-seen (now (a .0)) (Ask q) (betweenCount (bookIn (now (a .0))) (a .1 .1 .0) (a .1 .1 .1 .0)) refl refl (p .answered)
+    (λ (z : x ≡ 0). told-0 (now (a .0)) q _ (p .answered) (p .told) z))
 
 -- a count that is answered
 count-is : (b : Book) (call : Call) {v k : ℕ} → valuesOf b call ≡ v ∷ [] → answerTo b call ≡ answer 0 (k ∷ []) → v ≡ k
@@ -341,6 +354,9 @@ module _ (channel : ℕ) (small : channel ≤ 9999) where
     pub host-reply : (first status : ℕ) (w′ : List ℕ) (a : Paper) → Called w (Reply channel first status) w′ a → ReplyAnswers h first status a
     host-reply first status w′ a c = told-reply channel small calls (host-ran-is-trace r .1) first status (host-answers _ w′ a c)
 
+    pub host-between : (x z : ℕ) (w′ : List ℕ) (a : Paper) → Called w (Ask (Between channel x z)) w′ a → BetweenAnswers h x z a
+    host-between x z w′ a c = told-between channel small calls (host-ran-is-trace r .1) x z (host-answers _ w′ a c)
+
     -- and request 7's sentences
     pub host-gives-up : (first : ℕ) (w′ : List ℕ) (a : Paper) → Called w (Reply channel first 4) w′ a → answered a 0 ≡ true
         → (n : ℕ) → (givesUp (Reply channel first 4) a n ≡ true) ↔ InRange h n
@@ -365,5 +381,5 @@ module _ (channel : ℕ) (small : channel ≤ 9999) where
         let z = told-sound κs a x s p (rw e (d .state-rules)) in (
           z,
           told-row κs a x s p z ∙ ap (λ (y : List ℕ). bookNumbers (bookIn y)) e
-              ∙ rw (count-is (bookIn w) Missing refl (d .counts .missing-is), count-is (bookIn w) Held refl (d .counts .held-is), d .shown .channel-is, d .shown .floor-is, d .shown .top-is, d .shown .pending-is),
+              ∙ rw (count-is (bookIn w) (Ask Missing) refl (d .counts .missing-is), count-is (bookIn w) (Ask Held) refl (d .counts .held-is), d .shown .channel-is, d .shown .floor-is, d .shown .top-is, d .shown .pending-is),
         )

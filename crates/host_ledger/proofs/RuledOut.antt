@@ -2,16 +2,17 @@
 -- tables of what is given and what is then wrong. A ledger is nine words: channel, floor, top, the
 -- map's four, and the pending range. Assumes nothing.
 use Prim.Native.Nat.{ℕ, _+_, _^_}
-use mathlib.Core.Path.{_≡_, refl, ap₂}
+use mathlib.Core.Path.{_≡_, refl, ap, ap₂}
 use mathlib.Core.List.{List, [], _∷_}
 use denote.Ref.{now}
+use lib.ListN.{getD}
 use lib.Count.{ones, trailingZeros}
 use Rattle.terms.specs.Paper.{Paper}
 use Rattle.terms.specs.RuledOut.{Row, _never_, _only_, Kept, RulesOut, ruled, numbers, lists, beside}
 use Rattle.tick_map.specs.Bits.{valueOf, mapOf, run}
 use Rattle.tick_map.specs.Ring.{rotated}
 use Rattle.ledger_spec.specs.State.{has, rangeRules, mapRules, soundOf}
-use Rattle.ledger_spec.specs.Calls.{Call, Tick, Announce, Request, Reply, openNumber, ownNumber, checkedOf, numberTo, passes, taken, reach, leaps, gaveUp, handed, replied, raised, waiting, asked, done, missingCount, heldCount, valuesOf, answerTo, fresh, openOf}
+use Rattle.ledger_spec.specs.Calls.{Call, Tick, Announce, Request, Reply, Ask, Between, openNumber, ownNumber, checkedOf, numberTo, passes, taken, reach, leaps, gaveUp, handed, replied, raised, waiting, asked, done, missingCount, heldCount, betweenCount, valuesOf, answerTo, fresh, openOf}
 use Rattle.ledger.specs.State.{bookOf, ledgerOf, nextBy}
 use Rattle.host_words.specs.Words.{wordsOf, pendingIn, ledgerIn}
 use Rattle.host_words.specs.Calls.{keptBy, callTold, wordsAfter}
@@ -27,6 +28,8 @@ use Rattle.host_ledger.proofs.rk_ledger_request.Reads as rk-request
 use Rattle.host_ledger.proofs.rk_ledger_request.Kinds as rk-request-kinds
 use Rattle.host_ledger.proofs.rk_ledger_reply.Reads as rk-reply
 use Rattle.host_ledger.proofs.rk_ledger_reply.Kinds as rk-reply-kinds
+use Rattle.host_ledger.proofs.rk_ledger_missing.Reads as rk-missing
+use Rattle.host_ledger.proofs.rk_ledger_missing.Kinds as rk-missing-kinds
 use Rattle.host_ledger.proofs.rk_ledger_told.Reads as rk-told
 use Rattle.host_ledger.proofs.rk_ledger_told.Kinds as rk-told-kinds
 
@@ -138,3 +141,22 @@ rk-ledger-told-wrong =
 pub rk-ledger-told-rules-out : RulesOut (Kept _ rk-told-kinds.ps rk-told-kinds.r rk-told.Post) (λ c. (now (c .args .0), now (c .args .1 .0))) (λ c. (c .result, now (c .exit .1 .0))) rk-ledger-told-wrong
 unfolding bookOf ledgerOf nextBy rotated mapOf valueOf numberTo ownNumber checkedOf soundOf mapRules rangeRules has passes taken reach leaps gaveUp handed replied raised waiting asked done missingCount heldCount valuesOf answerTo fresh openOf run trailingZeros ones wordsOf pendingIn ledgerIn keptBy wordsAfter toldBy openWords ledgerTold settledRow
 rk-ledger-told-rules-out = ruled (beside numbers lists) (λ (i : List ℕ × List ℕ). (ledgerTold (i .0) .number, toldBy (ledgerTold (i .0)) (i .1))) (λ c p. ap₂ (λ (n : ℕ) (r : List ℕ). (n, r)) (p .answered) (p .told)) _ refl
+
+-- A SPAN: the words, a question, and the told number before
+abbrev pub rk-ledger-missing-wrong : List (Row (List ℕ × (Call × ℕ)) (ℕ × ℕ))
+rk-ledger-missing-wrong =
+    (words 5 9 (2 ^ 7) 0 0, (Ask (Between 100 6 8), 77)) never (0, 3)  -- held numbers counted as missing
+    ∷ (words 5 9 (2 ^ 7) 0 0, (Ask (Between 100 6 8), 77)) only (0, 2)
+    ∷ (words 5 9 (2 ^ 7) 0 0, (Ask (Between 100 9 6), 77)) never (0, 3)  -- a and b swapped
+    ∷ (words 5 9 (2 ^ 7) 0 0, (Ask (Between 100 9 6), 77)) only (0, 0)
+    ∷ (words 5 9 (2 ^ 7) 0 0, (Ask (Between 101 6 8), 77)) never (18, 0)  -- something told beside 18
+    ∷ (words 5 9 (2 ^ 7) 0 0, (Ask (Between 101 6 8), 77)) only (18, 77)
+    ∷ (words 5 9 (2 ^ 7) 0 0, (Ask (Between 100 6 0), 77)) only (10, 77)
+    ∷ (words 5 9 (2 ^ 6) 0 0, (Ask (Between 100 6 0), 77)) only (13, 77)
+    ∷ []
+
+pub rk-ledger-missing-rules-out : RulesOut (Kept _ rk-missing-kinds.ps rk-missing-kinds.r rk-missing.Post) (λ c. (now (c .args .0), (Ask (Between (c .args .1 .0) (c .args .1 .1 .0) (c .args .1 .1 .1 .0)), now (c .args .1 .1 .1 .1 .0)))) (λ c. (c .result, now (c .exit .1 .1 .1 .1 .0))) rk-ledger-missing-wrong
+unfolding bookOf ledgerOf nextBy rotated mapOf valueOf numberTo ownNumber checkedOf soundOf mapRules rangeRules has passes taken reach leaps gaveUp handed replied raised waiting asked done missingCount heldCount betweenCount valuesOf answerTo fresh openOf run trailingZeros ones wordsOf pendingIn ledgerIn keptBy wordsAfter toldBy openWords ledgerTold settledRow
+rk-ledger-missing-rules-out =
+    ruled (beside numbers numbers) (λ (i : List ℕ × (Call × ℕ)). (callTold (i .0) (i .1 .0) .number, getD (toldBy (callTold (i .0) (i .1 .0)) (i .1 .1 ∷ [])) 0 0))
+    (λ c p. ap₂ (λ (n m : ℕ). (n, m)) (p .answered) (ap (λ (l : List ℕ). getD l 0 0) (p .told))) _ refl

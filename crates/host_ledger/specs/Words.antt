@@ -8,7 +8,7 @@ use Rattle.terms.specs.declared.TickNumber.{TickNumber}
 use Rattle.tick_map.specs.Bits.{bitsIn, mapOf}
 use Rattle.tick_map.specs.Ring.{rotated, laid}
 use Rattle.tick_map.specs.declared.Map.{Map}
-use Rattle.ledger_spec.specs.Calls.{Call, Missing, Held, answerTo, openNumber, openOf}
+use Rattle.ledger_spec.specs.Calls.{Call, Ask, Missing, Held, answerTo, openNumber, openOf}
 use Rattle.ledger.specs.declared.Ledger.{Ledger}
 use Rattle.ledger.specs.State.{bookOf, ledgerOf, laidFrom}
 use Rattle.host_words.specs.Words.{firstAsked, lastAsked, ledgerIn}
@@ -23,9 +23,9 @@ openWords channel was = keptBy (openNumber channel) (ledgerOf (openOf channel)) 
 -- last number; or 13
 unfoldable pub ledgerTold : List ℕ → Paper
 ledgerTold w =
-    answer (callTold w Missing .number)
+    answer (callTold w (Ask Missing) .number)
     (ledgerIn w .channel .0 ∷ ledgerIn w .floor .0 ∷ ledgerIn w .top .0
-    ∷ (callTold w Missing .values ++ (callTold w Held .values ++ (firstAsked (ledgerIn w .pending) ∷ lastAsked (ledgerIn w .pending) ∷ []))))
+    ∷ (callTold w (Ask Missing) .values ++ (callTold w (Ask Held) .values ++ (firstAsked (ledgerIn w .pending) ∷ lastAsked (ledgerIn w .pending) ∷ []))))
 
 -- A REPLY'S TWO SETS as nine words: the number that they count from, the four words of a map with
 -- the given-up numbers, and of one with the received numbers newly passed. A number's place in
@@ -50,7 +50,7 @@ pub settled-row : (f : TickNumber) (m p : Map) → m ≡ laidFrom f m → p ≡ 
 unfolding settledRow
 settled-row f m p e g = ap₂ (rowOf (f .0)) e g
 
-pub ledger-told : (w : List ℕ) (l : Ledger) (n m held missing : ℕ) → l ≡ ledgerIn w → answer n (missing ∷ []) ≡ answerTo (bookOf l) Missing → answer m (held ∷ []) ≡ answerTo (bookOf l) Held
+pub ledger-told : (w : List ℕ) (l : Ledger) (n m held missing : ℕ) → l ≡ ledgerIn w → answer n (missing ∷ []) ≡ answerTo (bookOf l) (Ask Missing) → answer m (held ∷ []) ≡ answerTo (bookOf l) (Ask Held)
     → answer n (l .channel .0 ∷ l .floor .0 ∷ l .top .0 ∷ missing ∷ held ∷ firstAsked (l .pending) ∷ lastAsked (l .pending) ∷ []) ≡ ledgerTold w
 unfolding ledgerTold
 ledger-told w l n m held missing e f g = rw (← e, ← f, ← g)

@@ -2,7 +2,8 @@
 // numbers, those of the crate `host_words`. A refusal writes nothing; only 12 changes a ledger, and
 // only its top.
 ghost use mathlib.Core.Path.{_≡_};
-ghost use Rattle.ledger_spec.specs.Calls.{Tick, Announce, Request, Reply, openNumber};
+ghost use mathlib.Core.List.{[], _∷_};
+ghost use Rattle.ledger_spec.specs.Calls.{Tick, Announce, Request, Reply, Ask, Between, openNumber};
 ghost use Rattle.ledger.specs.Papers.{paperOf};
 ghost use Rattle.host_words.specs.Told.{Tells};
 ghost use Rattle.host_words.specs.Calls.{keptBy, callTold, wordsAfter};
@@ -204,6 +205,30 @@ pub extern "C" fn rk_ledger_told(state: &[u64; 9], told: &mut [u64; 7]) -> u32
             host_words::first_asked(pending),
             host_words::last_asked(pending),
         ];
+    }
+    answer
+}
+
+// How many numbers from a to b, both counted, are missing. Told: the count.
+#[no_mangle]
+pub extern "C" fn rk_ledger_missing(
+    state: &[u64; 9],
+    channel: u16,
+    a: u64,
+    b: u64,
+    told: &mut u64,
+) -> u32
+    ensures { λ r. ⌜ Tells (callTold (now (state .entry)) (Ask (Between channel a b))) (now (told .entry) ∷ []) r (now (told .exit) ∷ []) ⌝ }
+{
+    let counted = host_words::ledger_in(state).missing_between(
+        ChannelNumber::new(channel),
+        TickNumber::new(a),
+        TickNumber::new(b),
+    );
+    let given = counted.answer;
+    let answer = number_of(given);
+    if answer == 0 {
+        *told = counted.count;
     }
     answer
 }

@@ -28,6 +28,8 @@ use Rattle.ledger.proofs.Ledger.missing.Reads as missing
 use Rattle.ledger.proofs.Ledger.missing.Kinds as missing-kinds
 use Rattle.ledger.proofs.Ledger.held.Reads as held
 use Rattle.ledger.proofs.Ledger.held.Kinds as held-kinds
+use Rattle.ledger.proofs.Ledger.missing_between.Reads as missing-between
+use Rattle.ledger.proofs.Ledger.missing_between.Kinds as missing-between-kinds
 
 noted-one : (x y : Noted) {p : Paper} {n : Ledger} → (paperOf (x .answer) ≡ p) × (x .next ≡ n) → (paperOf (y .answer) ≡ p) × (y .next ≡ n) → x ≡ y
 noted-one x y p q =
@@ -65,3 +67,6 @@ Ledger-missing-one-answer κs a x y s t p q = counted-one x y p q
 
 pub Ledger-held-one-answer : OneAnswer _ held-kinds.ps held-kinds.r held.Post
 Ledger-held-one-answer κs a x y s t p q = counted-one x y p q
+
+pub Ledger-missing-between-one-answer : OneAnswer _ missing-between-kinds.ps missing-between-kinds.r missing-between.Post
+Ledger-missing-between-one-answer κs a x y s t p q = counted-one x y p q

@@ -12,7 +12,7 @@ use denote.Triple.Clauses.{AtExit}
 use Rattle.terms.specs.Paper.{Paper, answer}
 use Rattle.ledger_spec.specs.State.{Book}
 use Rattle.ledger.specs.State.{bookOf, ledgerOf, topped, nextBy}
-use Rattle.ledger_spec.specs.Calls.{Call, Tick, Announce, Request, Reply, Missing, Held, raised, answerTo, nextOf, fresh, openOf}
+use Rattle.ledger_spec.specs.Calls.{Call, Tick, Announce, Request, Reply, Ask, Missing, Held, Between, raised, answerTo, nextOf, fresh, openOf}
 use Rattle.ledger.specs.Papers.{tickPaper, requestPaper, replyPaper, paperOf, countPaper}
 use Rattle.ledger_spec.specs.Trace.{Calls, _▸_, after, History, _▸_⇒_, trace}
 use Rattle.ledger.specs.Trace.{Promise, RanBy, Ran, opening, one-more}
@@ -30,6 +30,8 @@ use Rattle.ledger.proofs.Ledger.held.Reads as held
 use Rattle.ledger.proofs.Ledger.held.Kinds as held-kinds
 use Rattle.ledger.proofs.Ledger.missing.Reads as missing
 use Rattle.ledger.proofs.Ledger.missing.Kinds as missing-kinds
+use Rattle.ledger.proofs.Ledger.missing_between.Reads as missing-between
+use Rattle.ledger.proofs.Ledger.missing_between.Kinds as missing-between-kinds
 use Rattle.ledger.proofs.Ledger.reply.Reads as reply
 use Rattle.ledger.proofs.Ledger.reply.Kinds as reply-kinds
 use Rattle.ledger.proofs.Ledger.request.Reads as request
@@ -54,12 +56,16 @@ pub reply-is-step : (κs : Lfts 0) (a : Dens κs reply-kinds.ps) (x : resT reply
 reply-is-step κs a x s p = record { paper-is = p .0; next-is = p .1 }
 
 pub missing-is-step : (κs : Lfts 0) (a : Dens κs missing-kinds.ps) (x : resT missing-kinds.r κs .Denot) (s : AtExit (endedOf 0 missing-kinds.ps missing-kinds.r) κs)
-    → missing.Post κs a x s → Promise (a .0) Missing (x .next) (countPaper (x .answer) (x .count))
+    → missing.Post κs a x s → Promise (a .0) (Ask Missing) (x .next) (countPaper (x .answer) (x .count))
 missing-is-step κs a x s p = record { paper-is = p .0; next-is = p .1 }
 
 pub held-is-step : (κs : Lfts 0) (a : Dens κs held-kinds.ps) (x : resT held-kinds.r κs .Denot) (s : AtExit (endedOf 0 held-kinds.ps held-kinds.r) κs)
-    → held.Post κs a x s → Promise (a .0) Held (x .next) (countPaper (x .answer) (x .count))
+    → held.Post κs a x s → Promise (a .0) (Ask Held) (x .next) (countPaper (x .answer) (x .count))
 held-is-step κs a x s p = record { paper-is = p .0; next-is = p .1 }
+
+pub between-is-step : (κs : Lfts 0) (a : Dens κs missing-between-kinds.ps) (x : resT missing-between-kinds.r κs .Denot) (s : AtExit (endedOf 0 missing-between-kinds.ps missing-between-kinds.r) κs)
+    → missing-between.Post κs a x s → Promise (a .0) (Ask (Between (a .1 .0 .0) (a .1 .1 .0 .0) (a .1 .1 .1 .0 .0))) (x .next) (countPaper (x .answer) (x .count))
+between-is-step κs a x s p = record { paper-is = p .0; next-is = p .1 }
 
 -- opening a channel gives the fresh ledger that every row of calls starts from, and 0
 pub opened-is-fresh : (κs : Lfts 0) (a : Dens κs opened-kinds.ps) (x : resT opened-kinds.r κs .Denot) (s : AtExit (endedOf 0 opened-kinds.ps opened-kinds.r) κs)

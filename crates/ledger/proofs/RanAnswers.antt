@@ -8,15 +8,16 @@ use mathlib.Core.List.{[], _∷_}
 use Prim.Native.Nat.{ℕ, _≤_}
 use Rattle.terms.specs.Paper.{Paper, answer, refusal}
 use Rattle.ledger_spec.specs.State.{Book}
-use Rattle.ledger_spec.specs.Calls.{Call, Tick, Announce, Request, Reply, Missing, Held, answerTo}
+use Rattle.ledger_spec.specs.Calls.{Call, Tick, Announce, Request, Reply, Ask, Missing, Held, Between, answerTo}
 use Rattle.ledger_spec.specs.Trace.{Calls, after, History, _▸_⇒_, trace}
 use Rattle.ledger_spec.specs.Words.{answered, givesUp, givenUp, knownTop, held, missing, count}
 use Rattle.ledger_spec.specs.Answers.{TickAnswers, AnnounceAnswers, ReplyAnswers}
 use Rattle.ledger_spec.specs.Demand3.{Requests}
+use Rattle.ledger_spec.specs.Between.{BetweenAnswers}
 use Rattle.ledger_spec.specs.GivenUp.{InRange, NamesApart, FloorStands}
 use Rattle.ledger_spec.proofs.Agree.{agrees}
 use Rattle.ledger_spec.proofs.GivenUp.{floor-stands}
-use Rattle.ledger_spec.proofs.Told.{told-tick, told-announce, told-request, told-reply, told-missing, told-held, told-late, told-gives-up, told-names-apart}
+use Rattle.ledger_spec.proofs.Told.{told-tick, told-announce, told-request, told-reply, told-missing, told-held, told-between, told-late, told-gives-up, told-names-apart}
 use Rattle.ledger.specs.State.{bookOf}
 use Rattle.ledger.specs.Trace.{Promise, Ran}
 use Rattle.ledger.specs.declared.Ledger.{Ledger}
@@ -46,11 +47,14 @@ module _ (channel : ℕ) (small : channel ≤ 9999) {calls : Calls} {l : Ledger}
   pub ran-reply : (first status : ℕ) (next : Ledger) (paper : Paper) → Promise l (Reply channel first status) next paper → ReplyAnswers h first status paper
   ran-reply first status next paper p = told-reply channel small calls history-is first status (ran-paper _ next paper p)
 
-  pub ran-missing : (next : Ledger) (paper : Paper) → Promise l Missing next paper → paper ≡ answer 0 (count (missing h) (knownTop h) ∷ [])
+  pub ran-missing : (next : Ledger) (paper : Paper) → Promise l (Ask Missing) next paper → paper ≡ answer 0 (count (missing h) (knownTop h) ∷ [])
   ran-missing next paper p = told-missing channel small calls history-is (ran-paper _ next paper p)
 
-  pub ran-held : (next : Ledger) (paper : Paper) → Promise l Held next paper → paper ≡ answer 0 (count (held h) (knownTop h) ∷ [])
+  pub ran-held : (next : Ledger) (paper : Paper) → Promise l (Ask Held) next paper → paper ≡ answer 0 (count (held h) (knownTop h) ∷ [])
   ran-held next paper p = told-held channel small calls history-is (ran-paper _ next paper p)
+
+  pub ran-between : (x z : ℕ) (next : Ledger) (paper : Paper) → Promise l (Ask (Between channel x z)) next paper → BetweenAnswers h x z paper
+  ran-between x z next paper p = told-between channel small calls history-is x z (ran-paper _ next paper p)
 
   -- the floor after every call
   pub ran-floor-stands : FloorStands h (bookOf l)

@@ -10,7 +10,7 @@ use Rattle.terms.specs.Counters.{tickOf, channelOf}
 use Rattle.tick_map.specs.Bits.{valueOf, bitsIn, mapOf, run}
 use Rattle.tick_map.specs.Ring.{rotated}
 use Rattle.ledger_spec.specs.State.{Asked, nothing, range, has, rangeRules, mapRules, soundOf}
-use Rattle.ledger_spec.specs.Calls.{Call, Tick, Announce, Request, Reply, Missing, Held, ownNumber, checkedOf, numberTo, passes, taken, reach, leaps, gaveUp, handed, replied, raised, waiting, asked, done, missingCount, heldCount, valuesOf, answerTo, fresh, openNumber, openOf}
+use Rattle.ledger_spec.specs.Calls.{Call, Tick, Announce, Request, Reply, Ask, Missing, Held, Between, ownNumber, checkedOf, numberTo, passes, taken, reach, leaps, gaveUp, handed, replied, raised, waiting, asked, done, missingCount, heldCount, betweenCount, valuesOf, answerTo, fresh, openNumber, openOf}
 use Rattle.ledger.specs.State.{bookOf, pendingOf, ledgerOf, nextBy, nextIn}
 use Rattle.ledger.specs.Papers.{tickPaper, requestPaper, replyPaper, paperOf, countPaper, pendingPaper, askedPaper}
 use Rattle.ledger.specs.declared.Ledger.{Ledger}
@@ -30,6 +30,8 @@ use Rattle.ledger.proofs.Ledger.missing.Reads as missing
 use Rattle.ledger.proofs.Ledger.missing.Kinds as missing-kinds
 use Rattle.ledger.proofs.Ledger.held.Reads as held
 use Rattle.ledger.proofs.Ledger.held.Kinds as held-kinds
+use Rattle.ledger.proofs.Ledger.missing_between.Reads as missing-between
+use Rattle.ledger.proofs.Ledger.missing_between.Kinds as missing-between-kinds
 use Rattle.ledger.proofs.Ledger.opened.Reads as opened-reads
 use Rattle.ledger.proofs.Ledger.opened.Kinds as opened-kinds
 
@@ -147,27 +149,51 @@ Ledger-reply-rules-out = ruled (beside papers lists) answered (λ c p. both (p .
 
 abbrev pub Ledger-missing-wrong : List (Row Input Outcome)
 Ledger-missing-wrong =
-    (ledger 0 3 0 nothing, Missing) never (answer 0 (2 ∷ []), seen (ledger 0 3 0 nothing))  -- announce 3, missing 2: a count that is invented
-    ∷ (ledger 0 3 0 nothing, Missing) only (answer 0 (3 ∷ []), seen (ledger 0 3 0 nothing))
-    ∷ (ledger 5 9 (2 ^ 7) nothing, Missing) never (answer 0 (8 ∷ []), seen (ledger 5 9 (2 ^ 7) nothing))  -- delivered numbers counted as missing
-    ∷ (ledger 5 9 (2 ^ 7) nothing, Missing) only (answer 0 (3 ∷ []), seen (ledger 5 9 (2 ^ 7) nothing))  -- held ones are not missing
-    ∷ (ledger 0 1 (2 ^ 1) nothing, Missing) only (answer 13 (0 ∷ []), seen (ledger 0 1 (2 ^ 1) nothing))  -- a state that holds floor + 1 is no state, and no count stands beside 13
+    (ledger 0 3 0 nothing, (Ask Missing)) never (answer 0 (2 ∷ []), seen (ledger 0 3 0 nothing))  -- announce 3, missing 2: a count that is invented
+    ∷ (ledger 0 3 0 nothing, (Ask Missing)) only (answer 0 (3 ∷ []), seen (ledger 0 3 0 nothing))
+    ∷ (ledger 5 9 (2 ^ 7) nothing, (Ask Missing)) never (answer 0 (8 ∷ []), seen (ledger 5 9 (2 ^ 7) nothing))  -- delivered numbers counted as missing
+    ∷ (ledger 5 9 (2 ^ 7) nothing, (Ask Missing)) only (answer 0 (3 ∷ []), seen (ledger 5 9 (2 ^ 7) nothing))  -- held ones are not missing
+    ∷ (ledger 0 1 (2 ^ 1) nothing, (Ask Missing)) only (answer 13 (0 ∷ []), seen (ledger 0 1 (2 ^ 1) nothing))  -- a state that holds floor + 1 is no state, and no count stands beside 13
     ∷ []
 
-pub Ledger-missing-rules-out : RulesOut (Kept _ missing-kinds.ps missing-kinds.r missing.Post) (λ c. (c .args .0, Missing)) (λ c. shown (countPaper (c .result .answer) (c .result .count)) (c .result .next)) Ledger-missing-wrong
+pub Ledger-missing-rules-out : RulesOut (Kept _ missing-kinds.ps missing-kinds.r missing.Post) (λ c. (c .args .0, (Ask Missing))) (λ c. shown (countPaper (c .result .answer) (c .result .count)) (c .result .next)) Ledger-missing-wrong
 unfolding bookOf ledgerOf nextBy rotated mapOf valueOf numberTo ownNumber checkedOf soundOf mapRules rangeRules done missingCount valuesOf answerTo ones
 Ledger-missing-rules-out = ruled (beside papers lists) answered (λ c p. both p) _ refl
 
 abbrev pub Ledger-held-wrong : List (Row Input Outcome)
 Ledger-held-wrong =
-    (ledger 0 3 (2 ^ 2) nothing, Held) never (answer 0 (0 ∷ []), seen (ledger 0 3 (2 ^ 2) nothing))  -- nothing is ever held
-    ∷ (ledger 0 3 (2 ^ 2) nothing, Held) only (answer 0 (1 ∷ []), seen (ledger 0 3 (2 ^ 2) nothing))
-    ∷ (ledger 0 300 (2 ^ 2 + 2 ^ 10) nothing, Held) only (answer 0 (2 ∷ []), seen (ledger 0 300 (2 ^ 2 + 2 ^ 10) nothing))
+    (ledger 0 3 (2 ^ 2) nothing, (Ask Held)) never (answer 0 (0 ∷ []), seen (ledger 0 3 (2 ^ 2) nothing))  -- nothing is ever held
+    ∷ (ledger 0 3 (2 ^ 2) nothing, (Ask Held)) only (answer 0 (1 ∷ []), seen (ledger 0 3 (2 ^ 2) nothing))
+    ∷ (ledger 0 300 (2 ^ 2 + 2 ^ 10) nothing, (Ask Held)) only (answer 0 (2 ∷ []), seen (ledger 0 300 (2 ^ 2 + 2 ^ 10) nothing))
     ∷ []
 
-pub Ledger-held-rules-out : RulesOut (Kept _ held-kinds.ps held-kinds.r held.Post) (λ c. (c .args .0, Held)) (λ c. shown (countPaper (c .result .answer) (c .result .count)) (c .result .next)) Ledger-held-wrong
+pub Ledger-held-rules-out : RulesOut (Kept _ held-kinds.ps held-kinds.r held.Post) (λ c. (c .args .0, (Ask Held))) (λ c. shown (countPaper (c .result .answer) (c .result .count)) (c .result .next)) Ledger-held-wrong
 unfolding bookOf ledgerOf nextBy rotated mapOf valueOf numberTo ownNumber checkedOf soundOf mapRules rangeRules done heldCount valuesOf answerTo ones
 Ledger-held-rules-out = ruled (beside papers lists) answered (λ c p. both p) _ refl
+
+-- A SPAN: both its ends count
+abbrev pub Ledger-missing-between-wrong : List (Row Input Outcome)
+Ledger-missing-between-wrong =
+    (ledger 5 9 (2 ^ 7) nothing, Ask (Between 100 1 9)) never (answer 0 (4 ∷ []), seen (ledger 5 9 (2 ^ 7) nothing))  -- held numbers counted as missing: the map is not looked at
+    ∷ (ledger 5 9 (2 ^ 7) nothing, Ask (Between 100 1 9)) only (answer 0 (3 ∷ []), seen (ledger 5 9 (2 ^ 7) nothing))
+    ∷ (ledger 5 9 (2 ^ 7) nothing, Ask (Between 100 5 6)) only (answer 0 (1 ∷ []), seen (ledger 5 9 (2 ^ 7) nothing))  -- not counted from the floor's number on, nor one short at b
+    ∷ (ledger 5 9 (2 ^ 7) nothing, Ask (Between 100 8 20)) never (answer 0 (13 ∷ []), seen (ledger 5 9 (2 ^ 7) nothing))  -- numbers above the top counted
+    ∷ (ledger 5 9 (2 ^ 7) nothing, Ask (Between 100 8 20)) never (answer 0 (3 ∷ []), seen (ledger 5 9 (2 ^ 7) nothing))  -- what is missing in all, for every span
+    ∷ (ledger 5 9 (2 ^ 7) nothing, Ask (Between 100 8 20)) only (answer 0 (2 ∷ []), seen (ledger 5 9 (2 ^ 7) nothing))
+    ∷ (ledger 5 9 (2 ^ 7) nothing, Ask (Between 100 7 7)) only (answer 0 (0 ∷ []), seen (ledger 5 9 (2 ^ 7) nothing))
+    ∷ (ledger 5 9 (2 ^ 7) nothing, Ask (Between 100 8 6)) never (answer 10 (0 ∷ []), seen (ledger 5 9 (2 ^ 7) nothing))  -- an empty span refused
+    ∷ (ledger 5 9 (2 ^ 7) nothing, Ask (Between 100 8 6)) only (answer 0 (0 ∷ []), seen (ledger 5 9 (2 ^ 7) nothing))  -- and it is no huge number
+    ∷ (ledger 5 9 (2 ^ 7) nothing, Ask (Between 101 0 6)) only (answer 18 (0 ∷ []), seen (ledger 5 9 (2 ^ 7) nothing))  -- 18 before 10
+    ∷ (ledger 5 9 (2 ^ 7) nothing, Ask (Between 100 0 6)) only (answer 10 (0 ∷ []), seen (ledger 5 9 (2 ^ 7) nothing))
+    ∷ (ledger 5 9 (2 ^ 7) nothing, Ask (Between 100 6 1000000000000000000)) only (answer 10 (0 ∷ []), seen (ledger 5 9 (2 ^ 7) nothing))  -- 10 also for b alone
+    ∷ (ledger 5 9 (2 ^ 6) nothing, Ask (Between 100 6 9)) only (answer 13 (0 ∷ []), seen (ledger 5 9 (2 ^ 6) nothing))  -- no count beside 13
+    ∷ (ledger 5 999999999999999999 0 nothing, Ask (Between 100 300 100000000000000000)) only (answer 0 (99999999999999701 ∷ []), seen (ledger 5 999999999999999999 0 nothing))
+    ∷ (ledger 254 400 (2 ^ 1) nothing, Ask (Between 100 200 310)) only (answer 0 (55 ∷ []), seen (ledger 254 400 (2 ^ 1) nothing))  -- over the ring's edge: 257 is held at place 1
+    ∷ []
+
+pub Ledger-missing-between-rules-out : RulesOut (Kept _ missing-between-kinds.ps missing-between-kinds.r missing-between.Post) (λ c. (c .args .0, Ask (Between (c .args .1 .0 .0) (c .args .1 .1 .0 .0) (c .args .1 .1 .1 .0 .0)))) (λ c. shown (countPaper (c .result .answer) (c .result .count)) (c .result .next)) Ledger-missing-between-wrong
+unfolding bookOf ledgerOf nextBy rotated mapOf valueOf numberTo ownNumber checkedOf soundOf mapRules rangeRules done betweenCount valuesOf answerTo ones
+Ledger-missing-between-rules-out = ruled (beside papers lists) answered (λ c p. both p) _ refl
 
 abbrev pub Ledger-opened-wrong : List (Row ℕ Outcome)
 Ledger-opened-wrong =

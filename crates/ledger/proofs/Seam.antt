@@ -4,7 +4,7 @@ use mathlib.Core.Path.{_≡_, refl, sym, ap, ap₂, _∙_, subst}
 use mathlib.Core.Bool.{Bool, true, false, _&&_, not}
 use mathlib.Core.Logic.{⊎-elim}
 use Prim.Native.Nat.{ℕ, _+_, _-_, _/_, _%_, _^_, _≤_, _<_, min, max}
-use native.Mathlib.Nat.{add-zero, lt-of-le-of-lt, mod-lt, le-of-lt, mod-eq-of-lt, div-eq-of-lt, div-one, zero-div}
+use native.Mathlib.Nat.{add-zero, mod-le, lt-of-le-of-lt, mod-lt, le-of-lt, mod-eq-of-lt, div-eq-of-lt, div-one, zero-div}
 use native.Mathlib.Decide.{decLt, decLe}
 use native.Mathlib.Omega.{arith}
 use borrow.Author.Tests.{eq-eqb, ne-eqb}
@@ -29,7 +29,7 @@ use Rattle.tick_map.proofs.Ring.{bit-mod, rotated-round, rotated-none, none-out
 use Rattle.tick_map.proofs.Stretch.{without-down, only-lt, only-read}
 use Rattle.ledger_spec.specs.State.{Asked, nothing, range, Book, largest, mapRules, soundOf, StateRules}
 use Rattle.ledger.specs.State.{askedOf, pendingOf, bookOf, ledgerOf, topped, nextBy, nextIn, laidFrom}
-use Rattle.ledger_spec.specs.Calls.{Call, Announce, Request, Reply, replyStatus, isPending, startsAt, elsewhere, ownNumber, checkedOf, marked, passes, taken, covered, leaps, gaveUp, handed, replied, waiting, fresh, done, raised, offered, valuesOf, beside, numberTo, answerTo, nextOf}
+use Rattle.ledger_spec.specs.Calls.{Call, Announce, Request, Reply, Question, Ask, Missing, Held, Between, tickNumber, replyStatus, isPending, startsAt, elsewhere, ownNumber, checkedOf, marked, passes, taken, covered, leaps, gaveUp, handed, replied, betweenCount, waiting, fresh, done, raised, offered, valuesOf, beside, numberTo, answerTo, nextOf}
 use Rattle.ledger.specs.Papers.{verdictNumber}
 use Rattle.ledger.specs.declared.Ledger.{Ledger}
 use Rattle.ledger.specs.declared.Verdict.{Verdict}
@@ -86,6 +86,93 @@ place-bit l w n lo hi =
 pub place-none : (l : Ledger) → Words (l .map .words) → (n : ℕ) → l .floor .0 + 256 < n → bit (bookOf l .bits) (n - l .floor .0 - 1) ≡ 0
 unfolding bookOf
 place-none l w n h = bit-above 256 (n - l .floor .0 - 1) (rotated-lt (l .floor .0 + 1) (bitsIn (l .map)) (list-lt (l .map .words) w)) (omega arith)
+
+-- ---- a stretch of the map, from `off` places behind floor + 1 on
+
+module _ (l : Ledger) (w : Words (l .map .words)) (off width : ℕ) (near : off < 256) where
+  abbrev number : ℕ
+  number = bitsIn (l .map)
+
+  small-map : bitsIn (l .map) < 2 ^ 256
+  small-map = list-lt (l .map .words) w
+
+  book-small : bookOf l .bits < 2 ^ 256
+  unfolding bookOf
+  book-small = rotated-lt (l .floor .0 + 1) number small-map
+
+  -- the code's count goes no further than floor + 256
+  abbrev reached : ℕ
+  reached = min width (256 - off)
+
+  part-digit : (i : ℕ) → i < 256 - off → bit (rotated (l .floor .0 + 1 + off) (bitsIn (l .map))) i ≡ bit (bookOf l .bits) (off + i)
+  unfolding bookOf
+  part-digit i h =
+      let e : (l .floor .0 + 1 + off + i) % 256 ≡ (l .floor .0 + 1 + (off + i)) % 256 = omega arith in
+      rotated-bit (l .floor .0 + 1 + off) number small-map i (omega arith) ∙ ap (bit number) e ∙ sym (rotated-bit (l .floor .0 + 1) number small-map (off + i) (omega arith))
+
+  off-is : min 256 off ≡ off
+  off-is = omega arith
+
+  behind : (i : ℕ) → i < min 256 width → bit (bookOf l .bits / 2 ^ min 256 off % 2 ^ min 256 width) i ≡ bit (bookOf l .bits) (off + i)
+  behind i h = bit-mod (bookOf l .bits / 2 ^ min 256 off) (min 256 width) i h ∙ bit-shr (bookOf l .bits) (min 256 off) i ∙ ap (λ (x : ℕ). bit (bookOf l .bits) (x + i)) off-is
+
+  none-behind : (i : ℕ) → reached ≤ i → bit (bookOf l .bits / 2 ^ min 256 off % 2 ^ min 256 width) i ≡ 0
+  none-behind i h = elim (decLt i (min 256 width)) [
+    | yes p ↦ behind i p ∙ bit-above 256 (off + i) book-small (omega arith)
+    | no p ↦ bit-above (min 256 width) i (mod-lt _ (pow-pos (min 256 width))) (omega arith)
+  ]
+
+  pub stretch-of : rotated (l .floor .0 + 1 + off) (bitsIn (l .map)) % 2 ^ min width (256 - off) ≡ bookOf l .bits / 2 ^ min 256 off % 2 ^ min 256 width
+  stretch-of =
+      bit-ext 256 _ _ (lt-of-le-of-lt (mod-le _ (2 ^ reached)) (rotated-lt (l .floor .0 + 1 + off) number small-map))
+      (lt-of-le-of-lt (mod-le _ (2 ^ min 256 width)) (lt-of-le-of-lt (shr-le (bookOf l .bits) (min 256 off)) book-small))
+      (λ i q. elim (decLt i reached) [
+        | yes p ↦ bit-mod (rotated (l .floor .0 + 1 + off) number) reached i p ∙ part-digit i (omega arith) ∙ sym (behind i (omega arith))
+        | no p ↦ bit-above reached i (mod-lt _ (pow-pos reached)) (omega arith) ∙ sym (none-behind i (omega arith))
+      ])
+
+-- ---- how many from one number to another are missing
+
+less-none : (x n : ℕ) → n ≡ 0 → x ≡ x - n
+less-none x n e = omega (arith, e)
+
+module _ (l : Ledger) (w : Words (l .map .words)) (from to low high : ℕ) (low-is : low ≡ max from (l .floor .0 + 1)) (high-is : high ≡ min to (l .top .0)) where
+  -- the definition, by the two ends
+  abbrev counted : ℕ → ℕ → ℕ
+  counted x y = y + 1 - x - ones (bookOf l .bits / 2 ^ min 256 (x - l .floor .0 - 1) % 2 ^ min 256 (y + 1 - x))
+
+  by-ends : counted low high ≡ betweenCount (bookOf l) from to
+  unfolding betweenCount bookOf
+  by-ends = ap₂ counted low-is high-is
+
+  -- no number of the span lies above the floor and not above the top
+  pub between-none : high < low → 0 ≡ betweenCount (bookOf l) from to
+  between-none h = let e : high + 1 - low ≡ 0 = omega arith in let u : counted low high ≡ 0 = omega (arith, e) in sym u ∙ by-ends
+
+  none-set : ones 0 ≡ 0
+  unfolding ones
+  none-set = refl
+
+  -- nor is any held, from floor + 257 on
+  pub between-far : 256 ≤ low - l .floor .0 - 1 → high + 1 - low ≡ betweenCount (bookOf l) from to
+  unfolding bookOf
+  between-far h =
+      let o : min 256 (low - l .floor .0 - 1) ≡ 256 = omega (arith, h) in
+      let z : bookOf l .bits / 2 ^ min 256 (low - l .floor .0 - 1) % 2 ^ min 256 (high + 1 - low) ≡ 0 =
+      ap (λ (x : ℕ). bookOf l .bits / 2 ^ x % 2 ^ min 256 (high + 1 - low)) o
+      ∙ ap (λ (x : ℕ). x % 2 ^ min 256 (high + 1 - low)) (div-eq-of-lt (rotated-lt (l .floor .0 + 1) (bitsIn (l .map)) (list-lt (l .map .words) w))) ∙ mod-eq-of-lt (pow-pos (min 256 (high + 1 - low))) in
+      let n : high + 1 - low ≡ high + 1 - low - ones 0 = less-none (high + 1 - low) (ones 0) none-set in
+      n ∙ sym (ap (λ (x : ℕ). high + 1 - low - ones x) z) ∙ by-ends
+
+  -- else the code counts a stretch of the map
+  above-floor : l .floor .0 + 1 ≤ low
+  above-floor = omega (arith, low-is)
+
+  pub between-near : low - l .floor .0 - 1 < 256 → high + 1 - low - ones (rotated low (bitsIn (l .map)) % 2 ^ min (high + 1 - low) (256 - (low - l .floor .0 - 1))) ≡ betweenCount (bookOf l) from to
+  between-near h =
+      let at : low ≡ l .floor .0 + 1 + (low - l .floor .0 - 1) = omega (arith, above-floor) in
+      ap (λ (s : ℕ). high + 1 - low - ones (rotated s (bitsIn (l .map)) % 2 ^ min (high + 1 - low) (256 - (low - l .floor .0 - 1)))) at
+      ∙ ap (λ (v : ℕ). high + 1 - low - ones v) (stretch-of l w (low - l .floor .0 - 1) (high + 1 - low) h) ∙ by-ends
 
 -- ---- the state rules of a map, by what the code asks it
 
@@ -397,6 +484,19 @@ request-not-12 b channel =
     checked-not-12 b (Request channel)
     (pick-cases (λ k. eqb k 12 ≡ false) (isPending (b .pending)) 14 (pick (eqb (b .top) (b .floor)) 15 0) (λ e. refl)
     (λ e. pick-cases (λ k. eqb k 12 ≡ false) (eqb (b .top) (b .floor)) 15 0 (λ g. refl) (λ g. refl)))
+
+pub question-not-12 : (b : Book) (q : Question) → eqb (numberTo b (Ask q)) 12 ≡ false
+unfolding ownNumber
+question-not-12 b Missing = checked-not-12 b (Ask Missing) refl
+question-not-12 b Held = checked-not-12 b (Ask Held) refl
+question-not-12 b (Between channel a z) =
+    checked-not-12 b (Ask (Between channel a z)) (pick-cases (λ k. eqb k 12 ≡ false) (not (tickNumber a && tickNumber z)) 10 0 (λ e. refl) (λ e. refl))
+
+-- and no question changes the book
+pub question-next : (b : Book) (q : Question) → nextOf b (Ask q) ≡ b
+unfolding nextOf done
+question-next b q =
+    ⊎-elim (λ (t : eqb (numberTo b (Ask q)) 0 ≡ true). rw t) (λ (f : eqb (numberTo b (Ask q)) 0 ≡ false). rw (f, question-not-12 b q)) (two (eqb (numberTo b (Ask q)) 0))
 
 pub reply-not-12 : (b : Book) (channel first status : ℕ) → eqb (numberTo b (Reply channel first status)) 12 ≡ false
 unfolding ownNumber

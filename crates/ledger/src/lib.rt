@@ -2,7 +2,7 @@
 // to ask for. Every call takes the ledger, sound or not, and gives back the next one
 // beside its answer.
 ghost use mathlib.Core.Path.{_≡_};
-ghost use mathlib.Core.Bool.{true, not};
+ghost use mathlib.Core.Bool.{true, _&&_, not};
 ghost use mathlib.Core.List.{[], _∷_};
 ghost use Prim.Native.Nat.{_+_, _-_, _≤_, _<_, min, max};
 ghost use lib.Dec.{eqb};
@@ -12,7 +12,7 @@ ghost use Rattle.tick_map.specs.Bits.{bitsIn};
 ghost use Rattle.tick_map.specs.Ring.{rotated};
 ghost use Rattle.ledger_spec.specs.State.{range, largest, rangeRules, mapRules, soundOf};
 ghost use Rattle.ledger.specs.State.{askedOf, bookOf, ledgerOf, topped, nextIn, laidFrom};
-ghost use Rattle.ledger_spec.specs.Calls.{Tick, Announce, Request, Reply, Missing, Held, replyStatus, startsAt, ownNumber, checkedOf, passes, taken, lastOf, reach, gaveUp, handed, replied, waiting, asked, answerTo, openNumber, openOf, fresh};
+ghost use Rattle.ledger_spec.specs.Calls.{Tick, Announce, Request, Reply, Ask, Missing, Held, Between, tickNumber, replyStatus, startsAt, ownNumber, checkedOf, passes, taken, lastOf, reach, gaveUp, handed, replied, waiting, asked, betweenCount, answerTo, openNumber, openOf, fresh};
 ghost use Rattle.ledger.specs.Papers.{tickPaper, requestPaper, replyPaper, paperOf, countPaper, verdictNumber};
 use terms::ChannelNumber;
 use terms::Refusal;
@@ -166,6 +166,29 @@ fn map_sound(map: Map, from: u64, known: u64) -> bool
         return false;
     }
     257 - known <= map.first_from(from % 256 + known)
+}
+
+// A number of 1 to 18 digits.
+fn tick_number(n: u64) -> bool
+    ensures { λ r. ⌜ r ≡ tickNumber n ⌝ }
+{
+    if n < 1 {
+        return false;
+    }
+    n <= LARGEST
+}
+
+// 10 of a span, whichever of its ends is wrong.
+fn span_verdict(from: u64, to: u64) -> Verdict
+    ensures { λ r. ⌜ verdictNumber r ≡ pick (not (tickNumber from && tickNumber to)) 10 0 ⌝ }
+{
+    if !tick_number(from) {
+        return Verdict::Bad(Refusal::Range);
+    }
+    if !tick_number(to) {
+        return Verdict::Bad(Refusal::Range);
+    }
+    Verdict::Fine
 }
 
 impl Pending {
@@ -552,25 +575,25 @@ impl Ledger {
         }
     }
 
-    // A count of a broken state: 13, and 0 beside it.
-    fn uncounted(self) -> Counted
-        ensures { λ r. ⌜ (countPaper (r .answer) (r .count) ≡ answer 13 (0 ∷ []))
+    // A refused count: 0 stands beside its number.
+    fn uncounted(self, why: Refusal) -> Counted
+        ensures { λ r. ⌜ (countPaper (r .answer) (r .count) ≡ answer (numberOf why) (0 ∷ []))
             × (r .next ≡ self) ⌝ }
     {
         Counted {
             next: self,
             count: 0,
-            answer: Answer::Refused(Refusal::State),
+            answer: Answer::Refused(why),
         }
     }
 
     // How many numbers up to the top are missing. Refusal 13.
     pub fn missing(self) -> Counted
-        ensures { λ r. ⌜ (countPaper (r .answer) (r .count) ≡ answerTo (bookOf self) Missing)
-            × (r .next ≡ nextIn self Missing) ⌝ }
+        ensures { λ r. ⌜ (countPaper (r .answer) (r .count) ≡ answerTo (bookOf self) (Ask Missing))
+            × (r .next ≡ nextIn self (Ask Missing)) ⌝ }
     {
         if !self.sound() {
-            return self.uncounted();
+            return self.uncounted(Refusal::State);
         }
         let floor = self.floor.value();
         let top = self.top.value();
@@ -585,11 +608,11 @@ impl Ledger {
 
     // How many numbers above the floor are held. Refusal 13.
     pub fn held(self) -> Counted
-        ensures { λ r. ⌜ (countPaper (r .answer) (r .count) ≡ answerTo (bookOf self) Held)
-            × (r .next ≡ nextIn self Held) ⌝ }
+        ensures { λ r. ⌜ (countPaper (r .answer) (r .count) ≡ answerTo (bookOf self) (Ask Held))
+            × (r .next ≡ nextIn self (Ask Held)) ⌝ }
     {
         if !self.sound() {
-            return self.uncounted();
+            return self.uncounted(Refusal::State);
         }
         let map = self.map;
         let held = map.held();
@@ -597,6 +620,55 @@ impl Ledger {
             next: self,
             count: held,
             answer: Answer::Done,
+        }
+    }
+
+    // How many numbers from `from` to `to` lie above the floor and not above the top and are not
+    // held. The map has places for floor + 1 to floor + 256 alone, and from the place of `low` on
+    // they end before the count comes round.
+    fn between(self, from: u64, to: u64) -> u64
+        requires { ⌜ (self .floor .0 ≤ self .top .0) × (self .top .0 ≤ largest) × (from ≤ largest) ⌝ }
+        ensures { λ r. ⌜ r ≡ betweenCount (bookOf self) from to ⌝ }
+    {
+        let floor = self.floor.value();
+        let top = self.top.value();
+        let map = self.map;
+        let low = larger(from, floor + 1);
+        let high = smaller(to, top);
+        if high < low {
+            return 0;
+        }
+        let width = high + 1 - low;
+        let off = low - floor - 1;
+        if 256 <= off {
+            return width;
+        }
+        width - map.held_from(low, smaller(width, 256 - off))
+    }
+
+    // A count that is answered.
+    fn counted(self, count: u64) -> Counted
+        ensures { λ r. ⌜ (countPaper (r .answer) (r .count) ≡ answer 0 (count ∷ [])) × (r .next ≡ self) ⌝ }
+    {
+        Counted {
+            next: self,
+            count,
+            answer: Answer::Done,
+        }
+    }
+
+    // How many numbers from a to b, both counted, are missing; none are where b is below a. 13, 18,
+    // 10.
+    pub fn missing_between(self, channel: ChannelNumber, a: TickNumber, b: TickNumber) -> Counted
+        ensures { λ r. ⌜ (countPaper (r .answer) (r .count) ≡ answerTo (bookOf self) (Ask (Between (channel .0) (a .0) (b .0))))
+            × (r .next ≡ nextIn self (Ask (Between (channel .0) (a .0) (b .0)))) ⌝ }
+    {
+        let from = a.value();
+        let to = b.value();
+        let verdict = self.checked(channel, span_verdict(from, to));
+        match verdict {
+            Verdict::Bad(why) => self.uncounted(why),
+            Verdict::Fine => self.counted(self.between(from, to)),
         }
     }
 }

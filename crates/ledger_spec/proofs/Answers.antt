@@ -12,7 +12,7 @@ use lib.Dec.{eqb, leb, ltb}
 use Rattle.terms.specs.Cases.{clash}
 use Rattle.terms.specs.Paper.{answer, pick}
 use Rattle.ledger_spec.specs.State.{Asked, range, Book, largest, has, StateRules}
-use Rattle.ledger_spec.specs.Calls.{Call, Tick, Announce, Request, Reply, Missing, Held, offered, ownNumber, numberTo, passes, lastOf, reach, gaveUp, handed, beside, raised, done, valuesOf, nextAt, answerAt, answerTo, nextOf}
+use Rattle.ledger_spec.specs.Calls.{Call, Tick, Announce, Request, Reply, Ask, Missing, Held, Between, offered, ownNumber, numberTo, passes, lastOf, reach, gaveUp, handed, beside, raised, done, valuesOf, nextAt, answerAt, answerTo, nextOf}
 use Rattle.ledger_spec.specs.Given.{Own}
 use Rattle.ledger_spec.specs.Trace.{Calls, after, History, trace}
 use Rattle.ledger_spec.specs.Words.{answered, received, inSet, settled, pending, floorOf}
@@ -48,8 +48,9 @@ module _ (h : History) (channel : ℕ) (b : Book) (a : Agrees h channel b) where
       not-own (Announce c n) f o = f (o ∙ a .channel-is)
       not-own (Request c) f o = f (o ∙ a .channel-is)
       not-own (Reply c x s) f o = f (o ∙ a .channel-is)
-      not-own Missing f o = f
-      not-own Held f o = f
+      not-own (Ask Missing) f o = f
+      not-own (Ask Held) f o = f
+      not-own (Ask (Between c x y)) f o = f (o ∙ a .channel-is)
 
   -- a tick that is done
   tick-number-0 : (n : ℕ) → 1 ≤ n → n ≤ largest → has b n ≡ false → n ≤ b .floor + 256 → numberTo b (Tick channel n) ≡ 0
@@ -148,8 +149,9 @@ broken-13 b f =
       announcement = λ channel n. at (Announce channel n);
       request = λ channel. at (Request channel);
       reply = λ channel first status. at (Reply channel first status);
-      missing-0 = at Missing;
-      held-0 = at Held;
+      between-0 = λ channel x y. at (Ask (Between channel x y));
+      missing-0 = at (Ask Missing);
+      held-0 = at (Ask Held);
     }
   where
     at : (call : Call) → answerTo b call ≡ answerAt b call 13

@@ -17,7 +17,7 @@ use Rattle.terms.specs.Paper.{Paper, answer, refusal, pick}
 use Rattle.tick_map.specs.Bits.{bit, isSet, tally}
 use Rattle.tick_map.proofs.Digits.{bit-lt, trailing-passed, trailing-stopped, tally-ext, ones-tally}
 use Rattle.ledger_spec.specs.State.{Asked, nothing, range, Book, orElse, has, StateRules}
-use Rattle.ledger_spec.specs.Calls.{Request, Missing, Held, isPending, elsewhere, ownNumber, asked, heldCount, missingCount, valuesOf, answerAt, answerTo}
+use Rattle.ledger_spec.specs.Calls.{Request, Ask, Missing, Held, isPending, elsewhere, ownNumber, asked, heldCount, missingCount, valuesOf, answerAt, answerTo}
 use Rattle.ledger_spec.specs.Trace.{Calls, after, History, trace}
 use Rattle.ledger_spec.specs.Words.{received, givenUp, settled, numbers, handedOut, knownTop, pending, isIn, delivered, held, missing, one, count, floorOf}
 use Rattle.ledger_spec.specs.Demand3.{Deliveries, missingIn, MissingNumbers, LowestRun, Requests, Counts, Shown, Demand3}
@@ -31,7 +31,7 @@ use Rattle.ledger_spec.proofs.Agree.{Agrees, has-is, high-not, high-has
 -- ---- counts in two parts
 
 -- those that are and those that are not make all
-rest : (p : ℕ → Bool) (k : ℕ) → tally (λ i. one (p i)) k + tally (λ i. one (not (p i))) k ≡ k
+pub rest : (p : ℕ → Bool) (k : ℕ) → tally (λ i. one (p i)) k + tally (λ i. one (not (p i))) k ≡ k
 unfolding tally
 rest p zero = refl
 rest p (suc k) = omega (arith, rest (λ i. p (suc i)) k, single (p 0))
@@ -93,7 +93,7 @@ module _ (b : Book) where
   unfolding missingIn
   missing-had n e = simp e (ap (ltb (b .floor) n &&_) (and-false (leb n (b .top))) ∙ and-false (ltb (b .floor) n))
 
-  missing-known : (n : ℕ) → b .floor < n → missingIn b n ≡ leb n (b .top) && not (has b n)
+  pub missing-known : (n : ℕ) → b .floor < n → missingIn b n ≡ leb n (b .top) && not (has b n)
   unfolding missingIn
   missing-known n q = simp (lt-ltb _ _ q)
 
@@ -357,13 +357,13 @@ module _ (h : History) (channel : ℕ) (b : Book) (a : Agrees h channel b) where
   received-count = count-two (delivered h) (held h) (received h) (b .top) (λ n p q. two-parts (delivered h n) (received h n) (delivered-received n))
 
   -- what the two counts are answered
-  held-answer : answerTo b Held ≡ answer 0 (ones (b .bits) ∷ [])
+  held-answer : answerTo b (Ask Held) ≡ answer 0 (ones (b .bits) ∷ [])
   unfolding answerTo valuesOf heldCount ownNumber
-  held-answer = rw (checked-test b Held (a .rules) refl)
+  held-answer = rw (checked-test b (Ask Held) (a .rules) refl)
 
-  missing-answer : answerTo b Missing ≡ answer 0 ((b .top - b .floor - ones (b .bits)) ∷ [])
+  missing-answer : answerTo b (Ask Missing) ≡ answer 0 ((b .top - b .floor - ones (b .bits)) ∷ [])
   unfolding answerTo valuesOf missingCount ownNumber
-  missing-answer = rw (checked-test b Missing (a .rules) refl)
+  missing-answer = rw (checked-test b (Ask Missing) (a .rules) refl)
 
   counts : Counts h b
   counts =

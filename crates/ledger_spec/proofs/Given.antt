@@ -2,18 +2,18 @@
 -- before pass and the one of m fails; each test of the row is the fact that the document names.
 -- Assumes nothing.
 use mathlib.Core.Path.{_≡_, refl, sym, ap, _∙_}
-use mathlib.Core.Logic.{_⊎_, inl, inr, _↔_}
+use mathlib.Core.Logic.{_⊎_, inl, inr, ⊎-elim, _↔_}
 use mathlib.Core.Bool.{Bool, true, false, _&&_, not}
 use Prim.Native.Nat.{ℕ, zero, suc, _+_, _≤_, _<_}
 use native.Mathlib.Decide.{decLe}
 use native.Mathlib.Omega.{arith}
 use borrow.Author.Tests.{not-false, eq-eqb, le-leb, lt-leb, lt-ltb, eqb-true, leb-true, ltb-true, not-true, ltb-false, eqb-false, le-ltb, ne-eqb}
 use lib.Dec.{eqb, leb, ltb}
-use Rattle.terms.specs.Cases.{clash}
+use Rattle.terms.specs.Cases.{two, clash}
 use Rattle.terms.specs.Paper.{pick}
 use Rattle.ledger_spec.specs.State.{Asked, nothing, range, Book, orElse, largest, has, soundOf, StateRules}
-use Rattle.ledger_spec.specs.Calls.{Call, Tick, Announce, Request, Reply, Missing, Held, tickNumber, replyStatus, isPending, startsAt, elsewhere, ownNumber, checkedOf, numberTo, openNumber}
-use Rattle.ledger_spec.specs.Given.{Own, HeldAt, SettledAt, MissingAt, StatusRight, Given18, Given10Tick, Given10Announcement, Given11, Given12, Given14, Given15, Given17, Given16, Fine, Given0}
+use Rattle.ledger_spec.specs.Calls.{Call, Tick, Announce, Request, Reply, Ask, Missing, Held, Between, tickNumber, replyStatus, isPending, startsAt, elsewhere, ownNumber, checkedOf, numberTo, openNumber}
+use Rattle.ledger_spec.specs.Given.{Own, HeldAt, SettledAt, MissingAt, StatusRight, Given18, Given10Tick, Given10Announcement, Given10Between, Given11, Given12, Given14, Given15, Given17, Given16, FineBetween, Fine, Given0}
 use Rattle.ledger_spec.proofs.Tests.{true-of, false-of, both, and-false, pick-cases, skip, hit}
 use Rattle.ledger_spec.proofs.Rules.{has-below, has-above, rules-facts, rules-test, broken-test}
 use Rattle.ledger_spec.proofs.Numbers.{checked-facts, checked-test, numbered}
@@ -31,16 +31,18 @@ own-test b (Tick channel n) e = ap not (eq-eqb channel (b .channel) e)
 own-test b (Announce channel n) e = ap not (eq-eqb channel (b .channel) e)
 own-test b (Request channel) e = ap not (eq-eqb channel (b .channel) e)
 own-test b (Reply channel first status) e = ap not (eq-eqb channel (b .channel) e)
-own-test b Missing e = refl
-own-test b Held e = refl
+own-test b (Ask Missing) e = refl
+own-test b (Ask Held) e = refl
+own-test b (Ask (Between channel a z)) e = ap not (eq-eqb channel (b .channel) e)
 
 own-fact : (b : Book) (call : Call) → elsewhere b call ≡ false → Own b call
 own-fact b (Tick channel n) e = eqb-true channel (b .channel) (not-false _ e)
 own-fact b (Announce channel n) e = eqb-true channel (b .channel) (not-false _ e)
 own-fact b (Request channel) e = eqb-true channel (b .channel) (not-false _ e)
 own-fact b (Reply channel first status) e = eqb-true channel (b .channel) (not-false _ e)
-own-fact b Missing e = tt
-own-fact b Held e = tt
+own-fact b (Ask Missing) e = tt
+own-fact b (Ask Held) e = tt
+own-fact b (Ask (Between channel a z)) e = eqb-true channel (b .channel) (not-false _ e)
 
 pub tick-test : (n : ℕ) → 1 ≤ n → n ≤ largest → tickNumber n ≡ true
 tick-test n p q = simp (le-leb _ _ p, le-leb _ _ q)
@@ -128,8 +130,9 @@ own-proper b (Request channel) =
 own-proper b (Reply channel first status) =
     pick-cases (λ k. proper k ≡ true) (not (replyStatus status)) 17 (pick (not (startsAt (b .pending) first)) 16 0) (λ e. refl)
     (λ e. pick-cases (λ k. proper k ≡ true) (not (startsAt (b .pending) first)) 16 0 (λ g. refl) (λ g. refl))
-own-proper b Missing = refl
-own-proper b Held = refl
+own-proper b (Ask Missing) = refl
+own-proper b (Ask Held) = refl
+own-proper b (Ask (Between channel a z)) = pick-cases (λ k. proper k ≡ true) (not (tickNumber a && tickNumber z)) 10 0 (λ e. refl) (λ e. refl)
 
 own-not : (b : Book) (call : Call) (m : ℕ) → proper m ≡ false → ownNumber b call ≡ m → ⊥
 own-not b call m p e = clash (ap proper (sym e) ∙ own-proper b call) p
@@ -312,6 +315,39 @@ given-16 b channel first status = (λ e. to e, λ g. from g)
         checked-test b (Reply channel first status) (g .rules) (own-test b (Reply channel first status) (g .own))
         ∙ simp (status-test status (g .right), false-of (startsAt (b .pending) first) (λ e. let s = starts-fact (b .pending) first e in g .unasked (s .last) (s .is)))
 
+-- ---- 10 of a span
+
+bad-span-test : (a z : ℕ) → ((a ≡ 0) ⊎ (largest < a)) ⊎ ((z ≡ 0) ⊎ (largest < z)) → tickNumber a && tickNumber z ≡ false
+bad-span-test a z (inl h) = ap (λ (x : Bool). x && tickNumber z) (bad-tick-test a h)
+bad-span-test a z (inr h) = ap (λ (x : Bool). tickNumber a && x) (bad-tick-test z h) ∙ and-false (tickNumber a)
+
+bad-span-fact : (a z : ℕ) → tickNumber a && tickNumber z ≡ false → ((a ≡ 0) ⊎ (largest < a)) ⊎ ((z ≡ 0) ⊎ (largest < z))
+bad-span-fact a z e =
+    ⊎-elim (λ (t : tickNumber a ≡ true). inr (bad-tick-fact z (sym (ap (λ (x : Bool). x && tickNumber z) t) ∙ e))) (λ (f : tickNumber a ≡ false). inl (bad-tick-fact a f)) (two (tickNumber a))
+
+span-right : (a z : ℕ) → tickNumber a && tickNumber z ≡ true → FineBetween a z
+span-right a z e =
+    let t = both (tickNumber a) (tickNumber z) e in
+    let x = numbered a (t .0) in
+    let y = numbered z (t .1) in
+    record { from-above = x .0; from-digits = x .1; to-above = y .0; to-digits = y .1 }
+
+pub span-wrong : (a z : ℕ) → (FineBetween a z → ⊥) → ((a ≡ 0) ⊎ (largest < a)) ⊎ ((z ≡ 0) ⊎ (largest < z))
+span-wrong a z n = bad-span-fact a z (false-of (tickNumber a && tickNumber z) (λ e. n (span-right a z e)))
+
+pub given-10-between : (b : Book) (channel a z : ℕ) → (numberTo b (Ask (Between channel a z)) ≡ 10) ↔ Given10Between b channel a z
+unfolding ownNumber
+given-10-between b channel a z = (λ e. to e, λ g. from g)
+  where
+    to : numberTo b (Ask (Between channel a z)) ≡ 10 → Given10Between b channel a z
+    to e =
+        let c = checked-facts b (Ask (Between channel a z)) e (λ q. omega arith) (λ q. omega arith) in
+        let t = hit (not (tickNumber a && tickNumber z)) 10 0 (c .own) (λ q. omega arith) in
+        record { rules = c .rules; own = own-fact b (Ask (Between channel a z)) (c .here); number = bad-span-fact a z (not-true _ t) }
+
+    from : Given10Between b channel a z → numberTo b (Ask (Between channel a z)) ≡ 10
+    from g = checked-test b (Ask (Between channel a z)) (g .rules) (own-test b (Ask (Between channel a z)) (g .own)) ∙ simp (bad-span-test a z (g .number))
+
 -- ---- 0
 
 fine-fact : (b : Book) (call : Call) → StateRules b → ownNumber b call ≡ 0 → Fine b call
@@ -332,8 +368,11 @@ fine-fact b (Reply channel first status) r e =
     let t = skip (not (startsAt (b .pending) first)) 16 0 (s .1) (λ q. omega arith) in
     let u = starts-fact (b .pending) first (not-false _ (t .0)) in
     record { right = status-fact status (not-false _ (s .0)); last = u .last; own-request = u .is }
-fine-fact b Missing r e = tt
-fine-fact b Held r e = tt
+fine-fact b (Ask Missing) r e = tt
+fine-fact b (Ask Held) r e = tt
+fine-fact b (Ask (Between channel a z)) r e =
+    let s = skip (not (tickNumber a && tickNumber z)) 10 0 e (λ q. omega arith) in
+    span-right a z (not-false _ (s .0))
 
 fine-test : (b : Book) (call : Call) → Fine b call → ownNumber b call ≡ 0
 unfolding ownNumber
@@ -342,8 +381,9 @@ fine-test b (Tick channel n) f =
 fine-test b (Announce channel n) f = simp (le-ltb _ _ f)
 fine-test b (Request channel) f = simp (f .free, ne-eqb _ _ (λ e. whole-fact b e (f .number) (f .is-missing)))
 fine-test b (Reply channel first status) f = simp (status-test status (f .right), starts-test (b .pending) first (f .last) (f .own-request))
-fine-test b Missing f = refl
-fine-test b Held f = refl
+fine-test b (Ask Missing) f = refl
+fine-test b (Ask Held) f = refl
+fine-test b (Ask (Between channel a z)) f = simp (tick-test a (f .from-above) (f .from-digits), tick-test z (f .to-above) (f .to-digits))
 
 pub given-0 : (b : Book) (call : Call) → (numberTo b call ≡ 0) ↔ Given0 b call
 given-0 b call = (λ e. to e, λ g. checked-test b call (g .rules) (own-test b call (g .own)) ∙ fine-test b call (g .fine))

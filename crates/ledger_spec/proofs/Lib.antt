@@ -10,4 +10,5 @@ pub mod Rows
 pub mod Rules
 pub mod Steps
 pub mod Tests
+pub mod Between
 pub mod Told

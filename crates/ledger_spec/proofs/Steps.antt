@@ -22,7 +22,7 @@ use Rattle.tick_map.proofs.Laws.{run-le}
 use Rattle.tick_map.proofs.Ring.{bit-mod}
 use Rattle.tick_map.proofs.Digits.{bit-lt, bit-or, bit-shr, bit-zero, bit-above, bit-set-same, bit-set-other, run-passed, run-stopped, trailing-stopped}
 use Rattle.ledger_spec.specs.State.{Asked, nothing, range, Book, orElse, largest, has, soundOf, RangeRules, StateRules}
-use Rattle.ledger_spec.specs.Calls.{Call, Tick, Announce, Request, Reply, Missing, Held, tickNumber, replyStatus, isPending, startsAt, elsewhere, ownNumber, checkedOf, numberTo, marked, passes, moved, taken, lastOf, reach, covered, leaps, gaveUp, handed, replied, raised, waiting, asked, done, nextAt, valuesOf, beside, answerAt, answerTo, nextOf, fresh, openOf}
+use Rattle.ledger_spec.specs.Calls.{Call, Tick, Announce, Request, Reply, Question, Missing, Held, Between, Ask, tickNumber, replyStatus, isPending, startsAt, elsewhere, ownNumber, checkedOf, numberTo, marked, passes, moved, taken, lastOf, reach, covered, leaps, gaveUp, handed, replied, raised, waiting, asked, done, nextAt, valuesOf, beside, answerAt, answerTo, nextOf, fresh, openOf}
 use Rattle.ledger_spec.specs.Words.{receives, inSet, givesUp, numbers, chosen, namedBy, offers, stillPending, one, ticks, count}
 use Rattle.ledger_spec.proofs.Tests.{pick-cases}
 use Rattle.ledger_spec.proofs.Rows.{or-true, or-false, or-not, append-nil, numbers-join, chosen-ext, chosen-all, chosen-none, chosen-append, count-one, count-ext}
@@ -81,16 +81,14 @@ module _ (k : ℕ) (refused : eqb k 0 ≡ false) where
   refused-receives (Announce c m) n = refl
   refused-receives (Request c) n = refl
   refused-receives (Reply c f s) n = refl
-  refused-receives Missing n = refl
-  refused-receives Held n = refl
+  refused-receives (Ask q) n = refl
 
   refused-gives : (call : Call) (n : ℕ) → givesUp call (answer k (beside call)) n ≡ false
   refused-gives (Tick c m) n = refl
   refused-gives (Announce c m) n = refl
   refused-gives (Request c) n = refl
   refused-gives (Reply c f s) n = simp refused
-  refused-gives Missing n = refl
-  refused-gives Held n = refl
+  refused-gives (Ask q) n = refl
 
   refused-names : (call : Call) → namedBy call (answer k (beside call)) ≡ []
   unfolding namedBy
@@ -98,8 +96,7 @@ module _ (k : ℕ) (refused : eqb k 0 ≡ false) where
   refused-names (Announce c m) = refl
   refused-names (Request c) = refl
   refused-names (Reply c f s) = simp refused
-  refused-names Missing = refl
-  refused-names Held = refl
+  refused-names (Ask q) = refl
 
   refused-pending : (call : Call) (was : Asked) → was ≡ stillPending call (answer k (beside call)) was
   unfolding stillPending
@@ -107,8 +104,7 @@ module _ (k : ℕ) (refused : eqb k 0 ≡ false) where
   refused-pending (Announce c m) was = refl
   refused-pending (Request c) was = simp refused
   refused-pending (Reply c f s) was = simp refused
-  refused-pending Missing was = refl
-  refused-pending Held was = refl
+  refused-pending (Ask q) was = refl
 
   refused-ticks : (call : Call) → ticks call (answer k (beside call)) ≡ 0
   unfolding ticks
@@ -116,8 +112,7 @@ module _ (k : ℕ) (refused : eqb k 0 ≡ false) where
   refused-ticks (Announce c m) = refl
   refused-ticks (Request c) = refl
   refused-ticks (Reply c f s) = refl
-  refused-ticks Missing = refl
-  refused-ticks Held = refl
+  refused-ticks (Ask q) = refl
 
   -- a refusal that leaves the book as it was
   stays : (b : Book) (call : Call) → StateRules b → offers call (answer k (beside call)) ≤ b .top → Step b call b (answer k (beside call))
@@ -130,8 +125,7 @@ other-channel b (Tick c n) = omega arith
 other-channel b (Announce c n) = omega arith
 other-channel b (Request c) = omega arith
 other-channel b (Reply c f s) = omega arith
-other-channel b Missing = omega arith
-other-channel b Held = omega arith
+other-channel b (Ask q) = omega arith
 
 -- ======== The rules of the next book
 
@@ -576,22 +570,29 @@ reply-step b channel first status r =
     (λ e. stays 16 refl b (Reply channel first status) r (omega arith))
     (λ own. let n = reach-near b status r in replied-step b channel first status (reach b status) r (n .0) (n .1)))
 
--- a count leaves all as it was
-missing-step : (b : Book) → StateRules b → At b Missing (ownNumber b Missing)
-unfolding ownNumber done offers namedBy stillPending ticks
-missing-step b r = quiet b Missing b (answer 0 (valuesOf b Missing)) r refl refl refl (λ x. refl) (λ x. refl) (sym (max-zero _)) refl refl (λ x y e. inl e) refl
+-- a question leaves all as it was
+asked-step : (b : Book) (q : Question) → StateRules b → At b (Ask q) 0
+unfolding done offers namedBy stillPending ticks
+asked-step b q r = quiet b (Ask q) b (answer 0 (valuesOf b (Ask q))) r refl refl refl (λ x. refl) (λ x. refl) (sym (max-zero _)) refl refl (λ x y e. inl e) refl
 
-held-step : (b : Book) → StateRules b → At b Held (ownNumber b Held)
-unfolding ownNumber done offers namedBy stillPending ticks
-held-step b r = quiet b Held b (answer 0 (valuesOf b Held)) r refl refl refl (λ x. refl) (λ x. refl) (sym (max-zero _)) refl refl (λ x y e. inl e) refl
+question-low : (b : Book) (q : Question) (k : ℕ) → offers (Ask q) (answer k (beside (Ask q))) ≤ b .top
+unfolding offers
+question-low b q k = omega arith
+
+question-step : (b : Book) (q : Question) → StateRules b → At b (Ask q) (ownNumber b (Ask q))
+unfolding ownNumber
+question-step b Missing r = asked-step b Missing r
+question-step b Held r = asked-step b Held r
+question-step b (Between channel a z) r =
+    pick-cases (λ k. At b (Ask (Between channel a z)) k) (not (tickNumber a && tickNumber z)) 10 0
+    (λ e. stays 10 refl b (Ask (Between channel a z)) r (question-low b (Between channel a z) 10)) (λ e. asked-step b (Between channel a z) r)
 
 own-step : (b : Book) (call : Call) → StateRules b → At b call (ownNumber b call)
 own-step b (Tick channel n) r = tick-step b channel n r
 own-step b (Announce channel n) r = announcement-step b channel n r
 own-step b (Request channel) r = request-step b channel r
 own-step b (Reply channel first status) r = reply-step b channel first status r
-own-step b Missing r = missing-step b r
-own-step b Held r = held-step b r
+own-step b (Ask q) r = question-step b q r
 
 -- 13 never shows on a sound book, and 18 leaves all as it was
 pub step : (b : Book) (call : Call) → StateRules b → Step b call (nextOf b call) (answerTo b call)

@@ -7,14 +7,16 @@ use mathlib.Core.Bool.{true}
 use mathlib.Core.List.{[], _∷_}
 use Prim.Native.Nat.{ℕ, _≤_}
 use Rattle.terms.specs.Paper.{Paper, answer, refusal}
-use Rattle.ledger_spec.specs.Calls.{Tick, Announce, Request, Reply, Missing, Held, answerTo}
+use Rattle.ledger_spec.specs.Calls.{Tick, Announce, Request, Reply, Ask, Missing, Held, Between, answerTo}
 use Rattle.ledger_spec.specs.Trace.{Calls, _▸_, after, History, _▸_⇒_, trace}
 use Rattle.ledger_spec.specs.Words.{answered, givesUp, givenUp, knownTop, held, missing, count}
 use Rattle.ledger_spec.specs.Answers.{TickAnswers, AnnounceAnswers, ReplyAnswers}
 use Rattle.ledger_spec.specs.Demand3.{Requests}
 use Rattle.ledger_spec.specs.GivenUp.{InRange, NamesApart}
+use Rattle.ledger_spec.specs.Between.{BetweenAnswers}
 use Rattle.ledger_spec.proofs.Answers.{answers}
 use Rattle.ledger_spec.proofs.Demand3.{demand-3}
+use Rattle.ledger_spec.proofs.Between.{between-answers}
 use Rattle.ledger_spec.proofs.GivenUp.{names-apart, gives-up-exactly, late-is-11}
 
 module _ (channel : ℕ) (small : channel ≤ 9999) (calls : Calls) {h : History} (is : h ≡ trace channel calls) {a : Paper} where
@@ -30,11 +32,14 @@ module _ (channel : ℕ) (small : channel ≤ 9999) (calls : Calls) {h : History
   pub told-reply : (first status : ℕ) → a ≡ answerTo (after channel calls) (Reply channel first status) → ReplyAnswers h first status a
   told-reply first status e = rw (is, e) (answers channel small calls .reply first status)
 
-  pub told-missing : a ≡ answerTo (after channel calls) Missing → a ≡ answer 0 (count (missing h) (knownTop h) ∷ [])
+  pub told-missing : a ≡ answerTo (after channel calls) (Ask Missing) → a ≡ answer 0 (count (missing h) (knownTop h) ∷ [])
   told-missing e = e ∙ rw is (demand-3 channel small calls .counts .missing-is)
 
-  pub told-held : a ≡ answerTo (after channel calls) Held → a ≡ answer 0 (count (held h) (knownTop h) ∷ [])
+  pub told-held : a ≡ answerTo (after channel calls) (Ask Held) → a ≡ answer 0 (count (held h) (knownTop h) ∷ [])
   told-held e = e ∙ rw is (demand-3 channel small calls .counts .held-is)
+
+  pub told-between : (x z : ℕ) → a ≡ answerTo (after channel calls) (Ask (Between channel x z)) → BetweenAnswers h x z a
+  told-between x z e = rw (is, e) (between-answers channel small calls x z)
 
   -- a number given up that arrives late
   pub told-late : (n : ℕ) → a ≡ answerTo (after channel calls) (Tick channel n) → givenUp h n ≡ true → a ≡ refusal 11

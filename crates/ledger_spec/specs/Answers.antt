@@ -9,19 +9,20 @@ use Prim.Native.Nat.{ℕ, _+_, _≤_, _<_, max}
 use lib.Dec.{eqb, leb, ltb}
 use Rattle.terms.specs.Paper.{Paper, answer, refusal}
 use Rattle.ledger_spec.specs.State.{range, Book, largest}
-use Rattle.ledger_spec.specs.Calls.{Call, Tick, Announce, Request, Reply, Missing, Held, offered, beside, answerTo}
+use Rattle.ledger_spec.specs.Calls.{Call, Tick, Announce, Request, Reply, Ask, Missing, Held, Between, offered, beside, answerTo}
 use Rattle.ledger_spec.specs.Given.{StatusRight}
 use Rattle.ledger_spec.specs.Trace.{Calls, after, History, trace}
 use Rattle.ledger_spec.specs.Words.{answered, received, inSet, settled, pending, floorOf}
 
--- the call names another channel than this one; a count names none
+-- the call names another channel than this one; the first two counts name none
 abbrev pub Elsewhere : ℕ → Call → Type 0
 Elsewhere own (Tick channel n) = channel ≡ own → ⊥
 Elsewhere own (Announce channel n) = channel ≡ own → ⊥
 Elsewhere own (Request channel) = channel ≡ own → ⊥
 Elsewhere own (Reply channel first status) = channel ≡ own → ⊥
-Elsewhere own Missing = ⊥
-Elsewhere own Held = ⊥
+Elsewhere own (Ask Missing) = ⊥
+Elsewhere own (Ask Held) = ⊥
+Elsewhere own (Ask (Between channel a z)) = channel ≡ own → ⊥
 
 -- the next numbers from the floor on, perhaps none
 pub record Hands (h : History) (a : Paper) : Type 0 where
@@ -69,8 +70,9 @@ pub record Broken (b : Book) : Type 0 where
   pub announcement : (channel n : ℕ) → answerTo b (Announce channel n) ≡ refusal 13
   pub request : (channel : ℕ) → answerTo b (Request channel) ≡ refusal 13
   pub reply : (channel first status : ℕ) → answerTo b (Reply channel first status) ≡ refusedReply 13
-  pub missing-0 : answerTo b Missing ≡ answer 13 (0 ∷ [])
-  pub held-0 : answerTo b Held ≡ answer 13 (0 ∷ [])
+  pub between-0 : (channel a z : ℕ) → answerTo b (Ask (Between channel a z)) ≡ answer 13 (0 ∷ [])
+  pub missing-0 : answerTo b (Ask Missing) ≡ answer 13 (0 ∷ [])
+  pub held-0 : answerTo b (Ask Held) ≡ answer 13 (0 ∷ [])
 
 -- a refusal changes nothing, but 12 may raise the top (document 01, Numbers, paragraph 2); for
 -- every state, sound or not

@@ -10,14 +10,20 @@ use Rattle.terms.specs.Paper.{Paper, answer, pick}
 use Rattle.tick_map.specs.Bits.{run}
 use Rattle.ledger_spec.specs.State.{Asked, nothing, range, Book, orElse, largest, has, soundOf}
 
--- a call; each but the two counts names its channel
+-- what a ledger may be asked without being changed: how many numbers are missing, how many are
+-- held, and how many from a to z are missing
+pub data Question : Type 0 where
+  Missing : Question
+  Held : Question
+  Between : (channel a z : ℕ) → Question
+
+-- a call; each but the first two questions names its channel
 pub data Call : Type 0 where
   Tick : (channel n : ℕ) → Call
   Announce : (channel n : ℕ) → Call
   Request : (channel : ℕ) → Call
   Reply : (channel first status : ℕ) → Call
-  Missing : Call
-  Held : Call
+  Ask : Question → Call
 
 -- the number that a tick or an announcement offers
 abbrev pub offered : Call → ℕ
@@ -25,8 +31,7 @@ offered (Tick channel n) = n
 offered (Announce channel n) = n
 offered (Request channel) = 0
 offered (Reply channel first status) = 0
-offered Missing = 0
-offered Held = 0
+offered (Ask q) = 0
 
 -- ======== The number answered
 
@@ -52,10 +57,12 @@ elsewhere b (Tick channel n) = not (eqb channel (b .channel))
 elsewhere b (Announce channel n) = not (eqb channel (b .channel))
 elsewhere b (Request channel) = not (eqb channel (b .channel))
 elsewhere b (Reply channel first status) = not (eqb channel (b .channel))
-elsewhere b Missing = false
-elsewhere b Held = false
+elsewhere b (Ask Missing) = false
+elsewhere b (Ask Held) = false
+elsewhere b (Ask (Between channel a z)) = not (eqb channel (b .channel))
 
--- the checks of each call after 13 and 18, in their order (document 01, Numbers, paragraph 2)
+-- the checks of each call after 13 and 18, in their order (document 01, Numbers, paragraph 2); of
+-- request 8's question 10, for either end
 -- (15: nothing is missing where the top is the floor, since floor + 1 is not held. `given-15` says
 -- it in the document's words.)
 unfoldable pub ownNumber : Book → Call → ℕ
@@ -63,8 +70,9 @@ ownNumber b (Tick channel n) = pick (not (tickNumber n)) 10 (pick (has b n) 11 (
 ownNumber b (Announce channel n) = pick (ltb largest n) 10 0
 ownNumber b (Request channel) = pick (isPending (b .pending)) 14 (pick (eqb (b .top) (b .floor)) 15 0)
 ownNumber b (Reply channel first status) = pick (not (replyStatus status)) 17 (pick (not (startsAt (b .pending) first)) 16 0)
-ownNumber b Missing = 0
-ownNumber b Held = 0
+ownNumber b (Ask Missing) = 0
+ownNumber b (Ask Held) = 0
+ownNumber b (Ask (Between channel a z)) = pick (not (tickNumber a && tickNumber z)) 10 0
 
 -- 13, then 18, then the call's own checks (document 01, Numbers, paragraph 2)
 unfoldable pub checkedOf : Book → Bool → ℕ → ℕ
@@ -138,8 +146,7 @@ done b (Tick channel n) = taken b n
 done b (Announce channel n) = raised b n
 done b (Request channel) = waiting b (range (b .floor + 1) (b .floor + asked b))
 done b (Reply channel first status) = replied b (reach b status)
-done b Missing = b
-done b Held = b
+done b (Ask q) = b
 
 -- a refusal changes nothing, but 12 may raise the top (document 01, Numbers, paragraph 2)
 abbrev pub nextAt : Book → Call → ℕ → Book
@@ -153,6 +160,24 @@ heldCount b = ones (b .bits)
 unfoldable pub missingCount : Book → ℕ
 missingCount b = b .top - b .floor - ones (b .bits)
 
+-- request 8, from the floor, the top and a count of bits: the numbers from a to z that lie above
+-- the floor and not above the top, less those of them that are held. The map has 256 places, so no
+-- more are counted. `between-counts` of proofs/Between.antt says what it means
+abbrev pub lowest : Book → ℕ → ℕ
+lowest b a = max a (b .floor + 1)
+
+abbrev pub span : Book → ℕ → ℕ → ℕ
+span b a z = min z (b .top) + 1 - lowest b a
+
+unfoldable pub betweenCount : Book → ℕ → ℕ → ℕ
+betweenCount b a z = span b a z - ones (b .bits / 2 ^ min 256 (lowest b a - b .floor - 1) % 2 ^ min 256 (span b a z))
+
+-- the count that a question is answered by
+abbrev pub countOf : Book → Question → ℕ
+countOf b Missing = missingCount b
+countOf b Held = heldCount b
+countOf b (Between channel a z) = betweenCount b a z
+
 -- a tick's answer: the first number newly passed, and how many; a request's: first and last number;
 -- a count's: the count; a reply's: the floor + 1 that both its sets count from, the given-up
 -- numbers, and the received ones newly passed
@@ -161,8 +186,7 @@ valuesOf b (Tick channel n) = (b .floor + 1) ∷ passes b n ∷ []
 valuesOf b (Announce channel n) = []
 valuesOf b (Request channel) = (b .floor + 1) ∷ (b .floor + asked b) ∷ []
 valuesOf b (Reply channel first status) = (b .floor + 1) ∷ gaveUp b (reach b status) ∷ handed b (reach b status) ∷ []
-valuesOf b Missing = missingCount b ∷ []
-valuesOf b Held = heldCount b ∷ []
+valuesOf b (Ask q) = countOf b q ∷ []
 
 -- beside a refusal: nothing; beside a refused count, 0, and beside a refused reply 0 and
 -- two empty sets
@@ -171,8 +195,7 @@ beside (Tick channel n) = []
 beside (Announce channel n) = []
 beside (Request channel) = []
 beside (Reply channel first status) = 0 ∷ 0 ∷ 0 ∷ []
-beside Missing = 0 ∷ []
-beside Held = 0 ∷ []
+beside (Ask q) = 0 ∷ []
 
 abbrev pub answerAt : Book → Call → ℕ → Paper
 answerAt b call number = answer number (pick (eqb number 0) (valuesOf b call) (beside call))

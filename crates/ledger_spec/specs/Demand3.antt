@@ -13,7 +13,7 @@ use lib.Dec.{leb, ltb}
 use lib.ListN.{length}
 use Rattle.terms.specs.Paper.{Paper, answer, refusal}
 use Rattle.ledger_spec.specs.State.{nothing, range, Book, has, StateRules}
-use Rattle.ledger_spec.specs.Calls.{Request, Missing, Held, answerTo}
+use Rattle.ledger_spec.specs.Calls.{Request, Ask, Missing, Held, answerTo}
 use Rattle.ledger_spec.specs.Trace.{History}
 use Rattle.ledger_spec.specs.Words.{answered, received, givenUp, settled, numbers, chosen, handedOut, knownTop, pending, delivered, held, missing, ticksTaken, count, floorOf}
 
@@ -72,8 +72,8 @@ pub record Counts (h : History) (b : Book) : Type 0 where
   pub handed-out : length (handedOut h) ≡ count (delivered h) (knownTop h)
   pub each-once : ticksTaken h ≡ count (delivered h) (knownTop h) + count (held h) (knownTop h)
   pub floor-is : b .floor ≡ count (delivered h) (knownTop h) + count (givenUp h) (knownTop h)
-  pub held-is : answerTo b Held ≡ answer 0 (count (held h) (knownTop h) ∷ [])
-  pub missing-is : answerTo b Missing ≡ answer 0 (count (missing h) (knownTop h) ∷ [])
+  pub held-is : answerTo b (Ask Held) ≡ answer 0 (count (held h) (knownTop h) ∷ [])
+  pub missing-is : answerTo b (Ask Missing) ≡ answer 0 (count (missing h) (knownTop h) ∷ [])
 
 -- What the ledger shows of itself is told by the calls and their answers: the channel that was
 -- opened; the floor, which is how many numbers were handed out or given up, and so just below the

@@ -6,16 +6,17 @@ use mathlib.Core.Logic.{_⊎_}
 use Prim.Native.Nat.{ℕ, _+_, _-_, _≤_, _<_}
 use Rattle.tick_map.specs.Bits.{bit}
 use Rattle.ledger_spec.specs.State.{nothing, range, Book, largest, StateRules}
-use Rattle.ledger_spec.specs.Calls.{Call, Tick, Announce, Request, Reply, Missing, Held}
+use Rattle.ledger_spec.specs.Calls.{Call, Tick, Announce, Request, Reply, Ask, Missing, Held, Between}
 
--- the call names the ledger's own channel; the counts name none
+-- the call names the ledger's own channel; the first two counts name none
 abbrev pub Own : Book → Call → Type 0
 Own b (Tick channel n) = channel ≡ b .channel
 Own b (Announce channel n) = channel ≡ b .channel
 Own b (Request channel) = channel ≡ b .channel
 Own b (Reply channel first status) = channel ≡ b .channel
-Own b Missing = Unit
-Own b Held = Unit
+Own b (Ask Missing) = Unit
+Own b (Ask Held) = Unit
+Own b (Ask (Between channel a z)) = channel ≡ b .channel
 
 -- settled (received, or given up): up to the floor, or held above it
 pub record HeldAt (b : Book) (n : ℕ) : Type 0 where
@@ -49,6 +50,12 @@ pub record Given10Announcement (b : Book) (channel n : ℕ) : Type 0 where
   pub rules : StateRules b
   pub own : channel ≡ b .channel
   pub number : largest < n
+
+-- "10 for an a or b that is 0 or too long": either of them, and the span may lie anywhere
+pub record Given10Between (b : Book) (channel a z : ℕ) : Type 0 where
+  pub rules : StateRules b
+  pub own : channel ≡ b .channel
+  pub number : ((a ≡ 0) ⊎ (largest < a)) ⊎ ((z ≡ 0) ⊎ (largest < z))
 
 -- 11: "tick already received", or given up
 pub record Given11 (b : Book) (channel n : ℕ) : Type 0 where
@@ -112,13 +119,20 @@ pub record FineReply (b : Book) (first status : ℕ) : Type 0 where
   pub last : ℕ
   pub own-request : b .pending ≡ range first last
 
+pub record FineBetween (a z : ℕ) : Type 0 where
+  pub from-above : 1 ≤ a
+  pub from-digits : a ≤ largest
+  pub to-above : 1 ≤ z
+  pub to-digits : z ≤ largest
+
 abbrev pub Fine : Book → Call → Type 0
 Fine b (Tick channel n) = FineTick b n
 Fine b (Announce channel n) = n ≤ largest
 Fine b (Request channel) = FineRequest b
 Fine b (Reply channel first status) = FineReply b first status
-Fine b Missing = Unit
-Fine b Held = Unit
+Fine b (Ask Missing) = Unit
+Fine b (Ask Held) = Unit
+Fine b (Ask (Between channel a z)) = FineBetween a z
 
 pub record Given0 (b : Book) (call : Call) : Type 0 where
   pub rules : StateRules b

@@ -6,3 +6,4 @@ pub mod Given
 pub mod Answers
 pub mod Demand3
 pub mod GivenUp
+pub mod Between

@@ -8,7 +8,7 @@ use lib.ListN.{getD, length}
 use Rattle.terms.specs.Paper.{Paper, pick}
 use Rattle.tick_map.specs.Bits.{isSet, tally}
 use Rattle.ledger_spec.specs.State.{Asked, nothing, range, orElse}
-use Rattle.ledger_spec.specs.Calls.{Call, Tick, Announce, Request, Reply, Missing, Held}
+use Rattle.ledger_spec.specs.Calls.{Call, Tick, Announce, Request, Reply, Ask}
 use Rattle.ledger_spec.specs.Trace.{History, start, _▸_⇒_}
 
 -- value number i of an answer
@@ -25,8 +25,7 @@ receives (Tick channel m) a n = answered a 0 && eqb n m
 receives (Announce channel m) a n = false
 receives (Request channel) a n = false
 receives (Reply channel first status) a n = false
-receives Missing a n = false
-receives Held a n = false
+receives (Ask q) a n = false
 
 unfoldable pub received : History → ℕ → Bool
 received start n = false
@@ -43,8 +42,7 @@ givesUp (Tick channel m) a n = false
 givesUp (Announce channel m) a n = false
 givesUp (Request channel) a n = false
 givesUp (Reply channel first status) a n = answered a 0 && inSet (valueAt a 0) (valueAt a 1) n
-givesUp Missing a n = false
-givesUp Held a n = false
+givesUp (Ask q) a n = false
 
 unfoldable pub givenUp : History → ℕ → Bool
 givenUp start n = false
@@ -71,8 +69,7 @@ namedBy (Tick channel n) a = pick (answered a 0) (numbers (valueAt a 0) (valueAt
 namedBy (Announce channel n) a = []
 namedBy (Request channel) a = []
 namedBy (Reply channel first status) a = pick (answered a 0) (chosen (inSet (valueAt a 0) (valueAt a 2)) (numbers (valueAt a 0) 256)) []
-namedBy Missing a = []
-namedBy Held a = []
+namedBy (Ask q) a = []
 
 -- handed out: all that the answers named, in their order
 unfoldable pub handedOut : History → List ℕ
@@ -86,8 +83,7 @@ offers (Tick channel n) a = pick (orElse (answered a 18) (answered a 10)) 0 n
 offers (Announce channel n) a = pick (answered a 0) n 0
 offers (Request channel) a = 0
 offers (Reply channel first status) a = 0
-offers Missing a = 0
-offers Held a = 0
+offers (Ask q) a = 0
 
 unfoldable pub knownTop : History → ℕ
 knownTop start = 0
@@ -99,8 +95,7 @@ stillPending (Tick channel n) a was = was
 stillPending (Announce channel n) a was = was
 stillPending (Request channel) a was = pick (answered a 0) (range (valueAt a 0) (valueAt a 1)) was
 stillPending (Reply channel first status) a was = pick (answered a 0) nothing was
-stillPending Missing a was = was
-stillPending Held a was = was
+stillPending (Ask q) a was = was
 
 unfoldable pub pending : History → Asked
 pending start = nothing
@@ -132,8 +127,7 @@ ticks (Tick channel n) a = one (answered a 0)
 ticks (Announce channel n) a = 0
 ticks (Request channel) a = 0
 ticks (Reply channel first status) a = 0
-ticks Missing a = 0
-ticks Held a = 0
+ticks (Ask q) a = 0
 
 unfoldable pub ticksTaken : History → ℕ
 ticksTaken start = 0

@@ -5,7 +5,7 @@ use mathlib.Core.List.{List, _++_}
 use native.Mathlib.Omega.{arith}
 use Rattle.terms.specs.Counters.{tickOf}
 use Rattle.ledger_spec.specs.State.{Book}
-use Rattle.ledger_spec.specs.Calls.{Missing, answerTo}
+use Rattle.ledger_spec.specs.Calls.{Ask, Missing, answerTo}
 use Rattle.ledger_spec.specs.Trace.{after}
 use Rattle.ledger_spec.specs.Words.{valueAt}
 use Rattle.ledger_spec.proofs.Agree.{agrees}
@@ -27,7 +27,7 @@ lastAt frames refused b =
       refused = refused;
       floor = tickOf (b .floor);
       top = tickOf (b .top);
-      missing = valueAt (answerTo b Missing) 0;
+      missing = valueAt (answerTo b (Ask Missing)) 0;
     }
 
 -- the line of each record of document 01's walk, and the last line

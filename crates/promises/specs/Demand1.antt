@@ -217,6 +217,7 @@ ledger-answers =
     let Ledger-reply-one-answer = ledger.Ledger-reply-one-answer in
     let Ledger-missing-one-answer = ledger.Ledger-missing-one-answer in
     let Ledger-held-one-answer = ledger.Ledger-held-one-answer in
+    let Ledger-missing-between-one-answer = ledger.Ledger-missing-between-one-answer in
     named
 
 -- record
@@ -319,6 +320,7 @@ host-ledger-answers =
     let rk-ledger-announce-one-answer = host_ledger.rk-ledger-announce-one-answer in
     let rk-ledger-request-one-answer = host_ledger.rk-ledger-request-one-answer in
     let rk-ledger-reply-one-answer = host_ledger.rk-ledger-reply-one-answer in
+    let rk-ledger-missing-one-answer = host_ledger.rk-ledger-missing-one-answer in
     let rk-ledger-told-one-answer = host_ledger.rk-ledger-told-one-answer in
     named
 
@@ -657,6 +659,8 @@ host-ledger-buffers =
     let rk-ledger-request-refused-keeps = host_ledger.rk-ledger-request-refused-keeps in
     let rk-ledger-reply-one-buffer = host_ledger.rk-ledger-reply-one-buffer in
     let rk-ledger-reply-refused-keeps = host_ledger.rk-ledger-reply-refused-keeps in
+    let rk-ledger-missing-one-buffer = host_ledger.rk-ledger-missing-one-buffer in
+    let rk-ledger-missing-refused-keeps = host_ledger.rk-ledger-missing-refused-keeps in
     let rk-ledger-told-one-buffer = host_ledger.rk-ledger-told-one-buffer in
     let rk-ledger-told-refused-keeps = host_ledger.rk-ledger-told-refused-keeps in
     named

@@ -7,7 +7,7 @@ use mathlib.Core.Path.{_≡_}
 use Rattle.ledger_spec.specs.State.{StateRules}
 use Rattle.ledger.specs.State.{bookOf}
 use Rattle.terms.specs.Paper.{Paper, answer}
-use Rattle.ledger_spec.specs.Calls.{Call, Tick, Announce, Request, Reply, Missing, Held, answerTo}
+use Rattle.ledger_spec.specs.Calls.{Call, Tick, Announce, Request, Reply, Ask, Missing, Held, answerTo}
 use Rattle.ledger_spec.specs.Words.{knownTop, held, missing, count}
 use Rattle.ledger_spec.specs.Trace.{Calls, after, History}
 use Rattle.ledger.specs.Trace.{Promise, Ran}
@@ -65,10 +65,10 @@ module _ (channel : ℕ) (opens : channel ≤ 9999) {calls : Calls} {l : Ledger}
   pub reply-answers : (first status : ℕ) (next : Ledger) (paper : Paper) → Promise l (Reply channel first status) next paper → ReplyAnswers h first status paper
   reply-answers = Ran.ran-reply channel opens ran
 
-  pub missing-answer : (next : Ledger) (paper : Paper) → Promise l Missing next paper → paper ≡ answer 0 (count (missing h) (knownTop h) ∷ [])
+  pub missing-answer : (next : Ledger) (paper : Paper) → Promise l (Ask Missing) next paper → paper ≡ answer 0 (count (missing h) (knownTop h) ∷ [])
   missing-answer = Ran.ran-missing channel opens ran
 
-  pub held-answer : (next : Ledger) (paper : Paper) → Promise l Held next paper → paper ≡ answer 0 (count (held h) (knownTop h) ∷ [])
+  pub held-answer : (next : Ledger) (paper : Paper) → Promise l (Ask Held) next paper → paper ≡ answer 0 (count (held h) (knownTop h) ∷ [])
   held-answer = Ran.ran-held channel opens ran
 
   -- whatever a further call of the code is answered is what the ledger after the calls
@@ -119,6 +119,7 @@ ties =
     let reply-is-step = Promised.reply-is-step in
     let missing-is-step = Promised.missing-is-step in
     let held-is-step = Promised.held-is-step in
+    let between-is-step = Promised.between-is-step in
     let open-is-opening = Hosted.open-is-opening in
     let tick-is-call = Hosted.tick-is-call in
     let announce-is-call = Hosted.announce-is-call in
@@ -126,4 +127,5 @@ ties =
     let reply-is-call = Hosted.reply-is-call in
     let told-is-missing = Hosted.told-is-missing in
     let told-is-held = Hosted.told-is-held in
+    let between-is-call = Hosted.between-is-call in
     named

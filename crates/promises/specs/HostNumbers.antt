@@ -3,7 +3,7 @@
 -- `host_frames`, `host_ledger` or `host_captures` names in its promise.
 use Prim.Native.Nat.{ℕ, _+_, _/_}
 use mathlib.Core.Path.{_≡_, refl, ap}
-use mathlib.Core.Bool.{Bool, true, false, not}
+use mathlib.Core.Bool.{Bool, true, false, _&&_, not}
 use mathlib.Core.Logic.{_⊎_, inl, inr, ⊎-elim}
 use mathlib.Core.List.{List, [], _∷_}
 use denote.Ref.{now}
@@ -26,7 +26,7 @@ use Rattle.frame_spec.specs.Lowest.{search-given-9, search-given-0}
 use Rattle.entries.specs.Reader.{openOf, stands, entryAt, stepOf}
 use Rattle.private.specs.Scrub.{scrubAnswer}
 use Rattle.ledger_spec.specs.State.{Book, largest, has, soundOf}
-use Rattle.ledger_spec.specs.Calls.{Call, Tick, Announce, Request, Reply, Missing, Held, tickNumber, replyStatus, isPending, startsAt, elsewhere, ownNumber, checkedOf, numberTo, answerTo, openNumber}
+use Rattle.ledger_spec.specs.Calls.{Call, Tick, Announce, Request, Reply, Ask, Missing, Held, Between, tickNumber, replyStatus, isPending, startsAt, elsewhere, ownNumber, checkedOf, numberTo, answerTo, openNumber}
 use Rattle.walk_spec.specs.Walk as walk
 use Rattle.clean_spec.specs.Clean as clean
 use Rattle.stream_spec.specs.declared.Stream.{Stream}
@@ -67,6 +67,8 @@ use Rattle.host_ledger.proofs.rk_ledger_request.Reads as rk-ledger-request
 use Rattle.host_ledger.proofs.rk_ledger_request.Kinds as rk-ledger-request-kinds
 use Rattle.host_ledger.proofs.rk_ledger_reply.Reads as rk-ledger-reply
 use Rattle.host_ledger.proofs.rk_ledger_reply.Kinds as rk-ledger-reply-kinds
+use Rattle.host_ledger.proofs.rk_ledger_missing.Reads as rk-ledger-missing
+use Rattle.host_ledger.proofs.rk_ledger_missing.Kinds as rk-ledger-missing-kinds
 use Rattle.host_ledger.proofs.rk_ledger_told.Reads as rk-ledger-told
 use Rattle.host_ledger.proofs.rk_ledger_told.Kinds as rk-ledger-told-kinds
 use Rattle.host_captures.proofs.rk_walk.Reads as rk-walk
@@ -158,8 +160,9 @@ own b (Request channel) =
     picked (isPending (b .pending)) 14 (pick (eqb (b .top) (b .floor)) 15 0) (refused refl) (picked (eqb (b .top) (b .floor)) 15 0 (refused refl) (done refl))
 own b (Reply channel first status) =
     picked (not (replyStatus status)) 17 (pick (not (startsAt (b .pending) first)) 16 0) (refused refl) (picked (not (startsAt (b .pending) first)) 16 0 (refused refl) (done refl))
-own b Missing = done refl
-own b Held = done refl
+own b (Ask Missing) = done refl
+own b (Ask Held) = done refl
+own b (Ask (Between channel a z)) = picked (not (tickNumber a && tickNumber z)) 10 0 (refused refl) (done refl)
 
 calling : (b : Book) (call : Call) → Numbered (answerTo b call .number)
 unfolding answerTo numberTo checkedOf inTable
@@ -200,9 +203,9 @@ host-numbered =
       stepping = stepping;
       opening = λ channel. picked (ltb 9999 channel) 10 0 (refused refl) (done refl);
       calling = λ w call. calling (bookIn w) call;
-      telling = λ w. calling (bookIn w) Missing;
+      telling = λ w. calling (bookIn w) (Ask Missing);
       walking = λ s len. chosen (walk.fitsIn s len) _ _ (done refl) (refused refl);
-      listing = λ records frames refusals w len. behind (callTold w Missing .number) _ (calling (bookIn w) Missing) (room 0 (length (listed records frames refusals w)) len);
+      listing = λ records frames refusals w len. behind (callTold w (Ask Missing) .number) _ (calling (bookIn w) (Ask Missing)) (room 0 (length (listed records frames refusals w)) len);
       cleaning = λ s len. chosen (clean.fitsIn s len) _ _ (done refl) (refused refl);
       checking = λ s. done refl;
     }
@@ -251,6 +254,9 @@ rk-ledger-request-numbered κs a x s p = tells-numbered (p .0) (host-numbered .c
 
 pub rk-ledger-reply-numbered : Promises _ rk-ledger-reply-kinds.ps rk-ledger-reply-kinds.r rk-ledger-reply.Post (λ κs a x s. Numbered x)
 rk-ledger-reply-numbered κs a x s p = rw (p .0 .answered) (host-numbered .calling (now (a .0)) (Reply (a .1 .0) (a .1 .1 .0) (a .1 .1 .1 .0)))
+
+pub rk-ledger-missing-numbered : Promises _ rk-ledger-missing-kinds.ps rk-ledger-missing-kinds.r rk-ledger-missing.Post (λ κs a x s. Numbered x)
+rk-ledger-missing-numbered κs a x s p = tells-numbered p (host-numbered .calling _ _)
 
 pub rk-ledger-told-numbered : Promises _ rk-ledger-told-kinds.ps rk-ledger-told-kinds.r rk-ledger-told.Post (λ κs a x s. Numbered x)
 rk-ledger-told-numbered κs a x s p = tells-numbered p (host-numbered .telling _)

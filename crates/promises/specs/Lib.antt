@@ -15,3 +15,4 @@ pub mod Pieces
 pub mod SameMap
 pub mod GivenUp
 pub mod Session
+pub mod Between

@@ -19,7 +19,7 @@ use Rattle.frame_spec.specs.Examples.{startOfA, frameA, headerM101}
 use Rattle.tick_map.specs.Bits.{run, bit, tally}
 use Rattle.tick_map.proofs.Digits.{ones-tally}
 use Rattle.ledger_spec.specs.State.{Asked, nothing, range, Book, has, rangeRules, mapRules, soundOf}
-use Rattle.ledger_spec.specs.Calls.{Call, Tick, Announce, Request, Missing, ownNumber, checkedOf, numberTo, passes, taken, raised, waiting, asked, done, missingCount, valuesOf, answerTo, nextOf, fresh}
+use Rattle.ledger_spec.specs.Calls.{Call, Tick, Announce, Request, Ask, Missing, ownNumber, checkedOf, numberTo, passes, taken, raised, waiting, asked, done, missingCount, valuesOf, answerTo, nextOf, fresh}
 
 -- a line of an example over a ledger: a call and its answer, or what the ledger's top then is
 pub data Line : Type 0 where
@@ -47,7 +47,7 @@ table =
     ∷ reading (headerM101 0x1F 0xE4) (refusal 1) 0  -- with 8,164 and no body: 1.
     ∷ ledger
     (call (Tick 100 2) (answer 0 (1 ∷ 0 ∷ []))  -- 8. Fresh, tick 2: 0, nothing passed,
-    ∷ call Missing (answer 0 (1 ∷ []))  -- missing 1,
+    ∷ call (Ask Missing) (answer 0 (1 ∷ []))  -- missing 1,
     ∷ call (Request 100) (answer 0 (1 ∷ 1 ∷ []))  -- request 1 to 1;
     ∷ call (Tick 100 1) (answer 0 (1 ∷ 2 ∷ []))  -- tick 1: passes 1 and 2.
     ∷ [])
@@ -144,7 +144,7 @@ request-99 : Step (book 0 300 (2 ^ 99) nothing) (Request 100) (answer 0 (1 ∷ 9
 unfolding numberTo ownNumber checkedOf soundOf mapRules rangeRules has passes taken raised waiting asked done missingCount valuesOf answerTo nextOf fresh run trailingZeros
 request-99 = record { answered = refl; then = refl }
 
-missing-1 : Step (book 0 2 2 nothing) Missing (answer 0 (1 ∷ [])) (book 0 2 2 nothing)
+missing-1 : Step (book 0 2 2 nothing) (Ask Missing) (answer 0 (1 ∷ [])) (book 0 2 2 nothing)
 unfolding numberTo ownNumber checkedOf soundOf mapRules rangeRules has passes taken raised waiting asked done missingCount valuesOf answerTo nextOf fresh run trailingZeros ones
 missing-1 = record { answered = refl; then = refl }
 

@@ -18,7 +18,7 @@ use Rattle.terms.specs.Refusals.{refusal-pos}
 use Rattle.terms.specs.declared.Refusal.{Refusal}
 use Rattle.ledger_spec.specs.State as Book
 use Rattle.ledger_spec.specs.State.{Book}
-use Rattle.ledger_spec.specs.Calls.{Held, ownNumber, checkedOf, numberTo, answerTo, fresh}
+use Rattle.ledger_spec.specs.Calls.{Ask, Held, ownNumber, checkedOf, numberTo, answerTo, fresh}
 use Rattle.ledger.specs.State.{bookOf, ledgerOf}
 use Rattle.ledger.specs.Papers.{countPaper}
 use Rattle.ledger.specs.declared.Answer.{Answer}
@@ -65,19 +65,19 @@ fits-not p n m h = sym (lt-leb (p + (n + m)) lastPlace (omega arith))
 -- THE LEDGER AND THE COUNTS
 
 -- a count is refused exactly where the book is broken
-held-number : (b : Book) → answerTo b Held .number ≡ pick (not (Book.soundOf b)) 13 0
+held-number : (b : Book) → answerTo b (Ask Held) .number ≡ pick (not (Book.soundOf b)) 13 0
 unfolding answerTo numberTo checkedOf ownNumber
 held-number b = refl
 
 module _ (l : Ledger) (k : ℕ) where
-  pub held-done : (a : Answer) → a ≡ Done → countPaper a k ≡ answerTo (bookOf l) Held → Book.soundOf (bookOf l) ≡ true
+  pub held-done : (a : Answer) → a ≡ Done → countPaper a k ≡ answerTo (bookOf l) (Ask Held) → Book.soundOf (bookOf l) ≡ true
   held-done a e p =
       ⊎-elim (λ (t : Book.soundOf (bookOf l) ≡ true). t)
       (λ (f : Book.soundOf (bookOf l) ≡ false).
       let n : _≡_ {A = ℕ} 0 13 = one-number (ap (λ (x : Answer). countPaper x k) (sym e) ∙ p) ∙ held-number (bookOf l) ∙ rw f in absurd (omega arith))
       (two (Book.soundOf (bookOf l)))
 
-  pub held-refused : (a : Answer) (w : Refusal) → a ≡ Refused w → countPaper a k ≡ answerTo (bookOf l) Held → Book.soundOf (bookOf l) ≡ false
+  pub held-refused : (a : Answer) (w : Refusal) → a ≡ Refused w → countPaper a k ≡ answerTo (bookOf l) (Ask Held) → Book.soundOf (bookOf l) ≡ false
   held-refused a w e p =
       ⊎-elim (λ (t : Book.soundOf (bookOf l) ≡ true). absurd (refusal-pos w (one-number (ap (λ (x : Answer). countPaper x k) (sym e) ∙ p) ∙ held-number (bookOf l) ∙ rw t)))
       (λ (f : Book.soundOf (bookOf l) ≡ false). f)

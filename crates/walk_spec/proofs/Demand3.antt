@@ -9,7 +9,7 @@ use borrow.Author.Tests.{le-leb}
 use Rattle.terms.specs.Paper.{answer}
 use Rattle.tick_map.proofs.Digits.{tally-ext}
 use Rattle.ledger.specs.State.{bookOf, ledgerOf}
-use Rattle.ledger_spec.specs.Calls.{Missing, answerTo}
+use Rattle.ledger_spec.specs.Calls.{Ask, Missing, answerTo}
 use Rattle.ledger_spec.specs.Trace.{after, History, trace}
 use Rattle.ledger_spec.specs.Words.{settled, knownTop, missing, one, count}
 use Rattle.ledger_spec.specs.Demand3.{Demand3}
@@ -50,5 +50,5 @@ module _ (s : List ℕ) where
       ∙ ap (count (λ n. not (brought (walkOf s .records) n))) (sym top-is)
 
   -- its missing count is how many numbers from 1 to the top no frame of the capture brought
-  pub walk-missing : answerTo (walkOf s .ledger) Missing ≡ answer 0 (count (λ n. not (brought (walkOf s .records) n)) (walkOf s .ledger .top) ∷ [])
+  pub walk-missing : answerTo (walkOf s .ledger) (Ask Missing) ≡ answer 0 (count (λ n. not (brought (walkOf s .records) n)) (walkOf s .ledger .top) ∷ [])
   walk-missing = walk-demand-3 .counts .missing-is ∙ ap (λ (k : ℕ). answer 0 (k ∷ [])) same-count

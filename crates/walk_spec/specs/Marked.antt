@@ -13,7 +13,7 @@ use Rattle.rules.specs.Fields.{p001Ok, fieldsOk, judgeOf}
 use Rattle.frame_spec.specs.Frame.{checked, readOf}
 use Rattle.frame_spec.specs.Search.{firstOf, searchOf}
 use Rattle.ledger_spec.specs.State.{Book, nothing, rangeRules, mapRules, soundOf}
-use Rattle.ledger_spec.specs.Calls.{Missing, ownNumber, checkedOf, numberTo, missingCount, valuesOf, answerTo, raised, done, nextOf, fresh}
+use Rattle.ledger_spec.specs.Calls.{Ask, Missing, ownNumber, checkedOf, numberTo, missingCount, valuesOf, answerTo, raised, done, nextOf, fresh}
 use Rattle.record.specs.Examples.{recordA, recordFF, recordB}
 use Rattle.walk_spec.specs.Literal.{walkFrom, literalWalk}
 
@@ -33,6 +33,6 @@ pub marked-walk : literalWalk marked ≡ record { records = recordA ∷ recordFF
 unfolding literalWalk walkFrom marked readOf checked measureOf kindOf suits realTime realParts daysIn leap judgeOf fieldsOk p001Ok numeral sum8 sumOf searchOf firstOf nextOf numberTo checkedOf ownNumber soundOf mapRules rangeRules done raised fresh
 marked-walk = refl
 
-pub marked-missing : answerTo markedBook Missing ≡ answer 0 (3 ∷ [])
+pub marked-missing : answerTo markedBook (Ask Missing) ≡ answer 0 (3 ∷ [])
 unfolding answerTo valuesOf missingCount ones numberTo checkedOf ownNumber soundOf mapRules rangeRules
 marked-missing = refl

@@ -2,7 +2,7 @@
 use mathlib.Core.Path.{ap, _∙_}
 use Rattle.terms.specs.Paper.{Paper, one-number}
 use Rattle.ledger_spec.specs.Words.{valueAt}
-use Rattle.ledger_spec.specs.Calls.{Missing, answerTo}
+use Rattle.ledger_spec.specs.Calls.{Ask, Missing, answerTo}
 use Rattle.ledger.specs.declared.Ledger.{Ledger}
 use Rattle.ledger.specs.State.{bookOf}
 use Rattle.host_words.specs.Told.{tells-as}
@@ -22,7 +22,7 @@ number-of-requires c κs = search needs
 
 returns : tie.Need-returns
 returns c =
-    let p = c .before .before .missing .ensures .0 ∙ ap (λ (x : Ledger). answerTo (bookOf x) Missing) (c .before .before .before .ledger-in .ensures) in
+    let p = c .before .before .missing .ensures .0 ∙ ap (λ (x : Ledger). answerTo (bookOf x) (Ask Missing)) (c .before .before .before .ledger-in .ensures) in
     listing-refused _ _ _ _ _ _ (c .before .number-of .ensures ∙ one-number p) _ (c .if1 .taken)
 
 put-listing-requires : tie.Need-put-listing-requires
@@ -37,7 +37,7 @@ same-length c = search needs
 returns-2 : tie.Need-returns-2
 returns-2 c =
     let l = c .before .before .before .before .before .before .before .before .before .ledger-in .ensures in
-    let p = c .before .before .before .before .before .before .before .before .missing .ensures .0 ∙ ap (λ (x : Ledger). answerTo (bookOf x) Missing) l in
+    let p = c .before .before .before .before .before .before .before .before .missing .ensures .0 ∙ ap (λ (x : Ledger). answerTo (bookOf x) (Ask Missing)) l in
     let s = last-line _ _ _ _ _ _ (ap (λ (x : Ledger). x .floor) l) (ap (λ (x : Ledger). x .top) l) (ap (λ (x : Paper). valueAt x 0) p) in
     let q = c .before .before .before .before .put-listing .ensures in
     let laid = listing-laid _ _ _ _ _ _ (c .before .before .before .before .before .before .before .number-of .ensures ∙ one-number p) _ _ _ (c .before .before .before .before .before .before .if1 .left) s (q .0) (q .1) in

@@ -45,17 +45,17 @@ value-requires-2 c κs = search needs
 held-requires : tie.Need-held-requires
 held-requires c κs = search needs
 
-sub-t8 : tie.Need-sub-t8
+sub-t9 : tie.Need-sub-t9
 unfolding bookOf
-sub-t8 c =
+sub-t9 c =
     let s = c .before .before .before .before .before .before in
     let r = rules-facts (bookOf (s .args .self)) (sound-is (c .before .before .before .before .before) (c .before .before .before .before .if1 .left)) in
     let h : s .args .self .floor .0 ≤ s .args .self .top .0 = r .low in
     omega arith
 
-sub-t9 : tie.Need-sub-t9
+sub-t10 : tie.Need-sub-t10
 unfolding bookOf
-sub-t9 c =
+sub-t10 c =
     let s = c .before .before .before .before .before .before in
     let h = held-fits (bookOf (s .args .self)) (rules-facts (bookOf (s .args .self)) (sound-is (c .before .before .before .before .before) (c .before .before .before .before .if1 .left))) in
     let g : c .held .result ≤ s .args .self .top .0 - s .args .self .floor .0 = omega (arith, c .held .ensures, held-of (s .args .self) (words s)) in
@@ -81,6 +81,6 @@ missing-spec =
     value-requires
     value-requires-2
     held-requires
-    sub-t8
     sub-t9
+    sub-t10
     returns-2)
