@@ -13,7 +13,7 @@ use Rattle.octets.specs.Papers.{writtenPaper, roomFor, laidIfRoom}
 use Rattle.digits.specs.Digits.{decimalOf, widthIn}
 use Rattle.record.specs.declared.Record.{Record}
 use Rattle.record.specs.Record.{blankOf, firstHalf, secondHalf, recordOf, recordAt}
-use Rattle.record.specs.Examples.{recordFF, recordA}
+use Rattle.record.specs.Examples.{recordFF, recordA, recordB}
 use Rattle.listing_text.specs.declared.Summary.{Summary}
 use Rattle.listing_text.specs.Text.{column, typeColumn, firstColumns, lastColumns, lineOf, named, summaryOf}
 use Rattle.listing_text.proofs.put_line.Reads as put-line
@@ -55,16 +55,16 @@ put-summary-rules-out =
     ruled lefts (λ (i : List ℕ × (ℕ × Summary)). left (roomFor (i .1 .0) (length (summaryOf (i .1 .1))) (length (i .0))) (laidIfRoom (i .1 .0) (summaryOf (i .1 .1)) (i .0))) (λ c p. left-is p) _ refl
 
 -- the numbers of the last line, which has 43 bytes then; the lines of A and of FF have 19 and 20
-abbrev sums : Summary
-sums = record { frames = 1; refused = 1; floor = tickOf 0; top = tickOf 0; missing = 0 }
+abbrev few : Summary
+few = record { frames = 1; refused = 1; floor = tickOf 0; top = tickOf 0; missing = 0 }
 
 -- a buffer, the bytes of records, and the numbers of the last line; the answer, and the buffer then
 abbrev pub put-listing-wrong : List (Row (List ℕ × (List ℕ × Summary)) Left)
 put-listing-wrong =
-    (replicate 83 7, (recordOf recordA ++ recordOf recordFF, sums)) never left (answer 0 (82 ∷ [])) (lineOf recordFF ++ (lineOf recordA ++ (summaryOf sums ++ (7 ∷ []))))  -- the last record first
-    ∷ (replicate 83 7, (recordOf recordA ++ recordOf recordFF, sums)) never left (answer 0 (43 ∷ [])) (summaryOf sums ++ replicate 40 7)  -- the records left out
-    ∷ (replicate 83 7, (recordOf recordA ++ recordOf recordFF, sums)) only left (answer 0 (82 ∷ [])) (lineOf recordA ++ (lineOf recordFF ++ (summaryOf sums ++ (7 ∷ []))))
-    ∷ (replicate 81 7, (recordOf recordA ++ recordOf recordFF, sums)) only left (refusal 8) (replicate 81 7)  -- nothing laid beside 8
+    (replicate 83 7, (recordOf recordA ++ recordOf recordFF, few)) never left (answer 0 (82 ∷ [])) (lineOf recordFF ++ (lineOf recordA ++ (summaryOf few ++ (7 ∷ []))))  -- the last record first
+    ∷ (replicate 83 7, (recordOf recordA ++ recordOf recordFF, few)) never left (answer 0 (43 ∷ [])) (summaryOf few ++ replicate 40 7)  -- the records left out
+    ∷ (replicate 83 7, (recordOf recordA ++ recordOf recordFF, few)) only left (answer 0 (82 ∷ [])) (lineOf recordA ++ (lineOf recordFF ++ (summaryOf few ++ (7 ∷ []))))
+    ∷ (replicate 81 7, (recordOf recordA ++ recordOf recordFF, few)) only left (refusal 8) (replicate 81 7)  -- nothing laid beside 8
     ∷ []
 
 pub put-listing-rules-out : RulesOut (Kept _ put-listing-kinds.ps put-listing-kinds.r put-listing.Post) (λ c. (now (c .args .0), (now (c .args .1 .0), c .args .1 .1 .0))) (λ c. left (writtenPaper (c .result)) (now (c .exit .0))) put-listing-wrong

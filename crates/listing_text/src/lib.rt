@@ -151,7 +151,7 @@ fn store_line(out: &mut [u8], at: usize, r: Record) -> usize
 }
 
 // Writes the last line over out from at on, and returns the place after it.
-fn store_last(out: &mut [u8], at: usize, s: Summary) -> usize
+fn store_end(out: &mut [u8], at: usize, s: Summary) -> usize
     requires { ⌜ at + length (summaryOf s) ≤ length (now out) ⌝ }
     ensures { λ e. ⌜ Stored at (summaryOf s) (now (out .entry)) (now (out .exit)) e ⌝ }
 {
@@ -174,7 +174,7 @@ fn last_len(s: Summary) -> usize
     ensures { λ n. ⌜ n ≡ length (summaryOf s) ⌝ }
 {
     let mut d: [u8; 160] = [0; 160];
-    store_last(&mut d, 0, s)
+    store_end(&mut d, 0, s)
 }
 
 // Whether so much room takes the whole listing. left is the room after the lines passed.
@@ -205,7 +205,7 @@ fn store(out: &mut [u8], records: &[u8], s: Summary) -> usize
         at = store_line(out, at, record::record_at(records, 64 * laid));
         laid += 1;
     }
-    store_last(out, at, s)
+    store_end(out, at, s)
 }
 
 // Writes the lines of all whole records of `records` (64 bytes each; what is left over at its end

@@ -63,8 +63,8 @@ offer-rules-out = ruled (beside numbers lists) (λ (i : Book × Seen). shown (of
 abbrev tick : Seen
 tick = record { answer = 0; «msg_type» = 0x4D323031; seq = sessionOf 2; channel = channelOf 100; tick = tickOf 3; status = 0; «body_len» = 45; size = 73 }
 
-abbrev shown : Record → List ℕ
-shown r = r .place ∷ r .«msg_type» ∷ r .answer ∷ r .seq .0 ∷ r .tick .0 ∷ r .channel .0 ∷ r .«body_len» ∷ r .floor .0 ∷ r .top .0 ∷ []
+abbrev noted : Record → List ℕ
+noted r = r .place ∷ r .«msg_type» ∷ r .answer ∷ r .seq .0 ∷ r .tick .0 ∷ r .channel .0 ∷ r .«body_len» ∷ r .floor .0 ∷ r .top .0 ∷ []
 
 abbrev pub made-wrong : List (Row (ℕ × (Seen × (ℕ × (ℕ × ℕ)))) (List ℕ))
 made-wrong =
@@ -73,9 +73,9 @@ made-wrong =
     ∷ (7, (tick, (12, (4, 5)))) only (7 ∷ 0x4D323031 ∷ 12 ∷ 2 ∷ 3 ∷ 100 ∷ 45 ∷ 4 ∷ 5 ∷ [])
     ∷ []
 
-pub made-rules-out : RulesOut (Kept _ made-kinds.ps made-kinds.r made.Post) (λ c. (c .args .0, (c .args .1 .0, (c .args .1 .1 .0 .answer, (c .args .1 .1 .0 .ledger .floor .0, c .args .1 .1 .0 .ledger .top .0))))) (λ c. shown (c .result)) made-wrong
+pub made-rules-out : RulesOut (Kept _ made-kinds.ps made-kinds.r made.Post) (λ c. (c .args .0, (c .args .1 .0, (c .args .1 .1 .0 .answer, (c .args .1 .1 .0 .ledger .floor .0, c .args .1 .1 .0 .ledger .top .0))))) (λ c. noted (c .result)) made-wrong
 unfolding madeOf
-made-rules-out = ruled lists (λ (i : ℕ × (Seen × (ℕ × (ℕ × ℕ)))). shown (madeOf (i .0) (i .1 .0) (i .1 .1 .0) (tickOf (i .1 .1 .1 .0)) (tickOf (i .1 .1 .1 .1)))) (λ c p. ap shown p) _ refl
+made-rules-out = ruled lists (λ (i : ℕ × (Seen × (ℕ × (ℕ × ℕ)))). noted (madeOf (i .0) (i .1 .0) (i .1 .1 .0) (tickOf (i .1 .1 .1 .0)) (tickOf (i .1 .1 .1 .1)))) (λ c p. ap noted p) _ refl
 
 -- NOTE: a buffer, a number and a record; the buffer then
 abbrev pub note-wrong : List (Row (List ℕ × (ℕ × Record)) (List ℕ))

@@ -36,11 +36,11 @@ same-length c = search needs
 
 returns-2 : tie.Need-returns-2
 returns-2 c =
-    let l = c .before .before .before .before .before .before .before .before .before .ledger-in .ensures in
-    let p = c .before .before .before .before .before .before .before .before .missing .ensures .0 ∙ ap (λ (x : Ledger). answerTo (bookOf x) (Ask Missing)) l in
+    let l = c .before .before .before .before .before .before .before .before .before .before .before .ledger-in .ensures in
+    let p = c .before .before .before .before .before .before .before .before .before .before .missing .ensures .0 ∙ ap (λ (x : Ledger). answerTo (bookOf x) (Ask Missing)) l in
     let s = last-line _ _ _ _ _ _ (ap (λ (x : Ledger). x .floor) l) (ap (λ (x : Ledger). x .top) l) (ap (λ (x : Paper). valueAt x 0) p) in
     let q = c .before .before .before .before .put-listing .ensures in
-    let laid = listing-laid _ _ _ _ _ _ (c .before .before .before .before .before .before .before .number-of .ensures ∙ one-number p) _ _ _ (c .before .before .before .before .before .before .if1 .left) s (q .0) (q .1) in
+    let laid = listing-laid _ _ _ _ _ _ (c .before .before .before .before .before .before .before .before .before .number-of .ensures ∙ one-number p) _ _ _ (c .before .before .before .before .before .before .before .before .if1 .left) s (q .0) (q .1) in
     (tells-as (laid .0) (c .told-bytes .ensures), laid .1)
 
 pub rk-listing-spec : {M : Type 1} → statement M

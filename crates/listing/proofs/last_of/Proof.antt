@@ -13,7 +13,7 @@ missing-requires c κs = search needs
 
 returns : tie.Need-returns
 unfolding lastBy bookOf
-returns c = cc (ap (λ (p : Paper). valueAt p 0) (c .missing .ensures .0))
+returns c = cc (ap (λ (p : Paper). valueAt p 0) (c .before .before .missing .ensures .0))
 
 pub last-of-spec : {M : Type 1} → statement M
 last-of-spec = tie.close (tie.spec missing-requires returns)

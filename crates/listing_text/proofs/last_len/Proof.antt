@@ -5,14 +5,14 @@ use borrow.Author.Needs.{needs}
 use Rattle.listing_text.proofs.last_len.Statement.{statement}
 use Rattle.listing_text.proofs.last_len.Tie as tie
 
-slice-aggregate-store-last : tie.Need-slice-aggregate-store-last
-slice-aggregate-store-last c = search needs
+slice-aggregate-store-end : tie.Need-slice-aggregate-store-end
+slice-aggregate-store-end c = search needs
 
-store-last-requires : tie.Need-store-last-requires
-store-last-requires c κs = omega (arith, summary-most (c .before .args .s) (omega arith) (omega arith) (omega arith) (omega arith) (omega arith))
+store-end-requires : tie.Need-store-end-requires
+store-end-requires c κs = omega (arith, summary-most (c .before .args .s) (omega arith) (omega arith) (omega arith) (omega arith) (omega arith))
 
 returns : tie.Need-returns
 returns c = search needs
 
 pub last-len-spec : {M : Type 1} → statement M
-last-len-spec = tie.close (tie.spec slice-aggregate-store-last store-last-requires returns)
+last-len-spec = tie.close (tie.spec slice-aggregate-store-end store-end-requires returns)

@@ -40,8 +40,8 @@ loop-again c =
     let l = p .before .before .before .before in
     (search needs, going-on _ _ (l .loop .inv .1) (search needs) (rw (p .before .record-at .ensures) at (p .store-line .ensures)))
 
-store-last-requires : tie.Need-store-last-requires Inv-loop μ-loop
-store-last-requires c κs = let l = c .before .before in last-room _ _ (l .loop .inv .1) (search needs) (search needs)
+store-end-requires : tie.Need-store-end-requires Inv-loop μ-loop
+store-end-requires c κs = let l = c .before .before in last-room _ _ (l .loop .inv .1) (search needs) (search needs)
 
 same-length : tie.Need-same-length Inv-loop μ-loop
 same-length c = search needs
@@ -49,7 +49,7 @@ same-length c = search needs
 returns : tie.Need-returns Inv-loop μ-loop
 returns c =
     let p = c .before .before in
-    going-end _ _ (p .before .before .before .loop .inv .1) (search needs) (p .store-last .ensures)
+    going-end _ _ (p .before .before .before .loop .inv .1) (search needs) (p .store-end .ensures)
 
 pub store-spec : {M : Type 1} → statement M
 store-spec =
@@ -64,6 +64,6 @@ store-spec =
     add-laid
     loop-less
     loop-again
-    store-last-requires
+    store-end-requires
     same-length
     returns)

@@ -4,9 +4,6 @@ use Rattle.record.specs.Stored.{stored-both}
 use borrow.Author.Needs.{needs}
 use Rattle.listing_text.proofs.store_last.Statement.{statement}
 use Rattle.listing_text.proofs.store_last.Tie as tie
-use native.Mathlib.Omega.{arith}
-use Rattle.listing_text.specs.Columns.{not-refused}
-use Rattle.listing_text.specs.Answered.{answered}
 
 value-requires : tie.Need-value-requires
 value-requires c κs = search needs
@@ -63,36 +60,3 @@ store-last-spec =
     store-column-requires-4
     same-length
     returns)
-
-put-summary-requires : tie.Need-put-summary-requires
-put-summary-requires c κs = search needs
-
-enum-told : tie.Need-enum-told
-enum-told c = search needs
-
-enum-known-n : tie.Need-enum-known-n
-enum-known-n c = search needs
-
-add-result : tie.Need-add-result
-add-result c =
-    let p = c .before .before .before .before .before in
-    omega (arith, answered (search needs) (p .put-summary .ensures .0) _ (c .before .n .given .1) (p .put-summary .ensures .1) .room)
-
-same-length : tie.Need-same-length
-same-length c = search needs
-
-returns : tie.Need-returns
-returns c = absurd (not-refused _ _ _ _ (search needs) (c .before .before .before .before .put-summary .ensures .0) (c .enum-told .given .0 .0, c .enum-told .given .1))
-
-same-length-2 : tie.Need-same-length-2
-same-length-2 c = search needs
-
-returns-2 : tie.Need-returns-2
-returns-2 c =
-    let p = c .before .before .before .before .before in
-    answered (search needs) (p .put-summary .ensures .0) _ (c .before .n .given .1) (p .put-summary .ensures .1)
-
-pub store-last-spec : {M : Type 1} → statement M
-store-last-spec =
-    tie.close
-    (tie.spec put-summary-requires enum-told enum-known-n add-result same-length returns same-length-2 returns-2)
