@@ -1,7 +1,7 @@
 /* Frames of the exchange's market data gateway: read, written, searched for, scrubbed; the gap
- * ledger of a tick channel; captures walked, listed and cleaned, whole or while they arrive. The
- * library is proved. For C11 and C++. Link librietknoest (.a or .so): tools/archive builds it,
- * tools/install installs it for pkg-config.
+ * ledger of a tick channel; captures walked, listed and cleaned, whole or while they arrive; the
+ * client's side of a session. The library is proved. For C11 and C++. Link librietknoest (.a or
+ * .so): tools/archive builds it, tools/install installs it for pkg-config.
  *
  * Every function returns a code of the table below, 0 for success; results go to out-parameters.
  * Those for market files return a code of their own table and a place, by value.
@@ -64,7 +64,11 @@ enum rk_answer {
     RK_BODY_LENGTH = 24, /* STEP: no body length of one to nine digits stands second */
     RK_MSG_TYPE = 25,    /* STEP: none of the seven types */
     RK_FIELDS = 26,  /* STEP: a field malformed, empty, repeated, missing, or not of the type */
-    RK_PLACES = 29   /* a place in the stream would not fit 64 bits */
+    RK_PLACES = 29,  /* a place in the stream would not fit 64 bits */
+    RK_EARLY = 30,   /* anything but logon or logout before the logon answer */
+    RK_SEQUENCE = 31, /* MsgSeqNum is not the expected one */
+    RK_OVER = 32,    /* the session is over, the line dead, or a counter at its last number */
+    RK_AGAIN = 33    /* a second logon */
 };
 
 /* FRAMES */
@@ -386,6 +390,68 @@ rk_finding rk_market_values(const uint8_t *file, size_t len, uint8_t *out, size_
  * always room enough.
  * 0 writes out's first place bytes. */
 rk_finding rk_market_write(const uint8_t *values, size_t len, uint8_t *out, size_t out_len);
+
+/* A SESSION */
+
+/* The client's side of one line to the gateway: what to send, when, and under which number. You
+ * write the frame (rk_write) with your own CompIDs and SendingTime, and send it. The table of
+ * states and the order of calls are in docs/SESSION.md.
+ *
+ * Times are milliseconds of a clock of yours that does not go back; one before the last counts as
+ * the last. Only rk_session_time sends heartbeats and calls the line dead: call it often, and after
+ * each frame.
+ *
+ * Keep and copy the words as you like, but do not read or make them. A call on words that break the
+ * state rules returns 13. A new session is rk_session_open again. */
+typedef struct {
+    uint64_t words[8];
+} rk_session;
+RK_SIZE(rk_session, 8);
+
+typedef struct {
+    uint64_t msg_type; /* send a message of this type: S001, S002, S003 or P002; 0: send nothing */
+    uint64_t seq;      /* under this MsgSeqNum; 0 if nothing is to be sent */
+    uint64_t dead;     /* 1 if the line is dead: close it. The session is over */
+} rk_turn;
+RK_SIZE(rk_turn, 3);
+
+typedef struct {
+    uint64_t msg_type;
+    uint64_t seq;
+    uint64_t dead; /* 0: only rk_session_time calls a line dead */
+    uint64_t len;  /* of the frame that was taken */
+} rk_arrival;
+RK_SIZE(rk_arrival, 4);
+
+/* A new session: both counters at 1.
+ * Always returns 0, and writes *state. */
+uint32_t rk_session_open(rk_session *state);
+
+/* Begins: send the logon.
+ * Returns 0, 13, 32, 33. 0 writes *state and *told. */
+uint32_t rk_session_begin(rk_session *state, uint64_t time, rk_turn *told);
+
+/* Lets time pass: send a heartbeat if one is due; close the line if it is dead.
+ * Returns 0, 13, 32. 32 only if a heartbeat is due and no number is left for it. 0 writes *state
+ * and *told. */
+uint32_t rk_session_time(rk_session *state, uint64_t time, rk_turn *told);
+
+/* Leaves: send the logout, and nothing after it. The gateway answers by its own.
+ * Returns 0, 13, 30, 32. 0 writes *state and *told. */
+uint32_t rk_session_leave(rk_session *state, uint64_t time, rk_turn *told);
+
+/* Asks for a resend: send the P002 of rk_ledger_request. Call rk_session_may_send before that one.
+ * Returns 0, 13, 30, 32. 0 writes *state and *told. */
+uint32_t rk_session_ask(rk_session *state, uint64_t time, rk_turn *told);
+
+/* The frame at the front has arrived; the bytes after it do not matter. 1 asks for more bytes.
+ * After 30 to 33 the frame is not taken; rk_read has its length.
+ * Returns 0, 1 to 7, 13, 30 to 33. 13 comes before all others. 0 writes *state and *told. */
+uint32_t rk_session_receive(rk_session *state, uint64_t time, const uint8_t *bytes, size_t len, rk_arrival *told);
+
+/* What rk_session_ask would return now. Nothing is sent, nothing changes.
+ * Returns 0, 13, 30, 32. */
+uint32_t rk_session_may_send(const rk_session *state, uint64_t time);
 
 #undef RK_SIZE
 

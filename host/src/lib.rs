@@ -15,6 +15,7 @@ mod numbers;
 #[allow(unsafe_code)]
 mod raw;
 pub mod step;
+mod session;
 mod stream;
 
 pub use captures::{
@@ -26,6 +27,7 @@ pub use frames::{
 };
 pub use ledger::{Ledger, LedgerStatus, Passed, Request, Settled, STATE_FORM};
 pub use numbers::{ChannelNumber, Refusal, SessionNumber, TickNumber};
+pub use session::{Arrival, Passing, Session, ToSend};
 pub use stream::{Fed, Stream, KEPT};
 
 /// Places and lengths are 64-bit numbers.

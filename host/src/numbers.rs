@@ -70,6 +70,10 @@ refusals! {
     MsgType = 25, "msg_type", "the type is none of A 5 0 1 2 3 4";
     Fields = 26, "fields", "a field is malformed, empty, repeated, missing, or not of the type";
     Places = 29, "places", "a place in the stream would not fit 64 bits";
+    Early = 30, "early", "anything but logon or logout before the logon answer";
+    Sequence = 31, "sequence", "the MsgSeqNum is not the expected one";
+    Over = 32, "over", "the session is over, the line dead, or a counter at its last number";
+    Again = 33, "again", "a second logon";
 }
 
 impl Refusal {

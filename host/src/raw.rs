@@ -20,6 +20,7 @@ use crate::captures::Cleaned;
 use crate::frames::{Frame, Span};
 use crate::ledger::{Ledger, Passed, Request, Settled};
 use crate::numbers::{ChannelNumber, SessionNumber, TickNumber};
+use crate::session::Session;
 use crate::stream::{Fed, KEPT};
 
 /// A place, or none if `any` is 0.
@@ -97,6 +98,25 @@ pub struct Finding {
     pub place: u64,
 }
 
+/// What a session's call tells: the MsgType to send, 0 for nothing, its number, and 1 for a dead line.
+#[derive(Default)]
+#[repr(C)]
+pub struct TurnRow {
+    pub msg_type: u64,
+    pub seq: u64,
+    pub dead: u64,
+}
+
+/// The same of a frame that was taken, and its length.
+#[derive(Default)]
+#[repr(C)]
+pub struct ArrivalRow {
+    pub msg_type: u64,
+    pub seq: u64,
+    pub dead: u64,
+    pub len: u64,
+}
+
 #[rustfmt::skip]
 extern "C" {
     fn rk_read(bytes: *const u8, len: usize, place: usize, told: *mut Frame) -> u32;
@@ -127,6 +147,13 @@ extern "C" {
     fn rk_market_check(file: *const u8, len: usize) -> Finding;
     fn rk_market_values(file: *const u8, len: usize, out: *mut u8, out_len: usize) -> Finding;
     fn rk_market_write(values: *const u8, len: usize, out: *mut u8, out_len: usize) -> Finding;
+    fn rk_session_open(state: *mut Session) -> u32;
+    fn rk_session_begin(state: *mut Session, time: u64, told: *mut TurnRow) -> u32;
+    fn rk_session_time(state: *mut Session, time: u64, told: *mut TurnRow) -> u32;
+    fn rk_session_leave(state: *mut Session, time: u64, told: *mut TurnRow) -> u32;
+    fn rk_session_ask(state: *mut Session, time: u64, told: *mut TurnRow) -> u32;
+    fn rk_session_receive(state: *mut Session, time: u64, bytes: *const u8, len: usize, told: *mut ArrivalRow) -> u32;
+    fn rk_session_may_send(state: *const Session, time: u64) -> u32;
 }
 
 // FRAMES
@@ -359,4 +386,43 @@ pub fn market_values(file: &[u8], out: &mut [u8]) -> Finding {
 pub fn market_write(values: &[u8], out: &mut [u8]) -> Finding {
     // SAFETY: both are passed with their own lengths, and `out` is not in `values`.
     unsafe { rk_market_write(values.as_ptr(), values.len(), out.as_mut_ptr(), out.len()) }
+// A SESSION
+
+pub fn session_open(state: &mut Session) -> u32 {
+    // SAFETY: `state` is a row of eight.
+    unsafe { rk_session_open(state) }
+}
+
+pub fn session_begin(state: &mut Session, time: u64, told: &mut TurnRow) -> u32 {
+    // SAFETY: `state` is a row of eight, with any words in it, `told` one of three, and two `&mut`
+    // do not overlap. Any time is allowed.
+    unsafe { rk_session_begin(state, time, told) }
+}
+
+pub fn session_time(state: &mut Session, time: u64, told: &mut TurnRow) -> u32 {
+    // SAFETY: as for `session_begin`.
+    unsafe { rk_session_time(state, time, told) }
+}
+
+pub fn session_leave(state: &mut Session, time: u64, told: &mut TurnRow) -> u32 {
+    // SAFETY: as for `session_begin`.
+    unsafe { rk_session_leave(state, time, told) }
+}
+
+pub fn session_ask(state: &mut Session, time: u64, told: &mut TurnRow) -> u32 {
+    // SAFETY: as for `session_begin`.
+    unsafe { rk_session_ask(state, time, told) }
+}
+
+pub fn session_receive(state: &mut Session, time: u64, bytes: &[u8], told: &mut ArrivalRow) -> u32 {
+    let (read, len) = (bytes.as_ptr(), bytes.len());
+    // SAFETY: `state` is a row of eight, with any words in it; `bytes` is passed with its own
+    // length and only read; `told` is a row of four. The first and the last are `&mut`: neither
+    // overlaps another argument.
+    unsafe { rk_session_receive(state, time, read, len, told) }
+}
+
+pub fn session_may_send(state: &Session, time: u64) -> u32 {
+    // SAFETY: `state` is a row of eight, with any words in it, and only read.
+    unsafe { rk_session_may_send(state, time) }
 }

@@ -134,6 +134,30 @@ static void stream_kept(const guarded *was, uint32_t answer, uint64_t waiting) {
     }
 }
 
+/* A session with a number on both sides. */
+static struct {
+    uint64_t before;
+    rk_session row;
+    uint64_t after;
+} session;
+
+/* Whether a call has left the session alone, unless it was answered 0. */
+static void session_kept(const rk_session *was, uint32_t answer) {
+    insist(session.before == UINT64_C(0xA5A5A5A5A5A5A5A5) && session.after == session.before, "numbers around a session written");
+    insist(answer == RK_DONE || memcmp(&session.row, was, sizeof *was) == 0, "the session changed");
+    printf(" :");
+    for (int i = 0; i < 8; i++) TELL(session.row.words[i]);
+}
+
+/* The calls that have a time and tell a turn. */
+static void turn(uint32_t (*function)(rk_session *, uint64_t, rk_turn *)) {
+    rk_session was = session.row;
+    ROW(rk_turn, t);
+    uint32_t answer = function(&session.row, number(), &t.row);
+    if (ANSWERED(answer, t)) TELL(t.row.msg_type), TELL(t.row.seq), TELL(t.row.dead);
+    session_kept(&was, answer);
+}
+
 static void tell_fed(const rk_fed *fed) {
     TELL(fed->records), TELL(fed->frames), TELL(fed->refused), TELL(fed->place), TELL(fed->waiting);
     print_bytes(&output, 64 * fed->records);
@@ -143,6 +167,7 @@ int main(void) {
     static char name[32];
     static guarded stream_was;
     memset(&stream, 0xA5, sizeof stream);
+    memset(&session, 0xA5, sizeof session);
     call = name;
     while (scanf("%31s", name) == 1) {
         rk_ledger was = ledger;
@@ -314,6 +339,34 @@ int main(void) {
             if (ANSWERED(answer, t)) tell_fed(&t.row);
             kept_from(&output, answer == RK_DONE ? 64 * t.row.records : 0);
             stream_kept(&stream_was, answer, t.row.waiting);
+        } else if (strcmp(name, "session") == 0) {
+            for (int i = 0; i < 8; i++) session.row.words[i] = number();
+        } else if (strcmp(name, "session_open") == 0) {
+            answer = rk_session_open(&session.row);
+            printf("%" PRIu32, answer);
+            session_kept(&session.row, answer);
+        } else if (strcmp(name, "session_begin") == 0) {
+            turn(rk_session_begin);
+        } else if (strcmp(name, "session_time") == 0) {
+            turn(rk_session_time);
+        } else if (strcmp(name, "session_leave") == 0) {
+            turn(rk_session_leave);
+        } else if (strcmp(name, "session_ask") == 0) {
+            turn(rk_session_ask);
+        } else if (strcmp(name, "session_receive") == 0) {
+            rk_session before = session.row;
+            uint64_t time = number();
+            uint8_t *b = bytes();
+            ROW(rk_arrival, t);
+            answer = rk_session_receive(&session.row, time, b, input.len, &t.row);
+            if (ANSWERED(answer, t)) TELL(t.row.msg_type), TELL(t.row.seq), TELL(t.row.dead), TELL(t.row.len);
+            kept_from(&input, 0);
+            session_kept(&before, answer);
+        } else if (strcmp(name, "session_may_send") == 0) {
+            rk_session before = session.row;
+            answer = rk_session_may_send(&session.row, number());
+            printf("%" PRIu32, answer);
+            session_kept(&before, RK_STATE);
         } else {
             insist(0, "no such call");
         }

@@ -5,12 +5,13 @@ use oracle::cases::NUMBERS;
 use oracle::made::{self, about, Dice, Ticks};
 use rietknoest_host as host;
 use rietknoest_host::{
-    ChannelNumber, Entry, Fed, Ledger, Refusal, SessionNumber, Stream, TickNumber,
+    ChannelNumber, Entry, Fed, Ledger, Passing, Refusal, Session, SessionNumber, Stream,
+    TickNumber, ToSend,
 };
 use std::collections::{BTreeMap, BTreeSet};
 use std::fmt::Write as _;
 use std::fs;
-use std::io::Write as _;
+use std::io::{Read, Write as _};
 use std::mem::size_of;
 use std::path::{Path, PathBuf};
 use std::process::{Command, Stdio};
@@ -40,13 +41,24 @@ fn run(command: &mut Command, input: &[u8]) -> Vec<u8> {
 }
 
 /// The crates of which the library is made, and how many functions each has for others.
-const EXPORTS: [(&str, usize); 6] = [
+const EXPORTS: [(&str, usize); 7] = [
     ("host_frames", 7),
     ("host_ledger", 6),
+    ("host_session", 7),
     ("host_captures", 4),
     ("host_stream", 3),
     ("host_step", 4),
     ("host_market", 3),
+];
+
+/// The numbers that each call of a session gives, as the header says.
+const SESSION_NUMBERS: [(&str, &[u32]); 6] = [
+    ("session_begin", &[0, 13, 32, 33]),
+    ("session_time", &[0, 13]),
+    ("session_leave", &[0, 13, 30, 32]),
+    ("session_ask", &[0, 13, 30, 32]),
+    ("session_receive", &[0, 5, 13, 30, 31, 32, 33]),
+    ("session_may_send", &[0, 13, 30, 32]),
 ];
 
 /// Compiles a program against the header and the library.
@@ -196,6 +208,7 @@ fn of_wrapper() -> Functions {
         "Settled" => size_of::<host::Settled>() / 8,
         "Cleaned" => size_of::<host::Cleaned>() / 8,
         "Fed" => size_of::<Fed>() / 8,
+        "Session" => size_of::<Session>() / 8,
         "u64" => 1,
         // the rows that the wrapper keeps to itself
         _ => {
@@ -683,6 +696,113 @@ fn streams(s: &mut Script, d: &mut Dice) {
     }
 }
 
+/// A call on a session, and the session behind it.
+fn call_session(
+    s: &mut Script,
+    call: &'static str,
+    asked: &str,
+    answer: Result<Vec<u64>, Refusal>,
+    session: &Session,
+) {
+    s.ask(call, asked, answer.map(|row| (row, None)), None);
+    let line = s.expected.last_mut().expect("a line");
+    line.push_str(" :");
+    for word in session.to_words() {
+        write!(line, " {word}").expect("memory");
+    }
+}
+
+/// What is to be sent as the C program prints it, with 0 for a line that is not dead.
+fn sent(send: ToSend) -> Vec<u64> {
+    let (msg_type, seq) = send.frame().unwrap_or((0, SessionNumber::new(0)));
+    vec![msg_type.into(), seq.value(), 0]
+}
+
+/// A frame of this type and number, at times damaged.
+fn arrived(d: &mut Dice, name: &[u8; 4], seq: u64) -> Vec<u8> {
+    let mut body = vec![b'1'; if name == b"S001" { 74 } else { 260 }];
+    match name {
+        b"S001" => body[64..66].copy_from_slice(&[0, d.of(&[1, 2, 30])]),
+        b"S002" => body[..4].copy_from_slice(&[0; 4]),
+        _ => body.clear(),
+    }
+    let mut f = vec![0; body.len() + 28];
+    let (name, seq) = (u32::from_be_bytes(*name), SessionNumber::new(seq));
+    host::write(name, 20260121093000000, seq, &body, &mut f).expect("a frame");
+    if d.once_in(10) {
+        let last = f.len() - 1;
+        f[last] ^= 1;
+    }
+    f
+}
+
+fn sessions(s: &mut Script, d: &mut Dice) {
+    let mut session = Session::open();
+    call_session(s, "session_open", "", Ok(vec![]), &session);
+    let mut time = 0;
+    for turn in 0..30 {
+        let words = session.to_words();
+        time = d.of(&[time, time + 1, time + 1_000, time + 2_001, words[3] / 2]);
+        let asked = time.to_string();
+        if d.once_in(12) {
+            // one call on a session that was changed by other hands
+            let mut other = words;
+            other[d.below(8) as usize] = d.edge();
+            session = Session::from_words(other);
+            let said = other.map(|w| w.to_string()).join(" ");
+            writeln!(s.asked, "session {said}").expect("memory");
+            s.expected.push(String::new());
+        }
+        let call = if turn == 0 { 0 } else { d.below(12) };
+        match call {
+            0 => {
+                let answer = session.begin(time).map(sent);
+                call_session(s, "session_begin", &asked, answer, &session);
+            }
+            1 | 2 => {
+                let answer = session.time(time).map(|passing| match passing {
+                    Passing::Send(send) => sent(send),
+                    Passing::Dead => vec![0, 0, 1],
+                });
+                call_session(s, "session_time", &asked, answer, &session);
+            }
+            3 => {
+                let answer = session.ask(time).map(sent);
+                call_session(s, "session_ask", &asked, answer, &session);
+            }
+            4 if d.once_in(3) => {
+                let answer = session.leave(time).map(sent);
+                call_session(s, "session_leave", &asked, answer, &session);
+            }
+            5 => {
+                let answer = session.may_send(time).map(|()| vec![]);
+                call_session(s, "session_may_send", &asked, answer, &session);
+            }
+            _ => {
+                let name = match words[0] {
+                    1 => d.of(&[b"S001", b"S001", b"S001", b"S002", b"S003"]),
+                    _ => d.of(&[b"S003", b"S003", b"S003", b"S003", b"S001", b"S002"]),
+                };
+                let seq = if d.once_in(6) { d.edge() } else { words[2] };
+                let f = arrived(d, name, seq);
+                let answer = session.receive(time, &f).map(|arrival| {
+                    let mut row = sent(arrival.send);
+                    row.push(arrival.len as u64);
+                    row
+                });
+                let asked = format!("{time} {}", hex(&f));
+                call_session(s, "session_receive", &asked, answer, &session);
+            }
+        }
+        if session.to_words() != words && session.may_send(time) == Err(Refusal::State) {
+            session = Session::from_words(words);
+            let said = words.map(|w| w.to_string()).join(" ");
+            writeln!(s.asked, "session {said}").expect("memory");
+            s.expected.push(String::new());
+        }
+    }
+}
+
 #[test]
 fn c_gets_the_answers_that_rust_gets() {
     let mut s = Script::default();
@@ -693,6 +813,12 @@ fn c_gets_the_answers_that_rust_gets() {
         ledgers(&mut s, d);
         captures(&mut s, d);
         streams(&mut s, d);
+        sessions(&mut s, d);
+    }
+    for (call, numbers) in SESSION_NUMBERS {
+        for n in numbers {
+            assert!(s.given.contains(&(call, *n)), "{call} never gave {n}");
+        }
     }
     // spans have lines of their own, and `damaged` is no call
     let aside = ["private", "damaged"];
@@ -729,6 +855,41 @@ fn ten_lines_of_c_scrub_a_frame() {
         host::scrub(&mut f).expect("a frame that reads");
         assert!(said == f, "a scrubbed frame differs");
     }
+}
+
+/// The next frame that a client sends.
+fn next_frame(from: &mut impl Read) -> (u32, u64, Vec<u8>) {
+    let mut head = [0; 24];
+    from.read_exact(&mut head).expect("a header");
+    let body = u32::from_be_bytes(head[20..].try_into().expect("4 bytes")) as usize;
+    let mut f = head.to_vec();
+    f.resize(28 + body, 0);
+    from.read_exact(&mut f[24..]).expect("the rest");
+    let read = host::read(&f, 0).expect("a frame");
+    (read.msg_type as u32, read.seq.value(), f)
+}
+
+/// The gateway sends each frame back: under the same numbers, since both sides count alike.
+#[test]
+fn a_small_client_in_c_keeps_a_session() {
+    let program = compiled("cc", "-std=c11", "host/examples/client.c");
+    let mut child = Command::new(program)
+        .stdin(Stdio::piped())
+        .stdout(Stdio::piped())
+        .spawn()
+        .expect("a client");
+    let mut to = child.stdin.take().expect("a pipe");
+    let mut from = child.stdout.take().expect("a pipe");
+    for (at, expected) in [b"S001", b"P002", b"S002"].into_iter().enumerate() {
+        let (msg_type, seq, f) = next_frame(&mut from);
+        assert_eq!(msg_type, u32::from_be_bytes(*expected));
+        assert_eq!(seq, at as u64 + 1);
+        to.write_all(&f).expect("it reads");
+    }
+    assert!(child.wait().expect("its end").success());
+    let mut rest = Vec::new();
+    from.read_to_end(&mut rest).expect("its end");
+    assert!(rest.is_empty(), "sent after its logout");
 }
 
 #[test]
