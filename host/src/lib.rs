@@ -14,8 +14,8 @@ pub mod market;
 mod numbers;
 #[allow(unsafe_code)]
 mod raw;
-pub mod step;
 mod session;
+pub mod step;
 mod stream;
 
 pub use captures::{

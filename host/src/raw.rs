@@ -386,6 +386,8 @@ pub fn market_values(file: &[u8], out: &mut [u8]) -> Finding {
 pub fn market_write(values: &[u8], out: &mut [u8]) -> Finding {
     // SAFETY: both are passed with their own lengths, and `out` is not in `values`.
     unsafe { rk_market_write(values.as_ptr(), values.len(), out.as_mut_ptr(), out.len()) }
+}
+
 // A SESSION
 
 pub fn session_open(state: &mut Session) -> u32 {
