@@ -3,7 +3,7 @@
 use std::ffi::OsStr;
 use std::fmt::Write;
 
-use rietknoest_host::{private_spans, read, Frame, HEADER};
+use rietknoest_host::{private_spans, read, tail_fields, Frame, HEADER};
 
 use crate::capture::{Capture, Walk};
 use crate::{count, names, print, step, Status, Trouble};
@@ -55,6 +55,9 @@ fn fields(capture: &Capture, walk: &Walk, place: usize, frame: &Frame) -> String
         let _ = writeln!(text, "{name} {value}");
     }
     let body = &capture.bytes[place + HEADER..][..frame.body_len as usize];
+    if &frame.type_name() == b"M201" {
+        text.push_str(&extension(body));
+    }
     // the frame was read, so its length suits its type
     for span in private_spans(frame.msg_type as u32, body).unwrap_or_default() {
         let _ = writeln!(
@@ -77,6 +80,27 @@ fn fields(capture: &Capture, walk: &Walk, place: usize, frame: &Frame) -> String
         text.push_str(
             "it stands after damage, and may lie inside private bytes of a damaged frame (docs/PRIVATE.md)\n",
         );
+    }
+    text
+}
+
+/// The public fields of an M201's extension: numbers, and letters without the spaces behind them.
+fn extension(body: &[u8]) -> String {
+    let mut text = String::new();
+    let fields = tail_fields(body).unwrap_or_default();
+    for (name, field) in names::tail_names(fields.len()).iter().zip(&fields) {
+        let bytes = &body[field.place as usize..][..field.len as usize];
+        let _ = match (field.hidden, field.text) {
+            (0, 0) => {
+                let number = bytes.iter().fold(0, |n, b| n << 8 | u64::from(*b));
+                writeln!(text, "{name} {number}")
+            }
+            (0, _) => {
+                let letters = bytes.escape_ascii().to_string();
+                writeln!(text, "{name} {}", letters.trim_end())
+            }
+            _ => Ok(()),
+        };
     }
     text
 }

@@ -39,6 +39,39 @@ pub fn private_field(frame: &Frame, place: u64) -> &'static str {
     }
 }
 
+/// The fields of an extension, by how many the library returns: source document 000, 2.5.4.1 has
+/// those of an order, 2.5.4.2 those of a trade.
+pub fn tail_names(count: usize) -> &'static [&'static str] {
+    match count {
+        16 => &[
+            "Side",
+            "QuoteID",
+            "MemberID",
+            "TraderCode",
+            "FullAmountTrade",
+            "SettlType",
+            "ContractMultiplier",
+            "ExpirationDays",
+            "TotalValueTraded",
+            "BasketID",
+            "InvestorName",
+            "BidTransType",
+            "BidExecInstType",
+            "ExpireDate",
+            "SecondaryOrderID",
+            "MinQty",
+        ],
+        5 => &[
+            "BidApplSeqNum",
+            "OfferApplSeqNum",
+            "TotalValueTraded",
+            "TradeMethod",
+            "MarginPrice",
+        ],
+        _ => &[],
+    }
+}
+
 /// What the library returns of a body, by name; what the type does not have is left out.
 pub fn public_fields(frame: &Frame) -> Vec<(&'static str, u64)> {
     let channel = ("ChannelNO", frame.channel.value().into());

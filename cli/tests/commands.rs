@@ -282,6 +282,19 @@ MsgSeqNum 9
 BodyLength 184
 ChannelNO 100
 ApplSeqNum 1
+Side 1
+QuoteID Q20260121000000001
+FullAmountTrade 2
+SettlType 1
+ContractMultiplier 9500
+ExpirationDays 14
+TotalValueTraded 200630000
+BasketID BASKET-11001
+BidTransType 2
+BidExecInstType 1
+ExpireDate 20260121
+SecondaryOrderID 
+MinQty 1000
 MemberID is private: 12 bytes, not shown
 TraderCode is private: 12 bytes, not shown
 InvestorName is private: 32 bytes, not shown

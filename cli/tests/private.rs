@@ -6,7 +6,7 @@ use std::collections::BTreeSet;
 use std::fs;
 
 use common::*;
-use rietknoest_host::{private_spans, read, search, Frame, HEADER};
+use rietknoest_host::{private_spans, read, search, tail_fields, Frame, HEADER};
 
 /// Shorter runs of bytes occur anywhere by chance.
 const ROW: usize = 6;
@@ -20,6 +20,8 @@ struct Told {
     public: Rows,
     /// Private numbers as text.
     numbers: BTreeSet<String>,
+    /// Numbers of an extension's public fields, as text.
+    shown: BTreeSet<String>,
 }
 
 impl Told {
@@ -59,6 +61,13 @@ impl Told {
         self.show(&bytes[public_from..frame.frame_len() - 1]);
         for number in [frame.sending_time, frame.seq.value(), frame.tick.value()] {
             self.show(number.to_string().as_bytes());
+        }
+        for field in tail_fields(body).unwrap_or_default() {
+            if (field.hidden, field.text) == (0, 0) {
+                let bytes = &body[field.place as usize..][..field.len as usize];
+                let number = bytes.iter().fold(0, |n, b| n << 8 | u64::from(*b));
+                self.shown.insert(number.to_string());
+            }
         }
     }
 }
@@ -101,7 +110,7 @@ impl Sought {
         told.show(&run(&folder, &["scrub", "-", "-o", "-"]).error);
         Sought {
             rows: told.private.difference(&told.public).cloned().collect(),
-            numbers: told.numbers,
+            numbers: told.numbers.difference(&told.shown).cloned().collect(),
         }
     }
 
@@ -140,8 +149,6 @@ fn the_rows_are_those_of_the_sample() {
         "MADE-UP NOTE",
         "MADE-UP REASON: LINE TEST IS OVER",
         "Q20260121000000005",
-        "an amount 200630000, and",
-        "a date 20260121",
     ];
     for text in texts {
         assert!(sought.found(text.as_bytes()) > 0, "{text}");

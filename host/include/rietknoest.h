@@ -133,6 +133,21 @@ uint32_t rk_scrub(uint8_t *frame, size_t len, uint64_t *told);
  * Returns 0, 2, 3, 4. 0 writes *told. */
 uint32_t rk_private(uint32_t msg_type, const uint8_t *body, size_t len, size_t i, rk_span *told);
 
+/* A field of an M201's extension. */
+typedef struct {
+    uint64_t place; /* in the body */
+    uint64_t len;
+    uint64_t text;   /* 1 for letters, 0 for a number */
+    uint64_t hidden; /* 1 for a private field, else 0 */
+} rk_field;
+RK_SIZE(rk_field, 4);
+
+/* Field number i, counted from 0, of the extension of an M201 body, by the layout that its stream
+ * and ExecType name; an empty one after the last. A stream that is not named has one field, all of
+ * it, and private.
+ * Returns 0, 3, 4, 6, by the body's length. 0 writes *told. */
+uint32_t rk_tail_field(const uint8_t *body, size_t len, size_t i, rk_field *told);
+
 /* Checks that the entries of an M102 body can be read.
  * Returns 0, 3, 4, 6. 0 writes the first entry's place to *told. */
 uint32_t rk_entries(const uint8_t *body, size_t len, uint64_t *told);

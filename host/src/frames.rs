@@ -96,6 +96,32 @@ pub fn private_spans(msg_type: u32, body: &[u8]) -> Result<Vec<Span>, Refusal> {
     }
 }
 
+/// A field of an M201's extension: where it starts in the body and how many bytes it has; `text` is
+/// 1 for letters and 0 for a number, `hidden` 1 for a private field, else 0.
+#[derive(Clone, Copy, Debug, Default, PartialEq, Eq)]
+#[repr(C)]
+pub struct Field {
+    pub place: u64,
+    pub len: u64,
+    pub text: u64,
+    pub hidden: u64,
+}
+
+/// The fields of the extension of an M201 body: sixteen of an order, five of a trade, else at most
+/// one, all of it and private. 3, 4 or 6 if no M201 has such a body, by its length.
+pub fn tail_fields(body: &[u8]) -> Result<Vec<Field>, Refusal> {
+    let mut fields = Vec::new();
+    loop {
+        let mut field = Field::default();
+        let answer = raw::tail_field(body, fields.len(), &mut field);
+        let field = result(answer, field)?;
+        if field.len == 0 {
+            return Ok(fields);
+        }
+        fields.push(field);
+    }
+}
+
 /// An entry of an M102 body, with its kind as two letters.
 #[derive(Clone, Copy, Debug, PartialEq, Eq)]
 pub enum Entry {

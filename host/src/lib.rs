@@ -22,8 +22,8 @@ pub use captures::{
     clean, first_unclean, listing, records_room, text_room, walk, Cleaned, Walked, RECORD,
 };
 pub use frames::{
-    entries, entry, private_spans, read, scrub, search, write, Entries, Entry, Frame, Span,
-    CHECK_SUM, HEADER,
+    entries, entry, private_spans, read, scrub, search, tail_fields, write, Entries, Entry, Field,
+    Frame, Span, CHECK_SUM, HEADER,
 };
 pub use ledger::{Ledger, LedgerStatus, Passed, Request, Settled, STATE_FORM};
 pub use numbers::{ChannelNumber, Refusal, SessionNumber, TickNumber};

@@ -17,7 +17,7 @@
 #![deny(clippy::undocumented_unsafe_blocks)]
 
 use crate::captures::Cleaned;
-use crate::frames::{Frame, Span};
+use crate::frames::{Field, Frame, Span};
 use crate::ledger::{Ledger, Passed, Request, Settled};
 use crate::numbers::{ChannelNumber, SessionNumber, TickNumber};
 use crate::session::Session;
@@ -124,6 +124,7 @@ extern "C" {
     fn rk_search(bytes: *const u8, len: usize, from: usize, told: *mut Found) -> u32;
     fn rk_scrub(frame: *mut u8, len: usize, told: *mut u64) -> u32;
     fn rk_private(msg_type: u32, body: *const u8, len: usize, i: usize, told: *mut Span) -> u32;
+    fn rk_tail_field(body: *const u8, len: usize, i: usize, told: *mut Field) -> u32;
     fn rk_entries(body: *const u8, len: usize, told: *mut u64) -> u32;
     fn rk_entry(body: *const u8, len: usize, place: usize, told: *mut EntryRow) -> u32;
     fn rk_ledger_open(channel: u16, state: *mut Ledger) -> u32;
@@ -195,6 +196,12 @@ pub fn private(msg_type: u32, body: &[u8], i: usize, told: &mut Span) -> u32 {
     // SAFETY: `body` is passed with its own length and only read; any `i` is allowed; `told` is a
     // row of three.
     unsafe { rk_private(msg_type, body.as_ptr(), body.len(), i, told) }
+}
+
+pub fn tail_field(body: &[u8], i: usize, told: &mut Field) -> u32 {
+    // SAFETY: `body` is passed with its own length and only read; any number is allowed; `told` is a
+    // row of four.
+    unsafe { rk_tail_field(body.as_ptr(), body.len(), i, told) }
 }
 
 pub fn entries(body: &[u8], told: &mut u64) -> u32 {

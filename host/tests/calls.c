@@ -215,6 +215,15 @@ int main(void) {
                 TELL(t.row.place), TELL(t.row.len), TELL(t.row.fill), printf(" ");
             }
             kept_from(&input, 0);
+        } else if (strcmp(name, "fields") == 0) {
+            uint8_t *b = bytes();
+            for (size_t i = 0;; i++) {
+                ROW(rk_field, t);
+                answer = rk_tail_field(b, input.len, i, &t.row);
+                if (!ANSWERED(answer, t) || t.row.len == 0) break;
+                TELL(t.row.place), TELL(t.row.len), TELL(t.row.text), TELL(t.row.hidden), printf(" ");
+            }
+            kept_from(&input, 0);
         } else if (strcmp(name, "entries") == 0) {
             uint8_t *b = bytes();
             ROW(uint64_t, t);

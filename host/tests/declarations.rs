@@ -42,7 +42,7 @@ fn run(command: &mut Command, input: &[u8]) -> Vec<u8> {
 
 /// The crates of which the library is made, and how many functions each has for others.
 const EXPORTS: [(&str, usize); 7] = [
-    ("host_frames", 7),
+    ("host_frames", 8),
     ("host_ledger", 6),
     ("host_session", 7),
     ("host_captures", 4),
@@ -202,6 +202,7 @@ fn of_wrapper() -> Functions {
     let numbers = |name: &str| match name {
         "Frame" => size_of::<host::Frame>() / 8,
         "Span" => size_of::<host::Span>() / 8,
+        "Field" => size_of::<host::Field>() / 8,
         "Ledger" => size_of::<Ledger>() / 8,
         "Passed" => size_of::<host::Passed>() / 8,
         "Request" => size_of::<host::Request>() / 8,
@@ -448,6 +449,15 @@ fn spans(s: &mut Script, name: u32, body: &[u8]) {
     let mut line = String::new();
     for span in spans.unwrap_or_default() {
         write!(line, "0 {} {} {} ", span.place, span.len, span.fill).expect("memory");
+    }
+    s.expected.push(line + &answer.to_string());
+
+    writeln!(s.asked, "fields {}", hex(body)).expect("memory");
+    let fields = host::tail_fields(body);
+    let answer = fields.as_ref().err().map_or(0, |r| r.number());
+    let mut line = String::new();
+    for f in fields.unwrap_or_default() {
+        write!(line, "0 {} {} {} {} ", f.place, f.len, f.text, f.hidden).expect("memory");
     }
     s.expected.push(line + &answer.to_string());
 }
