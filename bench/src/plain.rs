@@ -291,7 +291,7 @@ fn clear(map: &mut [u64; 4], mut at: u64, mut left: u64) {
 
 /// Whether a pending request keeps the state rules.
 pub fn pending_right(pending: Option<(u64, u64)>, floor: u64, top: u64) -> bool {
-    pending.is_none_or(|(first, last)| {
+    pending.map_or(true, |(first, last)| {
         (1..=floor + 1).contains(&first) && (first..=top).contains(&last) && last - first < 200
     })
 }
