@@ -348,6 +348,34 @@ int main(void) {
             if (ANSWERED(answer, t)) tell_fed(&t.row);
             kept_from(&output, answer == RK_DONE ? 64 * t.row.records : 0);
             stream_kept(&stream_was, answer, t.row.waiting);
+        } else if (strcmp(name, "step_read") == 0) {
+            size_t place = (size_t)number();
+            uint8_t *b = bytes();
+            ROW(rk_step_frame, t);
+            answer = rk_step_read(b, input.len, place, &t.row);
+            if (ANSWERED(answer, t)) TELL(t.row.kind), TELL(t.row.fields), TELL(t.row.fields_len), TELL(t.row.len);
+            kept_from(&input, 0);
+        } else if (strcmp(name, "step_field") == 0) {
+            size_t place = (size_t)number();
+            uint8_t *b = bytes();
+            ROW(rk_step_field_at, t);
+            answer = rk_step_field(b, input.len, place, &t.row);
+            if (ANSWERED(answer, t)) TELL(t.row.tag), TELL(t.row.value), TELL(t.row.value_len), TELL(t.row.behind);
+            kept_from(&input, 0);
+        } else if (strcmp(name, "step_write") == 0) {
+            uint8_t kind = (uint8_t)number();
+            uint8_t *out = room(), *b = bytes();
+            ROW(uint64_t, t);
+            answer = rk_step_write(kind, b, input.len, out, output.len, &t.row);
+            if (ANSWERED(answer, t)) TELL(t.row), print_bytes(&output, t.row);
+            kept_from(&output, answer == RK_DONE ? t.row : 0);
+            kept_from(&input, 0);
+        } else if (strcmp(name, "step_scrub") == 0) {
+            uint8_t *b = bytes();
+            ROW(uint64_t, t);
+            answer = rk_step_scrub(b, input.len, &t.row);
+            if (ANSWERED(answer, t)) TELL(t.row), print_bytes(&input, t.row);
+            kept_from(&input, answer == RK_DONE ? t.row : 0);
         } else if (strcmp(name, "session") == 0) {
             for (int i = 0; i < 8; i++) session.row.words[i] = number();
         } else if (strcmp(name, "session_open") == 0) {

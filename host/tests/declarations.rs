@@ -3,11 +3,13 @@
 
 use oracle::cases::NUMBERS;
 use oracle::made::{self, about, Dice, Ticks};
+use oracle::step;
 use rietknoest_host as host;
 use rietknoest_host::{
     ChannelNumber, Entry, Fed, Ledger, Passing, Refusal, Session, SessionNumber, Stream,
     TickNumber, ToSend,
 };
+use std::cell::RefCell;
 use std::collections::{BTreeMap, BTreeSet};
 use std::fmt::Write as _;
 use std::fs;
@@ -43,7 +45,7 @@ fn run(command: &mut Command, input: &[u8]) -> Vec<u8> {
 /// The crates of which the library is made, and how many functions each has for others.
 const EXPORTS: [(&str, usize); 7] = [
     ("host_frames", 8),
-    ("host_ledger", 6),
+    ("host_ledger", 7),
     ("host_session", 7),
     ("host_captures", 4),
     ("host_stream", 3),
@@ -813,6 +815,70 @@ fn sessions(s: &mut Script, d: &mut Dice) {
     }
 }
 
+/// Answers as the wrapper does, and asks C the same.
+struct Asking(RefCell<Script>);
+
+impl Asking {
+    fn ask(
+        &self,
+        call: &'static str,
+        asked: &str,
+        answer: Result<(Vec<u64>, Option<&[u8]>), Refusal>,
+    ) {
+        self.0.borrow_mut().ask(call, asked, answer, None);
+    }
+}
+
+impl step::cases::Answers for Asking {
+    fn read(&self, bytes: &[u8], place: usize) -> step::Answer<step::Frame> {
+        let answer = host::step::Frame::read(bytes, place);
+        let told = answer.map(|f| {
+            let row = [f.kind.into(), f.place, f.fields.len(), f.len].map(|n: usize| n as u64);
+            (row.to_vec(), None)
+        });
+        self.ask("step_read", &format!("{place} {}", hex(bytes)), told);
+        let frame = answer.map(|f| step::Frame {
+            kind: f.kind,
+            fields: f.place,
+            fields_length: f.fields.len(),
+            length: f.len,
+        });
+        frame.map_err(Refusal::number)
+    }
+
+    fn field(&self, fields: &[u8], place: usize) -> step::Answer<step::At> {
+        let answer = host::step::field_at(fields, place);
+        let told = answer.map(|(f, next)| {
+            let row = [f.place, f.value.len(), next].map(|n| n as u64);
+            ([&[f.tag][..], &row].concat(), None)
+        });
+        self.ask("step_field", &format!("{place} {}", hex(fields)), told);
+        let at = answer.map(|(f, next)| step::At {
+            tag: f.tag,
+            value: f.place,
+            value_length: f.value.len(),
+            next,
+        });
+        at.map_err(Refusal::number)
+    }
+
+    fn write(&self, kind: u8, fields: &[u8], out: &mut [u8]) -> step::Answer<usize> {
+        let answer = host::step::write(kind, fields, out);
+        let asked = format!("{kind} {} {}", out.len(), hex(fields));
+        let told = answer.map(|n| (vec![n as u64], Some(&out[..n])));
+        self.ask("step_write", &asked, told);
+        answer.map_err(Refusal::number)
+    }
+
+    fn scrub(&self, buffer: &mut [u8]) -> step::Answer<usize> {
+        let asked = hex(buffer);
+        let answer = host::step::scrub(buffer);
+        let told = answer.map(|n| (vec![n as u64], Some(&buffer[..n])));
+        self.ask("step_scrub", &asked, told);
+        answer.map_err(Refusal::number)
+    }
+}
+
 #[test]
 fn c_gets_the_answers_that_rust_gets() {
     let mut s = Script::default();
@@ -836,6 +902,18 @@ fn c_gets_the_answers_that_rust_gets() {
         for n in numbers {
             let given = s.given.contains(&(call, *n));
             assert!(given || aside.contains(&call), "{call} never gave {n}");
+        }
+    }
+    let asking = Asking(RefCell::new(s));
+    step::cases::by_hand(&asking);
+    for case in 0..400 {
+        step::cases::generated(&asking, 7, case);
+    }
+    let s = asking.0.into_inner();
+    for (call, numbers) in step::cases::NUMBERS {
+        for n in numbers {
+            let is = |(c, g): &(&str, u32)| c.strip_prefix("step_") == Some(call) && g == n;
+            assert!(s.given.iter().any(is), "step_{call} never gave {n}");
         }
     }
     let program = compiled("cc", "-std=c11", "host/tests/calls.c");

@@ -183,7 +183,7 @@ fn c_gets_the_answers_that_rust_gets() {
         .args(["-std=c11", "-Wall", "-Wextra", "-Werror", "-pedantic", "-I"])
         .arg(root.join("host/include"))
         .arg(root.join("host/tests/market.c"))
-        .arg(root.join("build/libhost_market.a"))
+        .arg(root.join("build/librietknoest.a"))
         .arg("-o")
         .arg(&program)
         .status();
