@@ -5,7 +5,7 @@ use mathlib.Core.Bool.{Bool, true, false, _&&_, not}
 use mathlib.Core.Logic.{_⊎_, inl, inr, ⊎-elim}
 use mathlib.Core.List.{List, [], _∷_}
 use Prim.Native.Nat.{ℕ, _+_, _-_, _%_, _≤_, _<_}
-use native.Mathlib.Nat.{mod-eq-of-lt, add-mod-right}
+use native.Mathlib.Nat.{mod-eq-of-lt, add-mod-right, zero-add}
 use native.Mathlib.Omega.{arith}
 use lib.Dec.{eqb, leb, ltb}
 use borrow.Author.Tests.{eq-eqb, ne-eqb, eqb-true, lt-ltb, le-ltb, le-leb, ltb-true, ltb-false}
@@ -21,10 +21,10 @@ use Rattle.ledger_spec.specs.Demand3 as one
 use Rattle.ledger_spec.proofs.Told.{told-tick, told-announce, told-reply, told-between}
 use Rattle.ledger_spec.proofs.Demand3.{demand-3, first-clear, missing-below, missing-above}
 use Rattle.channels_spec.specs.Table.{Place, free, holds, Table, misses, waits, bookIn, placeOf, pendingPlace, counted, steps, turn, isOpen, bookOf, TableRules}
-use Rattle.channels_spec.specs.Calls.{Call, Request, To, Said, Tick, Announce, Reply, Between, called, asked, requestNumber, answerTo}
-use Rattle.channels_spec.specs.Trace.{Calls, after, History, trace}
-use Rattle.channels_spec.specs.Words.{opened, since, ownHistory, Line, quiet, asks, line, pendingOn}
-use Rattle.channels_spec.specs.Demand.{SaidAnswers, EachChannel, Misses, SomeChannel, Due, Busy, Whole, Gives, Requests, OnePending, Turn}
+use Rattle.channels_spec.specs.Calls.{Call, Request, To, Renew, Said, Tick, Announce, Reply, Between, called, asked, requestNumber, answerTo}
+use Rattle.channels_spec.specs.Trace.{Calls, _▸_, after, History, trace}
+use Rattle.channels_spec.specs.Words.{opened, since, ownHistory, Line, quiet, asks, line, pendingOn, grants, grantsOn}
+use Rattle.channels_spec.specs.Demand.{SaidAnswers, EachChannel, Misses, SomeChannel, Due, Busy, Whole, Gives, Requests, OnePending, Turn, SessionTold}
 use Rattle.channels_spec.proofs.Least.{least-low, least-is}
 use Rattle.channels_spec.proofs.Places.{its-open, its-book}
 use Rattle.channels_spec.proofs.Views.{Asking, busy-14, whole-15, turns, asking-view, none-waits, TurnAt, turn-at}
@@ -316,3 +316,9 @@ one-pending calls =
       only-open = a .asker-open;
       at-most-one = a .rules .one-waits;
     }
+
+-- ======== A new session
+
+pub new-session-told : (calls : Calls) → SessionTold (trace calls) (trace (calls ▸ Renew))
+unfolding trace answerTo opened since line grants grantsOn
+new-session-told calls = record { none-pending = refl; opened-same = λ c. refl; since-has = λ c. refl; grants-same = zero-add _; grants-on-same = λ c. zero-add _ }

@@ -8,6 +8,7 @@ use mathlib.Core.List.{List, [], _∷_}
 use Prim.Native.Nat.{ℕ, _+_, _≤_, _<_}
 use Rattle.terms.specs.Paper.{Paper, answer, refusal}
 use Rattle.ledger_spec.specs.State.{Book}
+use Rattle.ledger_spec.specs.Calls as ledger
 use Rattle.ledger_spec.specs.Trace as ledger-trace
 use Rattle.ledger_spec.specs.Words.{valueAt, answered, pending}
 use Rattle.ledger_spec.specs.Answers.{TickAnswers, AnnounceAnswers, ReplyAnswers}
@@ -117,3 +118,14 @@ abbrev pub AskedWithin32 : Type 0
 AskedWithin32 =
     (channel : ℕ) (calls : Calls) (more : List Call) → KeepsMissing channel calls more → grants (trace calls) + 32 ≤ grants (trace (followed calls more))
     → grantsOn channel (trace calls) < grantsOn channel (trace (followed calls more))
+
+-- ======== A new session (request 12)
+
+-- told from the calls: nothing is pending, each channel has seen a new session, and no other word
+-- changes. (`NewSession` of Given.antt tells it of the table.)
+pub record SessionTold (h next : History) : Type 0 where
+  pub none-pending : line next ≡ quiet
+  pub opened-same : (channel : ℕ) → opened channel next ≡ opened channel h
+  pub since-has : (channel : ℕ) → since channel next ≡ ledger-trace._▸_ (since channel h) ledger.Renew
+  pub grants-same : grants next ≡ grants h
+  pub grants-on-same : (channel : ℕ) → grantsOn channel next ≡ grantsOn channel h
