@@ -18,7 +18,7 @@ use Rattle.ledger_spec.specs.Calls.{fresh}
 use Rattle.ledger_spec.specs.Words.{answered, valueAt, one}
 use Rattle.ledger_spec.proofs.Tests.{pick-cases}
 use Rattle.ledger_spec.proofs.Steps.{step}
-use Rattle.channels_spec.specs.Table.{Place, free, holds, Table, empty, put, misses, bookIn, placeOf, freePlace, counted, steps, turn, isOpen, bookOf, TableRules}
+use Rattle.channels_spec.specs.Table.{Place, free, holds, Table, empty, put, misses, bookIn, placeOf, freePlace, nextPlace, counted, steps, turn, isOpen, bookOf, TableRules}
 use Rattle.channels_spec.specs.Calls.{Said, Call, Open, Close, Request, To, Told, Renew, called, openingNumber, requestNumber, asking, asked, granted, answerTo, nextOf}
 use Rattle.channels_spec.specs.Trace.{Calls, _▸_, after, History, trace, followed}
 use Rattle.channels_spec.specs.Words.{grantedTo, grants, grantsOn}
@@ -226,7 +226,7 @@ asked-within-32 channel calls [] keeps e = absurd (too-many e)
 asked-within-32 channel calls (call ∷ more) keeps e =
     let m = agrees calls .open-to channel (keeps .0 .is-open) in
     let r = reached-rules calls in
-    let k = round (after calls .last) (m .place) (r .last-in) (r .within (m .place) (m .book) (m .is)) in
+    let k = round (nextPlace (after calls)) (m .place) (r .within (m .place) (m .book) (m .is)) in
     let l : k .steps < 32 = k .below-32 in
     within channel calls (call ∷ more) (k .steps) l keeps (λ j d x y. there (after calls) r (m .place) (m .book) channel (m .is) (m .own) j d x y ∙ sym (k .there)) (omega arith)
 
