@@ -235,6 +235,11 @@ uint32_t rk_ledger_request(rk_ledger *state, uint16_t channel, rk_request *told)
 uint32_t rk_ledger_reply(rk_ledger *state, uint16_t channel, uint64_t first, uint8_t status,
                          rk_settled *told);
 
+/* A new session of the line begins: what was requested on the old line will not be answered on the
+ * new one, and is no longer pending. Nothing else changes.
+ * Returns 0, 13. 0 writes *state. */
+uint32_t rk_ledger_renew(rk_ledger *state);
+
 /* What a ledger holds.
  * Returns 0, 13. 0 writes *told. */
 uint32_t rk_ledger_told(const rk_ledger *state, rk_told *told);
@@ -295,10 +300,9 @@ uint32_t rk_is_clean(const uint8_t *capture, size_t len, rk_found *told);
  * become a frame. Each call takes some microseconds, so collect single bytes first.
  *
  * Keep and copy the struct as you like, but do not read or make its words and bytes. The ledger may
- * be passed to rk_listing, rk_ledger_told, rk_ledger_missing, rk_ledger_request and
- * rk_ledger_reply. The last two
- * change its pending request, and a reply of status 4 its floor and map too: in these it then differs
- * from rk_walk's. A call on a stream that breaks the state rules returns 13. */
+ * be passed to rk_listing, rk_ledger_told, rk_ledger_missing, rk_ledger_request, rk_ledger_reply and
+ * rk_ledger_renew. The last three change its pending request, and a reply of status 4 its floor and
+ * map too: in these it then differs from rk_walk's. A call on a stream that breaks the state rules returns 13. */
 typedef struct {
     uint64_t words[6];
     rk_ledger ledger;
@@ -417,7 +421,8 @@ rk_finding rk_market_write(const uint8_t *values, size_t len, uint8_t *out, size
  * each frame.
  *
  * Keep and copy the words as you like, but do not read or make them. A call on words that break the
- * state rules returns 13. A new session is rk_session_open again. */
+ * state rules returns 13. A new session is rk_session_open again, and rk_ledger_renew for each
+ * ledger that you keep. */
 typedef struct {
     uint64_t words[8];
 } rk_session;

@@ -140,6 +140,12 @@ impl Ledger {
         result(answer, settled)
     }
 
+    /// A new session of the line begins: what was requested on the old line will not be answered on
+    /// the new one, and is no longer pending. Nothing else changes.
+    pub fn renew(&mut self) -> Result<(), Refusal> {
+        result(raw::ledger_renew(self), ())
+    }
+
     /// What the ledger holds, or 13.
     pub fn status(&self) -> Result<LedgerStatus, Refusal> {
         let mut row = raw::StatusRow::default();
