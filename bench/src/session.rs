@@ -287,7 +287,11 @@ pub fn rows() {
     turn("time passes, nothing is due", line, 2_000, Event::Time);
     turn("time passes, a heartbeat is due", line, 40_000, Event::Time);
     turn("asks for a resend", line, 2_000, Event::Ask);
-    receive("a heartbeat of 28 bytes, beside reading it", line, &made::frame(BEAT, 2, &[]));
+    receive(
+        "a heartbeat of 28 bytes, beside reading it",
+        line,
+        &made::frame(BEAT, 2, &[]),
+    );
     let order = made::frame(plain::M201, 2, &made::order(d, 1));
     receive("an order of 212 bytes, beside reading it", line, &order);
     let long = made::frame(plain::M101, 2, &d.bytes(8_164));

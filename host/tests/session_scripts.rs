@@ -123,7 +123,11 @@ fn run(session: &mut Session, line: &str) -> String {
         "receive" => {
             let kind = words.next().expect("a type");
             let seq = number(words.next());
-            let heart = if kind == "S001" { number(words.next()) } else { 0 };
+            let heart = if kind == "S001" {
+                number(words.next())
+            } else {
+                0
+            };
             let f = frame(kind, seq, heart, words.next());
             let answer = session.receive(time, &f);
             answer.map(|arrival| {
