@@ -51,6 +51,14 @@ pub enum No {
     Entries,
     /// 29: places would pass 64 bits (CR 1)
     Places,
+    /// 30: anything but logon or logout before the logon answer (CR 12)
+    Early,
+    /// 31: MsgSeqNum not the expected one (CR 12)
+    Sequence,
+    /// 32: session over or a counter at its last 64-bit number (CR 12)
+    Over,
+    /// 33: a second logon (CR 12)
+    Again,
 }
 
 impl No {
@@ -77,6 +85,10 @@ impl No {
             No::Closed => 19,
             No::Entries => 20,
             No::Places => 29,
+            No::Early => 30,
+            No::Sequence => 31,
+            No::Over => 32,
+            No::Again => 33,
         }
     }
 }

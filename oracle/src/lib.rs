@@ -1,6 +1,6 @@
 //! The second, independent program: documents 01 and 02 written down plainly,
 //! as far as their requests are built, and the cases that it and the library
-//! answer (`cases`, `market::cases`, `step::cases`).
+//! answer (`cases`, `market::cases`, `session::cases`, `step::cases`).
 //!
 //! Nothing here was taken from the proved crates. Each module follows the
 //! section, the request or the source document that it is named after, and
@@ -23,6 +23,7 @@ pub mod numbers;
 pub mod record;
 pub mod rules;
 pub mod scrub;
+pub mod session;
 pub mod step;
 pub mod stream;
 pub mod tails;

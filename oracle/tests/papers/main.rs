@@ -1,5 +1,5 @@
-//! The examples, the bounds and the orders of document 01, and properties over
-//! generated cases.
+//! The examples, the bounds and the orders of document 01, the requests of
+//! document 02, and properties over generated cases.
 
 mod entries;
 mod fields;
@@ -10,4 +10,5 @@ mod marked;
 mod properties;
 mod samples;
 mod scrubbing;
+mod sessions;
 mod streams;
