@@ -49,6 +49,10 @@ pub enum No {
     /// 73 + k sizes with k below NoMDEntries, or that entry passes the body's
     /// end
     Entries,
+    /// 21: the table of channels is full (CR 3)
+    Full,
+    /// 22: the channel is open already (CR 3)
+    Open,
     /// 29: places would pass 64 bits (CR 1)
     Places,
     /// 30: anything but logon or logout before the logon answer (CR 12)
@@ -84,6 +88,8 @@ impl No {
             No::Channel => 18,
             No::Closed => 19,
             No::Entries => 20,
+            No::Full => 21,
+            No::Open => 22,
             No::Places => 29,
             No::Early => 30,
             No::Sequence => 31,

@@ -1,6 +1,7 @@
 //! The second, independent program: documents 01 and 02 written down plainly,
 //! as far as their requests are built, and the cases that it and the library
-//! answer (`cases`, `market::cases`, `session::cases`, `step::cases`).
+//! answer (`cases`, `channels::cases`, `market::cases`, `session::cases`,
+//! `step::cases`).
 //!
 //! Nothing here was taken from the proved crates. Each module follows the
 //! section, the request or the source document that it is named after, and
@@ -12,6 +13,7 @@ pub mod answers;
 pub mod bytes;
 pub mod calendar;
 pub mod cases;
+pub mod channels;
 pub mod clean;
 pub mod entries;
 pub mod frame;
