@@ -53,6 +53,10 @@ pub enum No {
     Full,
     /// 22: the channel is open already (CR 3)
     Open,
+    /// 27: a 501st capture (CR 11)
+    Captures,
+    /// 28: a sum that would pass 64 bits (CR 11)
+    Sums,
     /// 29: places would pass 64 bits (CR 1)
     Places,
     /// 30: anything but logon or logout before the logon answer (CR 12)
@@ -90,6 +94,8 @@ impl No {
             No::Entries => 20,
             No::Full => 21,
             No::Open => 22,
+            No::Captures => 27,
+            No::Sums => 28,
             No::Places => 29,
             No::Early => 30,
             No::Sequence => 31,

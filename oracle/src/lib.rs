@@ -1,7 +1,7 @@
 //! The second, independent program: documents 01 and 02 written down plainly,
 //! as far as their requests are built, and the cases that it and the library
-//! answer (`cases`, `channels::cases`, `market::cases`, `session::cases`,
-//! `step::cases`).
+//! answer (`cases`, `channels::cases`, `market::cases`, `month::cases`,
+//! `session::cases`, `step::cases`).
 //!
 //! Nothing here was taken from the proved crates. Each module follows the
 //! section, the request or the source document that it is named after, and
@@ -21,6 +21,7 @@ pub mod ledger;
 pub mod listing;
 pub mod made;
 pub mod market;
+pub mod month;
 pub mod numbers;
 pub mod record;
 pub mod rules;

@@ -8,6 +8,7 @@ mod frames;
 mod ledgers;
 mod listings;
 mod marked;
+mod months;
 mod properties;
 mod samples;
 mod scrubbing;
