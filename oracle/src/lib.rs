@@ -8,6 +8,7 @@
 //! quotes its rules; what the documents leave open follows the list of decided
 //! points, cited by number.
 
+pub mod alike;
 pub mod answer;
 pub mod answers;
 pub mod bytes;

@@ -1,6 +1,7 @@
 //! The examples, the bounds and the orders of document 01, the requests of
 //! document 02, and properties over generated cases.
 
+mod alike;
 mod channels;
 mod entries;
 mod fields;
