@@ -900,9 +900,6 @@ fn c_gets_the_answers_that_rust_gets() {
             assert!(s.given.contains(&(call, *n)), "{call} never gave {n}");
         }
     }
-    for n in [0, 13] {
-        assert!(s.given.contains(&("renew", n)), "renew never gave {n}");
-    }
     // spans have lines of their own, and `damaged` is no call
     let aside = ["private", "damaged"];
     for (call, numbers) in NUMBERS {
