@@ -25,7 +25,7 @@ pub struct Passed {
 
 /// The range of a resend request: its first and last number.
 #[derive(Clone, Copy, Debug, Default, PartialEq, Eq)]
-#[must_use = "the range is pending until the exchange replies: send it"]
+#[must_use = "the range is pending until the exchange replies or a new session begins: send it"]
 #[repr(C)]
 pub struct Request {
     pub first: TickNumber,
