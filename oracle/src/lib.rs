@@ -18,6 +18,7 @@ pub mod channels;
 pub mod clean;
 pub mod entries;
 pub mod frame;
+pub mod gaps;
 pub mod ledger;
 pub mod listing;
 pub mod made;

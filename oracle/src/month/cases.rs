@@ -345,8 +345,8 @@ pub fn generated(answers: &impl Answers, seed: u64, n: u64) -> String {
         names.clone()
     };
     match d.below(200) {
-        0 => long_page(&mut run, d, &names),
-        1..=9 => large_page(&mut run, d, &names, &named),
+        0 | 1 => long_page(&mut run, d, &names),
+        2..=9 => large_page(&mut run, d, &names, &named),
         10..=59 => {
             let captures: Vec<Vec<u8>> = (0..1 + d.below(4))
                 .map(|_| any_capture(d, &named))

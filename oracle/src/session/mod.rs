@@ -4,6 +4,17 @@
 //! those of the simple table of states in docs/." Times are whole milliseconds
 //! given by the host. A session sends nothing itself: a call tells what is to be
 //! sent, as MsgType and MsgSeqNum.
+//!
+//! A tick number offered where MsgSeqNum belongs does not build:
+//!
+//! ```compile_fail
+//! use oracle::{numbers::Tick, session::*};
+//! Line::opened().turn(0, Event::Logout(Tick(1)));
+//! ```
+//! ```
+//! use oracle::{numbers::Session, session::*};
+//! Line::opened().turn(0, Event::Logout(Session(1)));
+//! ```
 
 pub mod cases;
 pub mod script;

@@ -6,6 +6,7 @@ mod channels;
 mod entries;
 mod fields;
 mod frames;
+mod gaps;
 mod ledgers;
 mod listings;
 mod marked;
