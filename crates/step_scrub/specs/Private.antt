@@ -1,19 +1,21 @@
 -- Document 02, CR 5: "paints 49, 56, 553, 554 and 58 with spaces of the same length". Which tags
--- these are, outright, so that a shorter `isPrivate` is refused; what becomes of one field; and
--- when fields differ in private values alone.
+-- these are, outright, so that a shorter `isPrivate` is refused; that no byte of the fields is in no
+-- field; what becomes of one field; and when fields differ in private values alone.
 use Prim.Native.Nat.{ℕ, zero, suc, _+_, _<_}
-use mathlib.Core.Path.{_≡_, refl, ap}
+use mathlib.Core.Path.{_≡_, refl, sym, ap, _∙_}
 use mathlib.Core.Bool.{Bool, true, false, _&&_}
 use mathlib.Core.Logic.{_⊎_, ⊎-elim}
 use mathlib.Core.List.{List, [], _∷_}
 use native.Mathlib.Omega.{arith}
+use lib.Dec.{eqb}
 use lib.ListN.{length, getD, take, replicate}
+use borrow.Author.Tests.{eqb-true}
 use Rattle.terms.specs.Cases.{two}
 use Rattle.terms.specs.Says.{Says, says-eq, says-or}
 use Rattle.digits.specs.Laws.{both}
-use Rattle.step_spec.specs.Pieces.{equals, untilOf}
+use Rattle.step_spec.specs.Pieces.{SOH, equals, untilOf, onFirst, pieces, closedBy, closed}
 use Rattle.step_spec.specs.Fields.{isField, tagOf, valueOf}
-use Rattle.step_scrub.specs.Scrubbed.{isPrivate, paintPiece, paintAll, allFields}
+use Rattle.step_scrub.specs.Scrubbed.{isPrivate, paintPiece, paintAll, joined, allFields}
 use Rattle.step_scrub.specs.PaintLaws.{public-is, painted-tag, painted-value}
 
 -- SenderCompID, TargetCompID, Username, Password, Text
@@ -22,6 +24,34 @@ PrivateTag t = ((((t ≡ 49) ⊎ (t ≡ 56)) ⊎ (t ≡ 553)) ⊎ (t ≡ 554)) �
 
 pub private-tags : (t : ℕ) → Says (isPrivate t) (PrivateTag t)
 private-tags t = says-or (says-or (says-or (says-or (says-eq t 49) (says-eq t 56)) (says-eq t 553)) (says-eq t 554)) (says-eq t 58)
+
+-- FIELDS THAT END IN SOH ARE THEIR PIECES, each with its SOH: none of their bytes is in no piece
+some-first : (x : ℕ) (qs : List (List ℕ)) → (p : List ℕ) × ((ps : List (List ℕ)) × (onFirst x qs ≡ p ∷ ps))
+unfolding onFirst
+some-first x [] = (x ∷ [], ([], refl))
+some-first x (q ∷ qs) = (x ∷ q, (qs, refl))
+
+some-piece : (y : ℕ) (ys : List ℕ) → (p : List ℕ) × ((ps : List (List ℕ)) × (pieces (y ∷ ys) ≡ p ∷ ps))
+unfolding pieces
+some-piece y ys =
+    ⊎-elim (λ (t : eqb y SOH ≡ true). rw t ([], (pieces ys, refl)))
+    (λ (f : eqb y SOH ≡ false). rw f (some-first y (pieces ys)))
+    (two (eqb y SOH))
+
+on-first : (x : ℕ) (qs : List (List ℕ)) (p : List ℕ) (ps : List (List ℕ)) → qs ≡ p ∷ ps → joined (onFirst x qs) ≡ x ∷ joined qs
+unfolding onFirst joined
+on-first x qs p ps e = rw e
+
+pub pieces-back : (t : List ℕ) → closed t ≡ true → joined (pieces t) ≡ t
+unfolding pieces onFirst closed closedBy joined
+pieces-back [] c = refl
+pieces-back (x ∷ []) c = rw c (ap (λ (b : ℕ). b ∷ []) (sym (eqb-true x SOH c)))
+pieces-back (x ∷ y ∷ ys) c =
+    let e : joined (pieces (y ∷ ys)) ≡ y ∷ ys = pieces-back (y ∷ ys) c in
+    let s = some-piece y ys in
+    ⊎-elim (λ (t : eqb x SOH ≡ true). rw (t, eqb-true x SOH t) (ap (λ (l : List ℕ). SOH ∷ l) e))
+    (λ (f : eqb x SOH ≡ false). rw f (on-first x (pieces (y ∷ ys)) (s .0) (s .1 .0) (s .1 .1) ∙ ap (λ (l : List ℕ). x ∷ l) e))
+    (two (eqb x SOH))
 
 -- ONE FIELD, p as it was sent and q as it is then: the same tag; spaces for a private value, as
 -- many as it had bytes; any other field byte for byte
@@ -37,6 +67,11 @@ field-then p f =
       gone = λ h. painted-value p f (private-tags (tagOf p) .1 h);
       stays = λ n. ⊎-elim (λ (y : isPrivate (tagOf p) ≡ true). absurd (n (private-tags (tagOf p) .0 y))) (λ (y : isPrivate (tagOf p) ≡ false). public-is p f y) (two (isPrivate (tagOf p)));
     }
+
+pub as-many : (ps : List (List ℕ)) → length (paintAll ps) ≡ length ps
+unfolding paintAll
+as-many [] = refl
+as-many (p ∷ ps) = ap suc (as-many ps)
 
 -- the piece at a place of a row
 pub fields-then : (ps : List (List ℕ)) → allFields ps ≡ true → (i : ℕ) → i < length ps → FieldThen (getD ps i []) (getD (paintAll ps) i [])

@@ -18,7 +18,7 @@ use Rattle.step_spec.specs.Exactly.{Good, good, is-frame, frame-ends, Reads, pa
 use Rattle.step_scrub.specs.Scrubbed.{paintAll, joined, painted, scrubbedOf}
 use Rattle.step_scrub.specs.ScrubLaws.{closed-fields, all-fields, same-long}
 use Rattle.step_scrub.specs.PaintLaws.{painted-sound, painted-real, painted-twice, kept}
-use Rattle.step_scrub.specs.Private.{FieldThen, fields-then, AlikeFields, alike-painted}
+use Rattle.step_scrub.specs.Private.{pieces-back, FieldThen, as-many, fields-then, AlikeFields, alike-painted}
 
 -- a message's frame is as long as that of any other fields of that length
 same-frame : (type : ℕ) (u v : List ℕ) → length u ≡ length v → length v ≤ 8192 → length (frameOf type u) ≡ length (frameOf type v)
@@ -88,11 +88,19 @@ module _ (s : List ℕ) (z : stepReadOf s .number ≡ 0) where
   pub scrubbed-again : scrubbedOf (scrubbedOf s) ≡ scrubbedOf s
   scrubbed-again = anew (scrubbedOf s) s scrubbed-kind (ap painted scrubbed-fields ∙ painted-twice f (closed-fields s g) (all-fields s g)) scrubbed-rest
 
+  then-pieces : pieces (fields (scrubbedOf s)) ≡ paintAll (pieces f)
+  then-pieces = ap pieces scrubbed-fields ∙ kept f (closed-fields s g) (all-fields s g) .pieces-are
+
   -- each field: the same tag; a private value becomes as many spaces; any other field stays
   pub scrubbed-field : (i : ℕ) → i < length (pieces f) → FieldThen (getD (pieces f) i []) (getD (pieces (fields (scrubbedOf s))) i [])
-  scrubbed-field i h =
-      let e : pieces (fields (scrubbedOf s)) ≡ paintAll (pieces f) = ap pieces scrubbed-fields ∙ kept f (closed-fields s g) (all-fields s g) .pieces-are in
-      rw e (fields-then (pieces f) (all-fields s g) i h)
+  scrubbed-field i h = rw then-pieces (fields-then (pieces f) (all-fields s g) i h)
+
+  -- it has as many as before, and they are all of its fields' bytes
+  pub scrubbed-count : length (pieces (fields (scrubbedOf s))) ≡ length (pieces f)
+  scrubbed-count = ap length then-pieces ∙ as-many (pieces f)
+
+  pub scrubbed-all : joined (pieces (fields (scrubbedOf s))) ≡ fields (scrubbedOf s)
+  scrubbed-all = pieces-back (fields (scrubbedOf s)) (closed-fields (scrubbedOf s) (good (scrubbedOf s) (one-number scrubbed-same ∙ z)))
 
 -- two frames that agree in type, in what follows them, and in all but private values of one length;
 -- their sums may differ
