@@ -3,18 +3,19 @@
 -- calls and their answers alone. Words.antt of `ledger_spec` tells each word from h.
 use Prim.Native.Nat.{ℕ, _≤_}
 use mathlib.Core.List.{List, [], _∷_}
-use mathlib.Core.Path.{_≡_}
+use mathlib.Core.Path.{_≡_, _∙_}
 use Rattle.ledger_spec.specs.State.{StateRules}
 use Rattle.ledger.specs.State.{bookOf}
 use Rattle.terms.specs.Paper.{Paper, answer}
 use Rattle.ledger_spec.specs.Calls.{Call, Tick, Announce, Request, Reply, Ask, Missing, Held, Renew, answerTo}
-use Rattle.ledger_spec.specs.Words.{knownTop, held, missing, count}
-use Rattle.ledger_spec.specs.Trace.{Calls, after, History, _▸_⇒_}
+use Rattle.ledger_spec.specs.Words.{settled, knownTop, held, missing, count}
+use Rattle.ledger_spec.specs.Trace.{Calls, _▸_, after, History, _▸_⇒_, trace}
 use Rattle.ledger.specs.Trace.{Promise, Ran}
 use Rattle.ledger_spec.specs.Answers.{TickAnswers, AnnounceAnswers, ReplyAnswers, OnlyCleared, Answers}
-use Rattle.ledger_spec.specs.Demand3.{Demand3, Deliveries, MissingNumbers, Requests, Counts, Shown}
+use Rattle.ledger_spec.specs.Demand3.{Demand3, Deliveries, MissingNumbers, SomeMissing, Gives, Requests, Counts, Shown}
 use Rattle.ledger.specs.declared.Ledger.{Ledger}
 use Rattle.ledger_spec.proofs.Answers as Answered
+use Rattle.ledger_spec.proofs.Demand3.{demand-3}
 use Rattle.ledger.proofs.Promised as Promised
 use Rattle.ledger.proofs.Promised.{ran-demand-3}
 use Rattle.ledger.proofs.RanAnswers as Ran
@@ -84,6 +85,17 @@ module _ (channel : ℕ) (opens : channel ≤ 9999) {calls : Calls} {l : Ledger}
 -- and of the definitions, a call on another channel among them
 pub each-answer : (channel : ℕ) → channel ≤ 9999 → (calls : Calls) → Answers channel calls
 each-answer = Answered.answers
+
+-- CR 12: after a new session what is missing is asked for again, whatever was pending before it
+same-missing : (h next : History) → OnlyCleared h next → (n : ℕ) → missing next n ≡ missing h n
+unfolding missing settled
+same-missing h next o n = rw (o .top-same, o .received-same n, o .given-up-same n)
+
+pub asked-again : (channel : ℕ) → channel ≤ 9999 → (calls : Calls) → SomeMissing (trace channel calls)
+    → Gives (trace channel (calls ▸ Renew)) (answerTo (after channel (calls ▸ Renew)) (Request channel))
+asked-again channel opens calls m =
+    let o = Answered.new-session-told channel opens calls in
+    demand-3 channel opens (calls ▸ Renew) .requests .when-due (record { number = m .number; is-missing = same-missing _ _ o (m .number) ∙ m .is-missing }) (o .cleared)
 
 -- The same through the host, on the nine words that rk_ledger_open wrote: `HostRan channel calls w
 -- h` says that the words w and the history h come of such calls. What rk_ledger_told then tells are
