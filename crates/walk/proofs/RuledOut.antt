@@ -30,7 +30,7 @@ use Rattle.terms.specs.Counters.{sessionOf, tickOf, channelOf}
 use Rattle.record.specs.declared.Record.{Record}
 use Rattle.record.specs.Examples.{recordA, recordFF, recordB}
 use Rattle.reading.specs.Seen.{seenOf, saysOf}
-use Rattle.walk_spec.specs.Offers.{callsBy, answered, offerOf}
+use Rattle.walk_spec.specs.Offers.{callsBy, offering, offerOf}
 use Rattle.walk_spec.specs.Walk.{madeOf, recordBy, bookBy, accepts, refuses, framesOf, refusedOf, fitsIn, walkAnswer, walkBook, walkLeaves}
 use Rattle.walk.specs.Papers.{walkPaper}
 use Rattle.walk.proofs.walk.Reads as walk
@@ -79,7 +79,7 @@ walk-wrong =
     ∷ []
 
 pub walk-rules-out : RulesOut (Kept _ walk-kinds.ps walk-kinds.r walk.Post) (λ c. (now (c .args .0), now (c .args .1 .0))) (λ c. shown (walkPaper (c .result)) (c .result .ledger) (now (c .exit .1 .0))) walk-wrong
-unfolding frameA startOfA frameB plainOf frameOf checked readOf bodyRead numeral digitsOf laid sum8 sumOf kindOf suits measureOf p001Ok layoutOf suitsTail tailOk m201Ok fieldsOk realTime realParts daysIn leap judgeOf viewOf valueOf mapOf rotated run trailingZeros rangeRules mapRules soundOf has ownNumber checkedOf numberTo passes taken raised done nextOf fresh bookOf ledgerOf after next found noted sightsOf joined eachOf Account.accountOf Account.walkOf firstHalf secondHalf recordOf blankOf seenOf saysOf callsBy answered offerOf madeOf recordBy bookBy accepts refuses framesOf refusedOf fitsIn walkAnswer walkBook walkLeaves
+unfolding frameA startOfA frameB plainOf frameOf checked readOf bodyRead numeral digitsOf laid sum8 sumOf kindOf suits measureOf p001Ok layoutOf suitsTail tailOk m201Ok fieldsOk realTime realParts daysIn leap judgeOf viewOf valueOf mapOf rotated run trailingZeros rangeRules mapRules soundOf has ownNumber checkedOf numberTo passes taken raised done nextOf fresh bookOf ledgerOf after next found noted sightsOf joined eachOf Account.accountOf Account.walkOf firstHalf secondHalf recordOf blankOf seenOf saysOf callsBy offering offerOf madeOf recordBy bookBy accepts refuses framesOf refusedOf fitsIn walkAnswer walkBook walkLeaves
 walk-rules-out =
     ruled (beside papers (beside lists lists)) (λ (i : List ℕ × List ℕ). shown (walkAnswer (i .0) (length (i .1))) (ledgerOf (walkBook (i .0) (length (i .1)))) (walkLeaves (i .0) (i .1)))
     (λ c p. ap₂ (λ (x : Paper) (y : List ℕ × List ℕ). (x, y)) (p .0) (ap₂ (λ (l : Ledger) (d : List ℕ). (seen (bookOf l), d)) (p .1 .0) (p .1 .1)))
