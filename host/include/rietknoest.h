@@ -245,7 +245,7 @@ uint32_t rk_ledger_renew(rk_ledger *state);
 uint32_t rk_ledger_told(const rk_ledger *state, rk_told *told);
 
 /* How many numbers from a to b, both included, are missing: neither received nor given up, and not
- * above the top. 0 if b is below a. It takes the same time for any span.
+ * above the top. 0 if b is below a. No span takes longer than one of 256 numbers.
  * Returns 0, 10 (a or b is 0 or has more than 18 digits), 13, 18. 0 writes *told. */
 uint32_t rk_ledger_missing(const rk_ledger *state, uint16_t channel, uint64_t a, uint64_t b,
                            uint64_t *told);

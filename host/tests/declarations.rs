@@ -949,6 +949,20 @@ fn ten_lines_of_c_scrub_a_frame() {
     }
 }
 
+#[test]
+fn ten_lines_of_c_count_what_is_missing() {
+    let program = compiled("cc", "-std=c11", "host/examples/screen.c");
+    let said = run(&mut Command::new(program), b"");
+    assert_eq!(said, b"4 of 1 to 1000 are missing\n");
+}
+
+#[test]
+fn a_program_in_c_prints_what_a_reply_settles() {
+    let program = compiled("cc", "-std=c11", "host/examples/no_data.c");
+    let said = run(&mut Command::new(program), b"");
+    assert_eq!(said, b"given up: 2 3\ndeliver: 4\n");
+}
+
 /// The next frame that a client sends.
 fn next_frame(from: &mut impl Read) -> (u32, u64, Vec<u8>) {
     let mut head = [0; 24];
