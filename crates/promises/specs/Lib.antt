@@ -7,6 +7,7 @@ pub mod RealTimes
 pub mod MovedSum
 pub mod Tails
 pub mod OneSum
+pub mod Step
 pub mod Demand3
 pub mod Cuttings
 pub mod Marked
