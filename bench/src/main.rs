@@ -11,6 +11,7 @@ mod plain;
 mod plain_step;
 mod shift;
 mod step;
+mod times;
 
 use made::Dice;
 use rietknoest_host as host;
@@ -631,6 +632,7 @@ fn main() {
     println!("| Job | Input | ours | plain Rust | ratio | goal |");
     println!("|---|---|---|---|---|---|");
     sum_and_fill();
+    times::row();
     replies();
     spans();
     step::rows();
