@@ -8,6 +8,7 @@ pub mod MovedSum
 pub mod Tails
 pub mod OneSum
 pub mod Step
+pub mod Market
 pub mod Demand3
 pub mod Cuttings
 pub mod Marked
