@@ -151,9 +151,24 @@ fn arrives(folder: &Folder, capture: &[u8], pieces: &[&[u8]]) {
         Some(said.trim_end()),
         "the counts"
     );
-    let lines = if done.after_damage > 0 { 3 } else { 1 };
+    let mut lines = if done.after_damage > 0 { 3 } else { 1 };
+    if let said @ 1.. = unjudged(&cleaned) {
+        lines += 1;
+        let mark = format!(": {said} M101 bod");
+        assert!(scrubbed.error().contains(&mark), "the bodies not judged");
+    }
     assert_eq!(scrubbed.error().lines().count(), lines);
     assert_eq!(scrubbed.status, Some(i32::from(stray > 0)));
+}
+
+/// How many frames of a cleaned capture are M101 with a body.
+fn unjudged(cleaned: &[u8]) -> usize {
+    let (mut place, mut n) = (0, 0);
+    while let Ok(frame) = read(cleaned, place) {
+        n += usize::from(&frame.type_name() == b"M101" && frame.body_len > 0);
+        place += frame.frame_len();
+    }
+    n
 }
 
 #[test]
@@ -228,7 +243,8 @@ fn a_line_comes_as_soon_as_it_is_decided() {
     running.write(&sample[at..]);
     let ran = running.end();
     assert!(listing.ends_with(ran.out()));
-    assert_eq!((ran.status, ran.error()), (Some(1), ""));
+    assert_eq!(ran.status, Some(1));
+    assert!(ran.error().contains("1 frame of channel 101"));
 }
 
 /// A frame, then a stray byte: its refusal is printed once the 24 bytes of a header are there, not
@@ -291,15 +307,16 @@ fn whole_waits_for_the_end() {
     }
 }
 
-/// The file appears when all is written, not before.
+/// The file appears when all is written, not before: until then it has no name, and only scrubbed
+/// bytes.
 #[test]
 fn a_file_appears_at_the_end() {
     let folder = Folder::new().with("old", b"old");
     for out in ["new", "old"] {
         let mut running = Running::new(&folder, &["scrub", "-", "-o", out]);
         running.write(&logon("A", "B"));
-        let beside = wait_for_bytes_beside(&folder);
-        assert_eq!(fs::read(folder.path(&beside)).unwrap(), logon("", ""));
+        let written = wait_for_bytes(&folder, running.child.id());
+        assert_eq!(written, logon("", ""));
         assert!(!folder.path("new").exists() || out == "old");
         assert_eq!(fs::read(folder.path("old")).unwrap(), b"old");
         let ran = running.end();
@@ -317,26 +334,26 @@ fn a_file_that_was_closed_to_others_meanwhile() {
         let data = fs::metadata(folder.path(name)).unwrap();
         data.permissions().mode() & 0o777
     };
-    let running = Running::new(&folder, &["scrub", "-", "-o", "out"]);
-    wait_for("no file beside", || {
-        folder.names().iter().any(|name| name.starts_with('.'))
-    });
+    let mut running = Running::new(&folder, &["scrub", "-", "-o", "out"]);
+    running.write(&heartbeats(1));
+    wait_for_bytes(&folder, running.child.id());
     fs::write(folder.path("out"), b"").unwrap();
     fs::set_permissions(folder.path("out"), PermissionsExt::from_mode(0o400)).unwrap();
     assert_eq!(running.end().status, Some(0));
     assert_eq!((folder.names(), mode("out")), (vec!["out".into()], 0o400));
 }
 
-/// The name of the file that is being written, as soon as something is in it.
-fn wait_for_bytes_beside(folder: &Folder) -> String {
-    let mut found = String::new();
+/// What a run has written to a file of a folder, as soon as that is something: to one without a
+/// name, or beside its place.
+fn wait_for_bytes(folder: &Folder, run: u32) -> Vec<u8> {
+    let mut found = Vec::new();
     wait_for("nothing is written", || {
-        let mut names = folder.names().into_iter();
-        let written = |name: &String| {
-            let data = fs::metadata(folder.path(name));
-            name.starts_with('.') && data.is_ok_and(|data| data.len() > 0)
-        };
-        names.find(written).map(|name| found = name).is_some()
+        let files = open_files(run, folder).into_iter();
+        let mut bytes = files.filter_map(|file| fs::read(file).ok());
+        bytes.any(|bytes| {
+            found = bytes;
+            !found.is_empty()
+        })
     });
     found
 }
@@ -367,7 +384,7 @@ fn nothing_is_left_of_a_line_that_broke() {
             .spawn()
             .unwrap();
         ours.write_all(&logon("A", "B")).unwrap();
-        wait_for_bytes_beside(&folder);
+        wait_for_bytes(&folder, child.id());
         drop(ours);
         let ended = child.wait_with_output().unwrap();
         let said = "rietknoest: standard input: Connection reset by peer\n";
@@ -443,7 +460,7 @@ fn a_capture_larger_than_the_memory() {
             .args(["-c", &line, env!("CARGO_BIN_EXE_rietknoest")]);
         finish(shell, b"")
     };
-    let ran = limited("list --follow large");
+    let ran = limited("list large");
     assert_eq!((ran.status, ran.error()), (Some(1), ""));
     let last = "frames 700000 refused 1 floor 0 top 0 missing 0\n";
     assert!(ran.out().ends_with(last));

@@ -167,7 +167,9 @@ fn no_private_byte_is_written() {
     let mut words: Vec<Vec<String>> = [
         "--help",
         "list sample",
-        "list --follow sample",
+        "list --json sample",
+        "list --summary sample",
+        "list sample sample",
         "check sample",
         "scrub sample -o out",
         "scrub sample -o -",
