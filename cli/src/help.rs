@@ -45,8 +45,8 @@ floor, top and missing ticks. Without FILE it lists standard input.
 The ticks of other channels are not counted: it says on standard error how many
 frames of which channels these are.
 
---follow   waits at the end of FILE for more to be written to it. Ctrl-C ends it:
-           the last line is still printed
+--follow   waits at the end of FILE for more, until Ctrl-C: then it still prints
+           the last line
 --summary  the last line alone
 --json     an object a line, with the names of rietknoest.h (see the manual)
 --quiet    shows no progress

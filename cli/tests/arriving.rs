@@ -13,7 +13,7 @@ use std::thread;
 use std::time::{Duration, Instant};
 
 use common::*;
-use rietknoest_host::{clean, read};
+use rietknoest_host::{clean, first_unclean, read};
 
 /// A command that prints nothing for so long never will.
 const PATIENCE: Duration = Duration::from_secs(60);
@@ -100,7 +100,10 @@ impl Running {
 fn run_in_pieces(folder: &Folder, words: &[&str], pieces: &[&[u8]]) -> Ran {
     let mut running = Running::new(folder, words);
     for piece in pieces {
-        running.write(piece);
+        // `check` ends as soon as it knows
+        if running.input.write_all(piece).is_err() {
+            break;
+        }
         thread::yield_now();
     }
     running.end()
@@ -126,12 +129,19 @@ fn same(a: &Ran, b: &Ran) {
     assert!(a.out == b.out, "the outputs differ");
 }
 
-/// In these pieces `list --follow` prints what `list` prints, and `scrub` writes what the library
-/// makes of the whole.
+/// In these pieces `list --follow` prints what `list` prints, `check` tells the place that the
+/// library tells of the whole, and `scrub` writes what it makes of that.
 fn arrives(folder: &Folder, capture: &[u8], pieces: &[&[u8]]) {
     let listed = run_on(folder, &["list"], capture);
     let followed = run_in_pieces(folder, &["list", "--follow"], pieces);
     same(&followed, &listed);
+
+    let checked = run_in_pieces(folder, &["check", "-"], pieces);
+    let place = match first_unclean(capture) {
+        Some(place) => format!("standard input: not clean: place {place}: "),
+        None => "standard input: clean".to_string(),
+    };
+    assert!(checked.out().starts_with(&place), "{}", checked.out());
 
     let scrubbed = run_in_pieces(folder, &["scrub", "-", "-o", "-"], pieces);
     let mut cleaned = vec![0; capture.len()];
@@ -211,6 +221,34 @@ fn long_captures() {
         capture.truncate(size);
         let pieces = cut_at_random(dice, &capture);
         arrives(&folder, &capture, &pieces);
+    }
+}
+
+/// Clean frames, then stray bytes of any length, of which the first may be those of the next frame:
+/// the place that `check` tells is the library's.
+#[test]
+fn stray_bytes_that_look_like_the_next_frame() {
+    let folder = Folder::new();
+    let dice = &mut Dice(6);
+    for round in 0..40 {
+        let letters = vec![b' '; dice.below(8_000)];
+        let next = tick(1, &letters);
+        let alike = dice.below(next.len());
+        let long = [0, 1, 8_192, 8_193, 70_000, 140_000][dice.below(6)];
+        let capture = [
+            heartbeats(dice.below(3_000) as u64),
+            next[..alike].to_vec(),
+            vec![b'Z'; long],
+            next,
+            tick(2, b"A"),
+        ];
+        let capture = capture.concat();
+        let ran = run_on(&folder, &["check", "-"], &capture);
+        let place = match first_unclean(&capture) {
+            Some(place) => format!("standard input: not clean: place {place}: "),
+            None => "standard input: clean".to_string(),
+        };
+        assert!(ran.out().starts_with(&place), "{round}: {}", ran.out());
     }
 }
 
