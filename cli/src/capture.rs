@@ -83,7 +83,7 @@ impl Source {
                 is_plain: data.is_file(),
                 grows: false,
                 read: 0,
-                progress: Progress::new(&name, data.is_file().then(|| data.len())),
+                progress: Progress::new(&name, data.is_file().then_some(data.len())),
                 name,
                 file,
             }),
