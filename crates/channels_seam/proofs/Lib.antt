@@ -1,0 +1,7 @@
+pub mod Bits
+pub mod Puts
+pub mod Turns
+pub mod Sees
+pub mod Step
+pub mod Ran
+pub mod Lent
