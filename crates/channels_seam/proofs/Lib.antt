@@ -5,3 +5,4 @@ pub mod Sees
 pub mod Step
 pub mod Ran
 pub mod Lent
+pub mod Broken
