@@ -221,7 +221,7 @@ said-13 b call = ⊎-elim
     (two (soundOf b))
 
 -- what is told stays, whether the next ledger is stored or not
-left-told : (r : Row) (x : Index) (n : Turn) (next : Ledger) (t : ChannelTold) → leftOf r x n next t .told ≡ t
+pub left-told : (r : Row) (x : Index) (n : Turn) (next : Ledger) (t : ChannelTold) → leftOf r x n next t .told ≡ t
 unfolding leftOf
 left-told r x n next t = at (eqb (t .answer) 0) (eqb (t .answer) 12)
   where

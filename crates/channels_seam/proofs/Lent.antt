@@ -7,7 +7,7 @@ use mathlib.Core.List.{List, [], _∷_}
 use Prim.Native.Nat.{ℕ, _+_, _%_, _≤_, _<_}
 use native.Mathlib.Nat.{mod-lt}
 use native.Mathlib.Omega.{arith}
-use borrow.Author.Tests.{eq-eqb, eqb-true}
+use borrow.Author.Tests.{eq-eqb, ne-eqb}
 use lib.Dec.{eqb}
 use lib.ListN.{getD}
 use Rattle.terms.specs.Cases.{clash, two, less, same}
@@ -18,7 +18,8 @@ use Rattle.ledger_spec.specs.Calls as ledger
 use Rattle.ledger_spec.specs.Calls.{isPending, fresh}
 use Rattle.ledger_spec.specs.Trace as ledger-trace
 use Rattle.ledger_spec.specs.Words.{answered, valueAt}
-use Rattle.ledger_spec.specs.Answers.{TickAnswers, AnnounceAnswers, ReplyAnswers, OnlyTop}
+use Rattle.ledger_spec.specs.Answers.{TickAnswers, AnnounceAnswers, ReplyAnswers, refusedReply, OnlyTop}
+use Rattle.ledger_spec.specs.Given.{StatusRight}
 use Rattle.ledger_spec.specs.Answers as ledger-answers
 use Rattle.ledger_spec.specs.Between.{BetweenAnswers}
 use Rattle.ledger_spec.specs.Demand3.{Demand3}
@@ -33,7 +34,7 @@ use Rattle.channels_spec.specs.Demand.{Misses, Requests, KeepsMissing}
 use Rattle.channels_spec.specs.Given.{OpenIn}
 use Rattle.channels_spec.proofs.Places.{its-place, not-free}
 use Rattle.channels_spec.proofs.Agree.{Holder, Agrees, agrees, quiet-line, never-quiet}
-use Rattle.channels_spec.proofs.Demand.{held-demand, said-answers, given-request, whose-turn, nothing-waits, new-session-told}
+use Rattle.channels_spec.proofs.Demand.{held-demand, said-answers, given-request, whose-turn, one-pending, nothing-waits, new-session-told}
 use Rattle.channels_spec.proofs.Fair.{asked-within-32, last-asked}
 use Rattle.channels_spec.proofs.Given.{given-10-opening, given-22, given-21, given-18, lowest-free, closing-frees, refused-keeps, new-session, never-13}
 use Rattle.channels.specs.declared.Channels.{Channels}
@@ -154,6 +155,7 @@ module _ {h : History} {x : Channels} (r : LentRan h x) where
     asked-name = λ c first last e. asked-held calls k c first last e (waiting calls k c first last e) .1;
     pending-is = λ i l u. (let s = standing x (after calls) k i l u in
         ap (λ (b : Book). b .pending) (book-is x (after calls) k i l (s .book) (s .is)) ∙ agrees calls .pending-is i (s .book) (nameAt x i) (s .is) (sym (s .held .name-is)));
+    own-calls = one-pending calls .own-calls;
   })
     where
       none-asked : (calls : Calls) → Kept x (after calls) → line (trace calls) ≡ quiet → x .index .asked ≡ 32
@@ -195,6 +197,15 @@ module _ {h : History} {x : Channels} (r : LentRan h x) where
           reply = λ first status f. subst (ReplyAnswers _ first status) (sym (e ∙ ap (answerTo (after calls)) f)) (q .reply first status);
           between = λ p z f. subst (BetweenAnswers _ p z) (sym (e ∙ ap (answerTo (after calls)) f)) (q .between p z);
         }))
+
+    -- "16 also for a reply on an open channel other than the one asked"
+    pub lent-other-16 : (channel first status other from to : ℕ) → callOf call ≡ To channel (Reply first status) → opened channel h ≡ true
+        → line h ≡ asks other from to → (other ≡ channel → ⊥) → StatusRight status → a ≡ refusedReply 16
+    lent-other-16 channel first status other from to f o e n right =
+        lent-answers channel o .reply first status f .unasked-16 right (λ last p. never last (sym p ∙ lent-pending .own-calls channel o ∙ ap (pendingOn channel) e ∙ ap (λ (u : Bool). pick u (range from to) nothing) (ne-eqb _ _ n)))
+      where
+        never : (last : ℕ) → range first last ≡ nothing → ⊥
+        never last p = clash refl (ap isPending p)
 
     pub lent-requests : callOf call ≡ Request → Requests h a
     lent-requests f = one-call (λ g. Requests g a) (λ calls k e m. subst (Requests (trace calls)) (sym (e ∙ ap (answerTo (after calls)) f)) (given-request calls))

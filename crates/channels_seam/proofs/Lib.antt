@@ -6,3 +6,4 @@ pub mod Step
 pub mod Ran
 pub mod Lent
 pub mod Broken
+pub mod Numbers

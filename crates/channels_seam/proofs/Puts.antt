@@ -23,11 +23,6 @@ use Rattle.channels.specs.declared.Row.{Row}
 use Rattle.channels.specs.Serves.{rowAt, noRow}
 use Rattle.channels_seam.specs.Kept.{FreeAt, HeldAt, PlaceAt, Kept}
 
-pub set-same : {X : Type 0} (xs : List X) (i : ℕ) (d : X) → set xs i (getD xs i d) ≡ xs
-set-same [] i d = refl
-set-same (x ∷ xs) zero d = refl
-set-same (x ∷ xs) (suc i) d = ap (λ (l : List _). x ∷ l) (set-same xs i d)
-
 -- ---- what is pending
 
 -- what waits, waits at the one place

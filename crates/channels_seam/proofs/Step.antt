@@ -48,11 +48,12 @@ use Rattle.channels.specs.Index.{withBit, placeIn, freeIn, turnIn, openAt, inde
 use Rattle.channels.specs.Turn.{askedOrTurn, openingTurn, turnOf, turnedAt}
 use Rattle.channels.specs.Told.{toldAs, namedPaper, indexAt}
 use Rattle.channels.specs.Answered.{rowOf, blank, rowFits, keptOf, refusedOf, storedOf, leftOf, plain, saidOf, statusIn, openedAt, closedAt, lastAt, movedOf, takenOf, openedOf, closedOf, requestedOf, tellingOf, servedOf, answeredOf}
+use Rattle.channels.proofs.Keeps.{set-same}
 use Rattle.channels.specs.Serves.{rowAt, noRow, turnBy, answeredBy, storedAt, servedBy}
 use Rattle.channels_seam.specs.Kept.{FreeAt, HeldAt, PlaceAt, Kept, callOf, seen}
 use Rattle.channels_seam.proofs.Bits.{with-here, with-else, with-lt}
 use Rattle.channels_seam.proofs.Turns.{place-is, free-is, steps-are, pending-low, index-sound, once-is, turn-is, no-turn, held-at, row-book, row-fits}
-use Rattle.channels_seam.proofs.Puts.{set-same, waits-one, waits-at, pending-put, row-here, name-here, kept-put}
+use Rattle.channels_seam.proofs.Puts.{waits-one, waits-at, pending-put, row-here, name-here, kept-put}
 use Rattle.channels_seam.proofs.Sees.{formOf, form-number, sees-unopened, sees-said, sees-request, sees-told}
 
 -- what a call comes to

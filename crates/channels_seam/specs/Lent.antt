@@ -12,7 +12,7 @@ use Rattle.tick_map.specs.Bits.{isSet}
 use Rattle.ledger_spec.specs.State.{Book}
 use Rattle.ledger_spec.specs.Calls.{fresh}
 use Rattle.ledger_spec.specs.Trace as ledger-trace
-use Rattle.ledger_spec.specs.Words.{valueAt}
+use Rattle.ledger_spec.specs.Words.{valueAt, pending}
 use Rattle.ledger_spec.specs.Answers.{TickAnswers, AnnounceAnswers, ReplyAnswers, OnlyTop}
 use Rattle.ledger_spec.specs.Answers as ledger-answers
 use Rattle.ledger_spec.specs.Between.{BetweenAnswers}
@@ -74,6 +74,7 @@ pub record LentPending (h : History) (x : Channels) : Type 0 where
   pub asked-used : (channel first last : ℕ) → line h ≡ asks channel first last → isUsed x (x .index .asked)
   pub asked-name : (channel first last : ℕ) → line h ≡ asks channel first last → nameAt x (x .index .asked) ≡ channel
   pub pending-is : (i : ℕ) → i < 32 → isUsed x i → bookAt x i .pending ≡ pendingOn (nameAt x i) (line h)
+  pub own-calls : (channel : ℕ) → opened channel h ≡ true → pending (ownHistory channel h) ≡ pendingOn channel (line h)
 
 -- ======== Whose turn
 
