@@ -4,3 +4,4 @@ pub mod Counted
 pub mod Rules
 pub mod Given
 pub mod Order
+pub mod Starts
