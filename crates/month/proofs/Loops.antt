@@ -1,5 +1,5 @@
 -- The loops that look at every place of a page: what is known of the places passed. Assumes nothing.
-use Prim.Native.Nat.{ℕ, _+_, _*_, _≤_, _<_}
+use Prim.Native.Nat.{ℕ, _+_, _-_, _*_, _≤_, _<_}
 use mathlib.Core.Path.{_≡_, refl, sym, ap, _∙_}
 use mathlib.Core.Bool.{Bool, true, false, _&&_}
 use mathlib.Core.Logic.{⊎-elim}
@@ -10,7 +10,7 @@ use lib.ListN.{length, getD}
 use borrow.Author.Tests.{eq-eqb, ne-eqb, lt-ltb, le-ltb, le-leb, lt-leb}
 use Rattle.terms.specs.Cases.{less, and-false}
 use Rattle.channels_spec.proofs.Least.{least-at, least-all}
-use Rattle.month_spec.specs.Page.{places, figuresInAll, allBelow, placeIn, placeRight, sumRight, channelsRight, sumsRight}
+use Rattle.month_spec.specs.Page.{Page, captures, places, figuresInAll, placeIn, placeRight, sumRight, channelsRight, sumsRight, soundOf}
 use Rattle.month_spec.proofs.Lists.{all-made, all-broken}
 
 -- all numbers below i are so, and i is not past n
@@ -110,3 +110,26 @@ module _ (sums : List ℕ) (named : ℕ) where
   pub sums-fine : length sums ≡ figuresInAll → (k : ℕ) → Zeros k → figuresInAll ≤ k → true ≡ sumsRight sums named
   unfolding sumsRight
   sums-fine long k z h = rw (eq-eqb _ _ long, all-made (sumRight sums named) figuresInAll (sum-fine k z h))
+
+-- A SUM WITH ROOM FOR A FIGURE
+pub room-leb : (a b m : ℕ) → a ≤ m → leb b (m - a) ≡ leb (a + b) m
+room-leb a b m h =
+    ⊎-elim (λ (l : m < a + b). rw (lt-leb (a + b) m l) (lt-leb b (m - a) (omega arith))) (λ (g : a + b ≤ m). rw (le-leb (a + b) m g) (le-leb b (m - a) (omega arith))) (less m (a + b))
+
+-- THE WHOLE PAGE
+module _ (p : Page) where
+  pub sound-named : places < p .named → false ≡ soundOf p
+  unfolding soundOf
+  sound-named h = rw (lt-leb (p .named) places h)
+
+  pub sound-taken : captures < p .taken → false ≡ soundOf p
+  unfolding soundOf
+  sound-taken h = rw (lt-leb (p .taken) captures h) (sym (and-false (leb (p .named) places)))
+
+  pub sound-channels : channelsRight (p .channels) (p .named) ≡ false → false ≡ soundOf p
+  unfolding soundOf
+  sound-channels e = rw e (rw (and-false (leb (p .taken) captures)) (sym (and-false (leb (p .named) places))))
+
+  pub sound-sums : p .named ≤ places → p .taken ≤ captures → channelsRight (p .channels) (p .named) ≡ true → (b : Bool) → b ≡ sumsRight (p .sums) (p .named) → b ≡ soundOf p
+  unfolding soundOf
+  sound-sums h k e b f = rw (le-leb (p .named) places h, le-leb (p .taken) captures k, e) f

@@ -67,8 +67,11 @@ rowNumbers row =
     row .received ∷ row .repeated ∷ row .far ∷ valueAt (answerTo (bookOf (row .ledger)) (Ask Missing)) 0 ∷ row .asked ∷ row .unavailable ∷ []
 
 -- all figures of the rows, six for each; those of an unnamed place are 0
-noRow : Row
+pub noRow : Row
 noRow = rowAfter 0 []
 
+abbrev pub rowFigure : List Row → ℕ → ℕ
+rowFigure rows k = getD (rowNumbers (getD rows (k / 6) noRow)) (k % 6) 0
+
 unfoldable pub rowFigures : List Row → ℕ → List ℕ
-rowFigures rows named = tabled (λ k. pick (ltb k (6 * named)) (getD (rowNumbers (getD rows (k / 6) noRow)) (k % 6) 0) 0) figuresInAll
+rowFigures rows named = tabled (λ k. pick (ltb k (6 * named)) (rowFigure rows k) 0) figuresInAll

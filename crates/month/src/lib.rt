@@ -4,15 +4,15 @@
 ghost use mathlib.Core.Path.{_≡_};
 ghost use mathlib.Core.Bool.{true, _&&_, not};
 ghost use mathlib.Core.List.{[], _∷_};
-ghost use Prim.Native.Nat.{_≤_, _<_};
-ghost use lib.Dec.{eqb};
+ghost use Prim.Native.Nat.{_+_, _≤_, _<_};
+ghost use lib.Dec.{eqb, leb};
 ghost use lib.ListN.{length, getD, take, drop};
 ghost use Rattle.ledger_spec.specs.Words.{one};
 ghost use Rattle.reading.specs.Seen.{seenOf};
 ghost use Rattle.walk_spec.specs.CallLaws.{isTick};
 ghost use Rattle.walk_spec.specs.Onward.{Goes};
 ghost use Rattle.month_spec.specs.Figures.{isResend, readsIn};
-ghost use Rattle.month_spec.specs.Page.{placeIn, channelsRight, sumsRight, soundOf, figuresInAll, tabled, allBelow};
+ghost use Rattle.month_spec.specs.Page.{placeIn, channelsRight, sumsRight, soundOf, figuresInAll, highest, tabled, allBelow};
 ghost use Rattle.month_spec.specs.Calls.{namingNumber, answerTo, nextOf, startNumber, startPage};
 ghost use Rattle.month.specs.State.{pageIn, monthOf, emptyWith, refusedWith, addedPaper, sumIn, sumFitsIn};
 ghost use Rattle.month.specs.Rows.{rowAfter, Turned, Roomy, Naming, Kept, rowNumbers, rowFigures};
@@ -326,13 +326,20 @@ fn figures_of(rows: [Row; 32], named: usize) -> [u64; 192]
     told
 }
 
-// Whether every sum fits 64 bits with its figure added.
+// Whether a sum fits 64 bits with its figure added.
+fn has_room(sum: u64, figure: u64) -> bool
+    ensures { λ r. ⌜ r ≡ leb (sum + figure) highest ⌝ }
+{
+    figure <= 18_446_744_073_709_551_615 - sum
+}
+
+// Whether every sum does.
 fn fits(sums: [u64; 192], figures: [u64; 192]) -> bool
     ensures { λ r. ⌜ r ≡ allBelow (sumFitsIn sums figures) figuresInAll ⌝ }
 {
     let mut k: usize = 0;
     while k < 192 {
-        if figures[k] > 18_446_744_073_709_551_615 - sums[k] {
+        if !has_room(sums[k], figures[k]) {
             return false;
         }
         k += 1;

@@ -55,19 +55,19 @@ module _ (p : Page) (s : List ℕ) where
   abbrev fits : Bool
   fits = allBelow (sumFits p s) figuresInAll
 
-  broken-is : soundOf p ≡ false → numberTo p s ≡ 13
+  pub broken-is : soundOf p ≡ false → numberTo p s ≡ 13
   unfolding numberTo
   broken-is e = rw e
 
-  full-is : soundOf p ≡ true → captures ≤ p .taken → numberTo p s ≡ 27
+  pub full-is : soundOf p ≡ true → captures ≤ p .taken → numberTo p s ≡ 27
   unfolding numberTo
   full-is e h = rw (e, le-leb _ _ h)
 
-  passes-is : soundOf p ≡ true → p .taken < captures → fits ≡ false → numberTo p s ≡ 28
+  pub passes-is : soundOf p ≡ true → p .taken < captures → fits ≡ false → numberTo p s ≡ 28
   unfolding numberTo
   passes-is e h f = rw (e, lt-leb _ _ h, f)
 
-  done-is : soundOf p ≡ true → p .taken < captures → fits ≡ true → numberTo p s ≡ 0
+  pub done-is : soundOf p ≡ true → p .taken < captures → fits ≡ true → numberTo p s ≡ 0
   unfolding numberTo
   done-is e h f = rw (e, lt-leb _ _ h, f)
 

@@ -185,11 +185,11 @@ module _ (cs : List ℕ) (c : ℕ) where
       told (v-0 h m l) q = named-more n h m l
 
 -- THE START
-start-taken : (before : List ℕ) (c : ℕ) (cs : List ℕ) → namingNumber before c ≡ 0 → startFrom before (c ∷ cs) ≡ startFrom (with before c) cs
+pub start-taken : (before : List ℕ) (c : ℕ) (cs : List ℕ) → namingNumber before c ≡ 0 → startFrom before (c ∷ cs) ≡ startFrom (with before c) cs
 unfolding startFrom
 start-taken before c cs e = rw (eq-eqb _ _ e)
 
-start-refused : (before : List ℕ) (c : ℕ) (cs : List ℕ) → (namingNumber before c ≡ 0 → ⊥) → startFrom before (c ∷ cs) ≡ namingNumber before c
+pub start-refused : (before : List ℕ) (c : ℕ) (cs : List ℕ) → (namingNumber before c ≡ 0 → ⊥) → startFrom before (c ∷ cs) ≡ namingNumber before c
 unfolding startFrom
 start-refused before c cs ne = rw (ne-eqb _ _ ne)
 
@@ -332,16 +332,19 @@ module _ (cs : List ℕ) where
 
   -- GIVEN EXACTLY WHEN
   pub given-10 : (startNumber cs ≡ 10) ↔ Given10 cs
-  given-10 =
-      (λ e. let s = to-first 10 (λ z. omega arith) e in record { first = first-of s; long = told-10 10 s (seen 10 s) (s .number) },
-      λ g. from-first (g .first) 10 (λ z. omega arith) (naming-10 (g .first .before) (g .first .named .few) (g .first .channel) (g .long)))
+  given-10 = (
+    λ e. let s = to-first 10 (λ z. omega arith) e in record { first = first-of s; long = told-10 10 s (seen 10 s) (s .number) },
+    λ g. from-first (g .first) 10 (λ z. omega arith) (naming-10 (g .first .before) (g .first .named .few) (g .first .channel) (g .long)),
+  )
 
   pub given-22 : (startNumber cs ≡ 22) ↔ Given22 cs
-  given-22 =
-      (λ e. let s = to-first 22 (λ z. omega arith) e in let t = told-22 22 s (seen 22 s) (s .number) in record { first = first-of s; short = t .0; twice = t .1 },
-      λ g. from-first (g .first) 22 (λ z. omega arith) (naming-22 (g .first .before) (g .first .named .few) (g .first .channel) (g .short) (g .twice)))
+  given-22 = (
+    λ e. let s = to-first 22 (λ z. omega arith) e in let t = told-22 22 s (seen 22 s) (s .number) in record { first = first-of s; short = t .0; twice = t .1 },
+    λ g. from-first (g .first) 22 (λ z. omega arith) (naming-22 (g .first .before) (g .first .named .few) (g .first .channel) (g .short) (g .twice)),
+  )
 
   pub given-21 : (startNumber cs ≡ 21) ↔ Given21 cs
-  given-21 =
-      (λ e. let s = to-first 21 (λ z. omega arith) e in let t = told-21 21 s (seen 21 s) (s .number) in record { first = first-of s; short = t .0; new = t .1 .0; full = t .1 .1 },
-      λ g. from-first (g .first) 21 (λ z. omega arith) (naming-21 (g .first .before) (g .first .named .few) (g .first .channel) (g .short) (g .new) (g .full)))
+  given-21 = (
+    λ e. let s = to-first 21 (λ z. omega arith) e in let t = told-21 21 s (seen 21 s) (s .number) in record { first = first-of s; short = t .0; new = t .1 .0; full = t .1 .1 },
+    λ g. from-first (g .first) 21 (λ z. omega arith) (naming-21 (g .first .before) (g .first .named .few) (g .first .channel) (g .short) (g .new) (g .full)),
+  )
