@@ -214,8 +214,8 @@ impl Access {
     }
 }
 
-/// A new file in the folder of another. It is gone when this value is dropped, or when a signal ends
-/// the program, unless it has replaced the other.
+/// A new file in the folder of another. It is gone when this value is dropped, or when a signal
+/// ends the program, unless it has replaced the other.
 pub struct Beside {
     file: File,
     /// Where it is; none if it has no name, as where the file system knows such files.
