@@ -1,7 +1,7 @@
 # Completions of the command rietknoest for bash. tools/install installs it; or: source this file.
 _rietknoest() {
     local word=${COMP_WORDS[COMP_CWORD]} before=${COMP_WORDS[COMP_CWORD - 1]} options
-    local commands="list scrub check explain market help"
+    local commands="list gaps scrub check explain market help"
     COMPREPLY=()
     if [ "$COMP_CWORD" -eq 1 ]; then
         mapfile -t COMPREPLY < <(compgen -W "$commands --help --version" -- "$word")
@@ -9,6 +9,7 @@ _rietknoest() {
     fi
     case ${COMP_WORDS[1]} in
     list) options="--follow --summary --json" ;;
+    gaps) options="--json" ;;
     scrub) options="-o --step --whole --force" ;;
     check | explain) options="--step" ;;
     market) options="" ;;

@@ -14,6 +14,10 @@ pub enum Command {
         files: Vec<OsString>,
         how: How,
     },
+    Gaps {
+        files: Vec<OsString>,
+        json: bool,
+    },
     Scrub {
         from: OsString,
         to: OsString,
@@ -51,6 +55,16 @@ const SUBCOMMANDS: &[Subcommand] = &[
         options: &["--follow", "--summary", "--json"],
         help: help::LIST,
         made: list,
+    },
+    Subcommand {
+        name: "gaps",
+        options: &["--json"],
+        help: help::GAPS,
+        made: |words| {
+            let json = words.has("--json");
+            let files = words.files_or_input();
+            Ok(Command::Gaps { files, json })
+        },
     },
     Subcommand {
         name: "scrub",

@@ -10,7 +10,7 @@ use std::os::unix::fs::MetadataExt;
 use std::thread;
 use std::time::Duration;
 
-use rietknoest_host::{records, records_room, Record, Stream, Walked, KEPT, RECORD};
+use rietknoest_host::{records, records_room, Fed, Record, Refusal, Stream, Walked, KEPT, RECORD};
 
 use crate::progress::Progress;
 use crate::{hint, system, Trouble};
@@ -171,11 +171,7 @@ impl Source {
                 hint::hint(&self.name, &bytes[..read]);
             }
             let end = waiting + read;
-            let fed = if read == 0 {
-                stream.close(&mut records)
-            } else {
-                stream.feed(&bytes[waiting..end], &mut records)
-            };
+            let fed = fed(&mut stream, &bytes[waiting..end], &mut records);
             let fed = fed.map_err(|refusal| Trouble::refused(&self.name, refusal))?;
             waiting = fed.waiting as usize;
             let decided = end - waiting;
@@ -198,6 +194,15 @@ impl Source {
             bytes.copy_within(decided..end, 0);
             place += decided as u64;
         }
+    }
+}
+
+/// One more cut of a capture, or its end, where it is empty.
+fn fed(stream: &mut Stream, cut: &[u8], records: &mut [u8]) -> Result<Fed, Refusal> {
+    if cut.is_empty() {
+        stream.close(records)
+    } else {
+        stream.feed(cut, records)
     }
 }
 

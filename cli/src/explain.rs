@@ -146,24 +146,7 @@ impl Spot {
             let _ = writeln!(text, "{name} {value}");
         }
         let body = &self.bytes[HEADER..][..frame.body_len as usize];
-        match frame.msg_type as u32 {
-            types::M201 => text.push_str(&extension(body)),
-            types::M102 => text.push_str(&snapshot(body)),
-            types::M101 if !body.is_empty() => {
-                let body = count(frame.body_len, "byte");
-                let _ = writeln!(text, "the body is not judged: {body}, not shown");
-            }
-            _ => {}
-        }
-        // the frame was read, so its length suits its type
-        for span in private_spans(frame.msg_type as u32, body).unwrap_or_default() {
-            let _ = writeln!(
-                text,
-                "{} is private: {}, not shown",
-                names::private_field(frame, span.place),
-                count(span.len, "byte")
-            );
-        }
+        text.push_str(&body_fields(frame, body));
         let len = frame.frame_len() as u64;
         let _ = writeln!(
             text,
@@ -222,6 +205,29 @@ const DONE: &str = "a frame reads here, 0 (done): every check passes";
 fn refused(refusal: Refusal) -> String {
     let (answer, reason) = (names::answer(refusal), names::reason(refusal));
     format!("refused, {answer}: {reason}")
+}
+
+/// The public fields of a body that the library does not name, and the names of the private ones.
+fn body_fields(frame: &Frame, body: &[u8]) -> String {
+    let mut text = match frame.msg_type as u32 {
+        types::M201 => extension(body),
+        types::M102 => snapshot(body),
+        types::M101 if !body.is_empty() => {
+            let body = count(frame.body_len, "byte");
+            format!("the body is not judged: {body}, not shown\n")
+        }
+        _ => String::new(),
+    };
+    // the frame was read, so its length suits its type
+    for span in private_spans(frame.msg_type as u32, body).unwrap_or_default() {
+        let _ = writeln!(
+            text,
+            "{} is private: {}, not shown",
+            names::private_field(frame, span.place),
+            count(span.len, "byte")
+        );
+    }
+    text
 }
 
 /// The public fields of an M201's extension: numbers, and letters without the spaces behind them.

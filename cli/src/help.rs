@@ -2,6 +2,7 @@
 
 pub const ALL: &str = "\
 usage: rietknoest list [--follow] [--summary] [--json] [FILE ..]
+       rietknoest gaps [--json] [FILE ..]
        rietknoest scrub [--step] [--whole] [--force] IN -o OUT
        rietknoest check [--step] FILE ..
        rietknoest explain [--step] FILE PLACE
@@ -12,6 +13,8 @@ usage: rietknoest list [--follow] [--summary] [--json] [FILE ..]
 list     prints a line for each reading of a capture: place, type (---- where
          it was refused), answer, MsgSeqNum, channel, tick number, floor, top;
          then a line that counts channel 100.
+gaps     prints for each channel which tick numbers are missing, and what to
+         request next.
 scrub    writes the capture's good frames to OUT, each with its private fields
          painted over, as they arrive. Bytes that are no frame are left out.
          M101 bodies are not judged, could hold anything, and are passed on.
@@ -43,7 +46,7 @@ and top. The last line counts frames, refused readings and, of channel 100,
 floor, top and missing ticks. Without FILE it lists standard input.
 
 The ticks of other channels are not counted: it says on standard error how many
-frames of which channels these are.
+frames of which channels these are, and gaps counts them.
 
 --follow   waits at the end of FILE for more, until Ctrl-C: then it still prints
            the last line
@@ -54,6 +57,22 @@ frames of which channels these are.
 
 exit status: 0 all well; 1 a reading was refused, a tick is missing, or frames
 of other channels were not counted; 2 wrong usage, or a file can't be read.
+";
+
+pub const GAPS: &str = "\
+usage: rietknoest gaps [--json] [--quiet] [FILE ..]
+
+Reads captures one after the other, as one, and prints for each channel in them,
+up to 32: floor, top, how many tick numbers are missing, and which, in at most
+20 runs; then the request that would be given next. Without FILE it reads
+standard input.
+
+--json     an object a line, with the names of rietknoest.h (see the manual)
+--quiet    shows no progress
+--help     prints this
+
+exit status: 0 nothing is missing; 1 a number is missing, a reading was refused,
+or channels were not counted; 2 wrong usage, or a file can't be read.
 ";
 
 pub const SCRUB: &str = "\

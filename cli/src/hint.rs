@@ -6,6 +6,8 @@ use crate::say;
 const PACKETS: &str = "this looks like a pcap file, which has packets; a capture has what they \
                        carry alone, without their headers";
 
+const STEP: &[u8] = b"8=FIX";
+
 /// The first bytes of a kind of file, and what is said of it.
 const KINDS: [(&[u8], &str); 8] = [
     (b"\xA1\xB2\xC3\xD4", PACKETS),
@@ -26,7 +28,7 @@ const KINDS: [(&[u8], &str); 8] = [
         "this looks like a zstd file: unpack it first, as in 'zstd -dc FILE | rietknoest .. -'",
     ),
     (
-        b"8=FIX",
+        STEP,
         "this looks like a capture of the STEP line: scrub, check and explain take --step",
     ),
 ];
@@ -36,5 +38,12 @@ pub fn hint(name: &str, bytes: &[u8]) {
     let kind = KINDS.iter().find(|(start, _)| bytes.starts_with(start));
     if let Some((_, what)) = kind {
         say(&format!("{name}: {what}"));
+    }
+}
+
+/// The same for a file that is said to be of the STEP line.
+pub fn hint_for_step(name: &str, bytes: &[u8]) {
+    if !bytes.starts_with(STEP) {
+        hint(name, bytes);
     }
 }

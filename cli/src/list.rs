@@ -5,7 +5,7 @@ use std::ffi::{OsStr, OsString};
 use std::io::{self, IsTerminal};
 use std::ops::ControlFlow;
 
-use rietknoest_host::{listing, text_room, Record, Refusal, Walked};
+use rietknoest_host::{listing, text_room, Record, Refusal, Walked, RECORD};
 
 use crate::capture::{Source, Step};
 use crate::{count, each, json, put, say, Status, Trouble};
@@ -36,81 +36,95 @@ fn list_one(file: &OsStr, how: How, several: bool) -> Result<ControlFlow<Status,
     if io::stdout().is_terminal() {
         source = source.silent();
     }
-    let mut lines = Lines {
+    let mut listed = Listed {
         name: source.name.clone(),
         how,
-        room: Vec::new(),
+        several,
+        others: Others::default(),
+        so_far: Status::Well,
     };
-    let mut others = Others::default();
-    let mut so_far = Status::Well;
-    if several && !how.json && !how.summary {
-        put(format!("==> {} <==\n", lines.name).as_bytes())?;
-    }
-    let told = source.walk(|step| {
-        others.add(&step);
-        if step.records.is_empty() && !step.is_last {
-            return Ok(ControlFlow::Continue(()));
-        }
-        let missing = step.walked.ledger.status();
-        let missing = missing.map_err(|refusal| Trouble::refused(&lines.name, refusal))?;
-        let amiss = step.walked.refused > 0 || missing.missing > 0 || !others.is_empty();
-        so_far = Status::amiss(amiss);
-        let text = lines.of(&step, several, &others)?;
-        put(text)?;
-        Ok(ControlFlow::Continue(()))
-    });
-    match told {
+    match listed
+        .begin()
+        .and_then(|()| source.walk(|step| listed.add(&step)))
+    {
         Ok(()) => {
-            others.say(&lines.name);
-            Ok(ControlFlow::Continue(so_far))
+            listed.others.say(&listed.name);
+            Ok(ControlFlow::Continue(listed.so_far))
         }
-        Err(Trouble::Unread) => Ok(ControlFlow::Break(so_far)),
+        Err(Trouble::Unread) => Ok(ControlFlow::Break(listed.so_far)),
         Err(trouble) => Err(trouble),
     }
 }
 
-/// The text of a step's readings.
-struct Lines {
+/// A capture that is being listed.
+struct Listed {
     name: String,
     how: How,
-    room: Vec<u8>,
+    /// Whether it is one of several.
+    several: bool,
+    others: Others,
+    so_far: Status,
 }
 
-impl Lines {
-    /// A line for each record, and behind the last one the line of counts.
-    fn of(&mut self, step: &Step, several: bool, others: &Others) -> Result<&[u8], Trouble> {
-        if self.how.json {
-            return self.json(step, others);
+impl Listed {
+    /// The name of one of several listings.
+    fn begin(&self) -> Result<(), Trouble> {
+        if self.several && !self.how.json && !self.how.summary {
+            put(format!("==> {} <==\n", self.name).as_bytes())?;
         }
-        let records = if self.how.summary { &[] } else { step.records };
-        self.room.resize(text_room(records.len() / 64), 0);
-        let told = listing(records, &step.walked, &mut self.room);
-        let bytes = told.map_err(|refusal| Trouble::refused(&self.name, refusal))?;
-        self.room.truncate(bytes);
-        if !step.is_last {
-            self.room.truncate(before_last_line(&self.room));
-        } else if self.how.summary && several {
-            self.room
-                .splice(..0, format!("{}: ", self.name).into_bytes());
-        }
-        Ok(&self.room)
+        Ok(())
     }
 
-    /// The same as objects, one a line.
-    fn json(&mut self, step: &Step, others: &Others) -> Result<&[u8], Trouble> {
+    /// Prints what a step has decided.
+    fn add(&mut self, step: &Step) -> Result<ControlFlow<()>, Trouble> {
+        self.others.add(step);
+        if !step.records.is_empty() || step.is_last {
+            let told = self.text(step);
+            let (text, missing) = told.map_err(|refusal| Trouble::refused(&self.name, refusal))?;
+            let amiss = step.walked.refused > 0 || missing > 0 || !self.others.is_empty();
+            self.so_far = Status::amiss(amiss);
+            put(&text)?;
+        }
+        Ok(ControlFlow::Continue(()))
+    }
+
+    /// The text of a step's readings, behind the last ones the counts; and how many numbers are
+    /// missing.
+    fn text(&self, step: &Step) -> Result<(Vec<u8>, u64), Refusal> {
+        let missing = step.walked.ledger.status()?.missing;
+        let text = if self.how.json {
+            self.objects(step)?.into_bytes()
+        } else {
+            self.lines(step)?
+        };
+        Ok((text, missing))
+    }
+
+    /// A line for each record, and the line of counts.
+    fn lines(&self, step: &Step) -> Result<Vec<u8>, Refusal> {
+        let records = if self.how.summary { &[] } else { step.records };
+        let mut text = vec![0; text_room(records.len() / RECORD)];
+        let bytes = listing(records, &step.walked, &mut text)?;
+        text.truncate(bytes);
+        if !step.is_last {
+            text.truncate(before_last_line(&text));
+        } else if self.how.summary && self.several {
+            text.splice(..0, format!("{}: ", self.name).into_bytes());
+        }
+        Ok(text)
+    }
+
+    /// The same as objects.
+    fn objects(&self, step: &Step) -> Result<String, Refusal> {
         let name = json::string(&self.name);
         let mut text = String::new();
         if !self.how.summary {
-            for record in step.readings() {
-                text.push_str(&reading(&name, &record));
-            }
+            text.extend(step.readings().map(|record| reading(&name, &record)));
         }
         if step.is_last {
-            let told = counts(&name, &step.walked, others);
-            text.push_str(&told.map_err(|refusal| Trouble::refused(&self.name, refusal))?);
+            text.push_str(&counts(&name, &step.walked, &self.others)?);
         }
-        self.room = text.into_bytes();
-        Ok(&self.room)
+        Ok(text)
     }
 }
 

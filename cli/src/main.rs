@@ -1,6 +1,6 @@
-//! The command `rietknoest`: lists, scrubs, checks and explains captures. It has no rule of the
-//! documents: what a byte means is up to `rietknoest_host`. Files, words and exit statuses are
-//! handled here, tested but not proved.
+//! The command `rietknoest`: lists, scrubs, checks and explains captures, and finds their gaps. It
+//! has no rule of the documents: what a byte means is up to `rietknoest_host`. Files, words and exit
+//! statuses are handled here, tested but not proved.
 
 #![deny(unsafe_code)]
 
@@ -8,6 +8,7 @@ mod arguments;
 mod capture;
 mod check;
 mod explain;
+mod gaps;
 mod help;
 mod hint;
 mod json;
@@ -19,6 +20,7 @@ mod scrub;
 mod step;
 #[allow(unsafe_code)]
 mod system;
+mod table;
 mod target;
 
 use std::env;
@@ -112,6 +114,7 @@ fn run(command: Command) -> Result<Status, Trouble> {
             print(concat!("rietknoest ", env!("CARGO_PKG_VERSION"), "\n")).map(|()| Status::Well)
         }
         Command::List { files, how } => list::list(&files, how),
+        Command::Gaps { files, json } => gaps::gaps(&files, json),
         Command::Scrub {
             from,
             to,

@@ -11,7 +11,7 @@ use rietknoest_host::Refusal;
 
 use crate::capture::Source;
 use crate::target::{Held, Target};
-use crate::{count, print, say, system, Status, Trouble};
+use crate::{count, hint, print, say, system, Status, Trouble};
 
 /// What is at a place.
 enum Part<'a> {
@@ -42,6 +42,9 @@ fn walk(
             bytes.copy_within(at..end, 0);
             (at, end) = (0, end - at);
             let read = source.piece(&mut bytes[end..])?;
+            if place == 0 && end == 0 {
+                hint::hint_for_step(&source.name, &bytes[..read]);
+            }
             (end, ended) = (end + read, read == 0);
             continue;
         }

@@ -1,8 +1,8 @@
 //! What the standard library lacks of Linux: signals, naming a file that has no name, and which of
 //! the standard files were closed when the program was started. Everything unsafe is here.
 //!
-//! The program has one thread. That is why a mask of signals holds for all of it, and why what a
-//! handler reads is not changed at the same time: the numbers that it reads are atomic all the same.
+//! The program has one thread, so a mask of signals holds for all of it. What a handler reads or
+//! writes is atomic.
 
 #![deny(clippy::undocumented_unsafe_blocks)]
 

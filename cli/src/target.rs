@@ -214,8 +214,8 @@ impl Access {
     }
 }
 
-/// A new file in the folder of another. It is gone when this value is dropped, or when a signal ends
-/// the program, unless it has replaced the other.
+/// A new file in the folder of another. It is gone when this value is dropped, or when a signal
+/// ends the program, unless it has replaced the other.
 pub struct Beside {
     file: File,
     /// Where it is; none if it has no name, as where the file system knows such files.
@@ -292,16 +292,20 @@ impl Beside {
     /// Moves to the path, replacing what was there. A signal waits until it is done.
     fn become_file(mut self, path: &Path) -> io::Result<()> {
         system::undisturbed(|| {
-            if self.path.is_none() {
-                let name = |path: PathBuf| system::name(&self.file, &path).map(|()| path);
-                self.path = Some(free_name(path, name)?);
+            let beside = match self.path.take() {
+                Some(beside) => beside,
+                None => free_name(path, |beside| {
+                    system::name(&self.file, &beside)?;
+                    system::remove_at_end(Some(&beside));
+                    Ok(beside)
+                })?,
+            };
+            let renamed = fs::rename(&beside, path);
+            if renamed.is_err() {
+                let _ = fs::remove_file(&beside);
             }
-            if let Some(beside) = &self.path {
-                fs::rename(beside, path)?;
-            }
-            self.path = None;
             system::remove_at_end(None);
-            Ok(())
+            renamed
         })
     }
 }

@@ -1,4 +1,5 @@
-//! The completions offer what the help texts have: every subcommand, and every option of each.
+//! The completions and the manual have what the help texts have: every subcommand, and every option
+//! of each. README has lines that the command prints.
 
 mod common;
 
@@ -95,4 +96,49 @@ fn zsh_and_fish_know_the_same() {
             Err(_) => println!("no {shell} on this machine: not tried"),
         }
     }
+}
+
+/// The manual has a part for each subcommand, which its synopsis shows with the options of its help.
+#[test]
+fn the_manual_has_the_same() {
+    let path = root().join("docs/rietknoest.1");
+    let manual = fs::read_to_string(path).unwrap().replace('\\', "");
+    let (_, synopsis) = manual.split_once(".SH SYNOPSIS\n").unwrap();
+    let (synopsis, rest) = synopsis.split_once(".SH DESCRIPTION\n").unwrap();
+    for name in subcommands() {
+        let call = format!(".B rietknoest {name}\n");
+        let (_, call) = synopsis.split_once(&call).expect(&name);
+        let call = call.split(".br\n").next().unwrap();
+        if name == "help" {
+            continue;
+        }
+        assert!(rest.contains(&format!(".SS {name}\n")), "{name}");
+        for option in options(&name) {
+            let everywhere = ["--quiet", "--help"].contains(&option.as_str());
+            assert_eq!(call.contains(&option), !everywhere, "{name} {option}");
+            assert!(rest.contains(&option), "{name} {option}");
+        }
+    }
+}
+
+/// What README shows of the sample is what is printed.
+#[test]
+fn readme_shows_what_is_printed() {
+    let readme = fs::read_to_string(root().join("README.md")).unwrap();
+    let folder = Folder::new().with("sample", &sample());
+    let mut printed = String::new();
+    let mut shown = 0;
+    for line in readme.lines().filter_map(|line| line.strip_prefix("    ")) {
+        // behind three spaces a line is told about
+        let line = line.split("   ").next().unwrap();
+        if let Some(words) = line.strip_prefix("$ rietknoest ") {
+            let words: Vec<_> = words.split(' ').collect();
+            let ran = run(&folder, &words);
+            printed = format!("{}{}", ran.out(), ran.error());
+        } else if line != ".." && !printed.is_empty() {
+            assert!(printed.lines().any(|row| row == line), "{line}");
+            shown += 1;
+        }
+    }
+    assert!(shown > 8);
 }

@@ -161,6 +161,12 @@ fn files_of_another_kind() {
             assert_eq!(ran.status, Some(1));
         }
     }
+    // the STEP line's commands know their own, and the others
+    for (start, what) in &kinds[4..] {
+        let ran = run_on(&folder, &["check", "--step", "-"], start);
+        let is_step = what.ends_with("STEP line");
+        assert_eq!(ran.error().contains(what), !is_step, "{what}");
+    }
     for start in [&b"S003"[..], b"", b"8=", b"\x1F"] {
         let ran = run_on(&folder, &["list"], start);
         assert_eq!(ran.error(), "");
