@@ -16,3 +16,7 @@ pub mod SameMap
 pub mod GivenUp
 pub mod Session
 pub mod Between
+pub mod TwoCaptures
+pub mod TwoCapturesHold
+pub mod TwoCapturesCalls
+pub mod Witness
