@@ -215,6 +215,7 @@ ledger-answers =
     let Ledger-announce-one-answer = ledger.Ledger-announce-one-answer in
     let Ledger-request-one-answer = ledger.Ledger-request-one-answer in
     let Ledger-reply-one-answer = ledger.Ledger-reply-one-answer in
+    let Ledger-renewed-one-answer = ledger.Ledger-renewed-one-answer in
     let Ledger-missing-one-answer = ledger.Ledger-missing-one-answer in
     let Ledger-held-one-answer = ledger.Ledger-held-one-answer in
     let Ledger-missing-between-one-answer = ledger.Ledger-missing-between-one-answer in

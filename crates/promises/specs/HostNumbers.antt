@@ -26,7 +26,7 @@ use Rattle.frame_spec.specs.Lowest.{search-given-9, search-given-0}
 use Rattle.entries.specs.Reader.{openOf, stands, entryAt, stepOf}
 use Rattle.private.specs.Scrub.{scrubAnswer}
 use Rattle.ledger_spec.specs.State.{Book, largest, has, soundOf}
-use Rattle.ledger_spec.specs.Calls.{Call, Tick, Announce, Request, Reply, Ask, Missing, Held, Between, tickNumber, replyStatus, isPending, startsAt, elsewhere, ownNumber, checkedOf, numberTo, answerTo, openNumber}
+use Rattle.ledger_spec.specs.Calls.{Call, Tick, Announce, Request, Reply, Ask, Missing, Held, Between, Renew, tickNumber, replyStatus, isPending, startsAt, elsewhere, ownNumber, checkedOf, numberTo, answerTo, openNumber}
 use Rattle.walk_spec.specs.Walk as walk
 use Rattle.clean_spec.specs.Clean as clean
 use Rattle.stream_spec.specs.declared.Stream.{Stream}
@@ -163,6 +163,7 @@ own b (Reply channel first status) =
 own b (Ask Missing) = done refl
 own b (Ask Held) = done refl
 own b (Ask (Between channel a z)) = picked (not (tickNumber a && tickNumber z)) 10 0 (refused refl) (done refl)
+own b Renew = done refl
 
 calling : (b : Book) (call : Call) → Numbered (answerTo b call .number)
 unfolding answerTo numberTo checkedOf inTable
