@@ -17,6 +17,10 @@ use Rattle.walk_laws.specs.Frames.{joined, eachOf}
 use Rattle.reading.specs.declared.Seen.{Seen}
 use Rattle.walk_spec.specs.Walk.{sights, callsOf, walkAnswer, walkBook, walkLeaves}
 use Rattle.walk_spec.specs.Literal.{literalWalk}
+use Rattle.month_spec.specs.Figures.{figuresOf}
+use Rattle.month_spec.specs.Page.{Page}
+use Rattle.month_spec.specs.Calls as month
+use Rattle.month_spec.specs.Trace.{pageAfter}
 use Rattle.clean_spec.specs.Clean.{cleanOf, cleanAnswer, cleanLeaves}
 use Rattle.listing_text.specs.Listed.{listedOf}
 use Rattle.listing_text.specs.Output.{outputOf}
@@ -69,10 +73,23 @@ pub record SameOutside (s t : List ℕ) : Type 0 where
   pub same-request : (channel : ℕ) → answerTo (literalWalk s .ledger) (Request channel) ≡ answerTo (literalWalk t .ledger) (Request channel)
   -- the calls that a capture makes: so every ledger and every table that is fed from it
   pub same-calls : callsOf s ≡ callsOf t
+  -- the month figures of every channel; and of a page, whatever was added before, the answer, 27 and
+  -- 28 among it, and the page after it
+  pub same-figures : (channel : ℕ) → figuresOf channel s ≡ figuresOf channel t
+  pub same-added : (p : Page) → month.answerTo p s ≡ month.answerTo p t
+  pub same-page : (p : Page) → month.nextOf p s ≡ month.nextOf p t
   -- the scrubbed capture, its counts, and the bytes of the buffer it is laid into
   pub same-scrubbed : cleanOf s ≡ cleanOf t
   pub same-cleaned : (room : ℕ) → cleanAnswer s room ≡ cleanAnswer t room
   pub same-clean : (d : List ℕ) → cleanLeaves s d ≡ cleanLeaves t d
+
+-- captures pairwise: the page over all of them is the same
+pub data AllPairs : List (List ℕ) → List (List ℕ) → Type 0 where
+  no-more : AllPairs [] []
+  and-more : {s t : List ℕ} {ss ts : List (List ℕ)} → TwoCaptures s t → AllPairs ss ts → AllPairs (s ∷ ss) (t ∷ ts)
+
+abbrev pub SamePages : Type 0
+SamePages = (p : Page) (ss ts : List (List ℕ)) → AllPairs ss ts → pageAfter p ss ≡ pageAfter p ts
 
 -- The converse: accepted frames with equal scrubbed bytes meet the premise. So no public byte is
 -- painted over.

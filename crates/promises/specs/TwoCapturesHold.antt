@@ -1,11 +1,12 @@
 -- CR 13, proved. Two frames that meet the premise are alike (`Alike` of `private`), so they are seen
 -- alike and scrub to the same bytes. Records, ledger, calls, counts and listing are made of what is
 -- seen, and of a capture's length, alone.
-use Prim.Native.Nat.{ℕ, _+_, _-_, _<_, _≤_}
+use Prim.Native.Nat.{ℕ, _+_, _-_, _/_, _<_, _≤_}
 use mathlib.Core.Path.{_≡_, refl, sym, ap, ap₂, _∙_}
 use mathlib.Core.Logic.{_⊎_, inl, inr, ⊎-elim}
 use mathlib.Core.List.{List, [], _∷_, _++_}
 use native.Mathlib.Omega.{arith}
+use lib.Dec.{leb}
 use lib.ListN.{length, take, drop, getD, length-append, List·getD-eq-default}
 use lib.Seq.{take-all, length-take-le, getD-take, getD-drop, ext-getD}
 use Rattle.terms.specs.Cases.{less}
@@ -38,10 +39,16 @@ use Rattle.walk_spec.specs.Literal.{Walk, literalWalk}
 use Rattle.walk_spec.specs.LiteralLaws.{literal-walk}
 use Rattle.listing_text.specs.Listed.{listedOf}
 use Rattle.listing_text.specs.Output.{outputOf}
+use Rattle.month_spec.specs.Figures.{figuresOf, figureOf}
+use Rattle.month_spec.specs.Page.{Page, figuresInAll, highest}
+use Rattle.month_spec.proofs.Lists.{tabled-same, all-same}
+use Rattle.month_spec.specs.Calls as month
+use Rattle.month_spec.specs.Calls.{figureAt, sumFits, numberTo, figuresTold, counted}
+use Rattle.month_spec.specs.Trace.{pageAfter}
 use Rattle.clean_spec.specs.Clean as clean
 use Rattle.clean_spec.specs.Clean.{cleanOf, cleanAnswer, cleanLeaves}
 use Rattle.clean_spec.specs.Laws.{AllFrames, joined-sights, clean-joined}
-use Rattle.promises.specs.TwoCaptures.{PrivateAt, SameButPrivate, Pairwise, no-pair, one-pair, TwoCaptures, SameOutside, OnlyPrivateHidden}
+use Rattle.promises.specs.TwoCaptures.{PrivateAt, SameButPrivate, Pairwise, no-pair, one-pair, TwoCaptures, SameOutside, AllPairs, no-more, and-more, SamePages, OnlyPrivateHidden}
 
 -- ONE PAIR
 
@@ -215,6 +222,36 @@ module _ (s t : List ℕ) (e : sights s ≡ sights t) where
   unfolding callsOf
   same-calls = ap (callsFrom none) e
 
+  same-figures : (channel : ℕ) → figuresOf channel s ≡ figuresOf channel t
+  unfolding figuresOf callsOf
+  same-figures channel = rw e
+
+  same-figure : (p : Page) (k : ℕ) → figureAt p s k ≡ figureAt p t k
+  unfolding figureAt figureOf
+  same-figure p k = rw (same-figures (getD (p .channels) (k / 6) 0))
+
+  same-number : (p : Page) → numberTo p s ≡ numberTo p t
+  unfolding numberTo
+  same-number p =
+      rw (all-same (sumFits p s) (sumFits p t) figuresInAll (λ k l. ap (λ (n : ℕ). leb (getD (p .sums) k 0 + n) highest) (same-figure p k)))
+
+  same-told : (p : Page) → figuresTold p s ≡ figuresTold p t
+  unfolding figuresTold
+  same-told p = tabled-same (figureAt p s) (figureAt p t) figuresInAll (λ k l. same-figure p k)
+
+  same-added : (p : Page) → month.answerTo p s ≡ month.answerTo p t
+  unfolding month.answerTo
+  same-added p = rw (same-number p, same-told p)
+
+  same-counted : (p : Page) → counted p s ≡ counted p t
+  unfolding counted
+  same-counted p =
+      rw (tabled-same (λ k. getD (p .sums) k 0 + figureAt p s k) (λ k. getD (p .sums) k 0 + figureAt p t k) figuresInAll (λ k l. ap (λ (n : ℕ). getD (p .sums) k 0 + n) (same-figure p k)))
+
+  same-page : (p : Page) → month.nextOf p s ≡ month.nextOf p t
+  unfolding month.nextOf
+  same-page p = rw (same-number p, same-counted p)
+
   module _ (w : cleanOf s ≡ cleanOf t) where
     same-room : (room : ℕ) → clean.fitsIn s room ≡ clean.fitsIn t room
     unfolding clean.fitsIn
@@ -242,10 +279,19 @@ same-outside s t c =
       same-output = same-output s t e (same-long s t c);
       same-request = λ channel. ap (λ (x : Walk). answerTo (x .ledger) (Request channel)) (same-records s t e);
       same-calls = same-calls s t e;
+      same-figures = same-figures s t e;
+      same-added = same-added s t e;
+      same-page = same-page s t e;
       same-scrubbed = w;
       same-cleaned = same-cleaned s t e w;
       same-clean = same-clean s t e w;
     }
+
+pub same-pages : SamePages
+unfolding pageAfter
+same-pages p ss ts no-more = refl
+same-pages p ss ts (and-more {s = s} {t = t} {ss = ss′} {ts = ts′} c r) =
+    ap (λ (q : Page). pageAfter q ss′) (same-outside s t c .same-page p) ∙ same-pages (month.nextOf p t) ss′ ts′ r
 
 -- THE CONVERSE. A scrubbed frame tells its type, its public bytes and so its private places.
 module _ (f g : List ℕ) (y : readOf f .number ≡ 0) (z : readOf g .number ≡ 0) (e : scrubbed f ≡ scrubbed g) where
