@@ -2,6 +2,7 @@
 //!
 //!     cargo run --release -p bench            everything
 //!     cargo run --release -p bench -- small   without the captures of 10 and 100 MB
+//!     cargo run --release -p bench -- session the rows of a session alone
 //!
 //! Each job runs both ways in turn several times, and the best time of each counts. The answers are compared first.
 
@@ -9,6 +10,7 @@ mod made;
 mod market;
 mod plain;
 mod plain_step;
+mod session;
 mod shift;
 mod step;
 
@@ -630,10 +632,15 @@ fn main() {
     let small = std::env::args().any(|a| a == "small");
     println!("| Job | Input | ours | plain Rust | ratio | goal |");
     println!("|---|---|---|---|---|---|");
+    if std::env::args().any(|a| a == "session") {
+        session::rows();
+        return;
+    }
     sum_and_fill();
     replies();
     spans();
     step::rows();
+    session::rows();
     captures("64 KiB", KIB_64);
     market::race();
     if !small {

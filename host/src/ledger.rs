@@ -25,7 +25,7 @@ pub struct Passed {
 
 /// The range of a resend request: its first and last number.
 #[derive(Clone, Copy, Debug, Default, PartialEq, Eq)]
-#[must_use = "the range is pending until the exchange replies: send it"]
+#[must_use = "the range is pending until the exchange replies or a new session begins: send it"]
 #[repr(C)]
 pub struct Request {
     pub first: TickNumber,
@@ -138,6 +138,12 @@ impl Ledger {
         let mut settled = Settled::default();
         let answer = raw::ledger_reply(self, channel, first, status, &mut settled);
         result(answer, settled)
+    }
+
+    /// A new session of the line begins: what was requested on the old line will not be answered on
+    /// the new one, and is no longer pending. Nothing else changes.
+    pub fn renew(&mut self) -> Result<(), Refusal> {
+        result(raw::ledger_renew(self), ())
     }
 
     /// What the ledger holds, or 13.

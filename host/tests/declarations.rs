@@ -45,7 +45,7 @@ fn run(command: &mut Command, input: &[u8]) -> Vec<u8> {
 /// The crates of which the library is made, and how many functions each has for others.
 const EXPORTS: [(&str, usize); 7] = [
     ("host_frames", 8),
-    ("host_ledger", 7),
+    ("host_ledger", 8),
     ("host_session", 7),
     ("host_captures", 4),
     ("host_stream", 3),
@@ -519,7 +519,7 @@ fn ledgers(s: &mut Script, d: &mut Dice) {
         let (near, edge) = (words[1].wrapping_add(d.below(262)), d.edge());
         let n = d.of(&[near, near, near, edge]);
         let (its, tick) = (ChannelNumber::new(channel), TickNumber::new(n));
-        match d.below(8) {
+        match d.below(9) {
             0 => {
                 let answer = ledger.announce(its, tick).map(|()| (vec![], None));
                 s.ask("announce", &format!("{channel} {n}"), answer, Some(&ledger));
@@ -571,6 +571,10 @@ fn ledgers(s: &mut Script, d: &mut Dice) {
                     answer,
                     Some(&ledger),
                 );
+            }
+            5 => {
+                let answer = ledger.renew().map(|()| (vec![], None));
+                s.ask("renew", "", answer, Some(&ledger));
             }
             _ => {
                 let answer = ledger.tick(its, tick);

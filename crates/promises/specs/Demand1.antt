@@ -321,6 +321,7 @@ host-ledger-answers =
     let rk-ledger-announce-one-answer = host_ledger.rk-ledger-announce-one-answer in
     let rk-ledger-request-one-answer = host_ledger.rk-ledger-request-one-answer in
     let rk-ledger-reply-one-answer = host_ledger.rk-ledger-reply-one-answer in
+    let rk-ledger-renew-one-answer = host_ledger.rk-ledger-renew-one-answer in
     let rk-ledger-missing-one-answer = host_ledger.rk-ledger-missing-one-answer in
     let rk-ledger-told-one-answer = host_ledger.rk-ledger-told-one-answer in
     named
@@ -660,6 +661,8 @@ host-ledger-buffers =
     let rk-ledger-request-refused-keeps = host_ledger.rk-ledger-request-refused-keeps in
     let rk-ledger-reply-one-buffer = host_ledger.rk-ledger-reply-one-buffer in
     let rk-ledger-reply-refused-keeps = host_ledger.rk-ledger-reply-refused-keeps in
+    let rk-ledger-renew-one-buffer = host_ledger.rk-ledger-renew-one-buffer in
+    let rk-ledger-renew-refused-keeps = host_ledger.rk-ledger-renew-refused-keeps in
     let rk-ledger-missing-one-buffer = host_ledger.rk-ledger-missing-one-buffer in
     let rk-ledger-missing-refused-keeps = host_ledger.rk-ledger-missing-refused-keeps in
     let rk-ledger-told-one-buffer = host_ledger.rk-ledger-told-one-buffer in

@@ -4,6 +4,7 @@ pub mod HostNumbers
 pub mod Demand2
 pub mod HostFrames
 pub mod RealTimes
+pub mod MovedSum
 pub mod Tails
 pub mod OneSum
 pub mod Demand3
