@@ -23,13 +23,9 @@ use denote.Laws.{Is}
 use denote.Shadow.{shadow}
 use denote.Struct.Field.{Field, array-field}
 use denote.Struct.Laws.{FLaws}
+use Rattle.channels.proofs.Keeps.{set-same}
 
 -- ---- lists
-
-set-same : {X : Type 0} (xs : List X) (i : ℕ) (d : X) → set xs i (getD xs i d) ≡ xs
-set-same [] i d = refl
-set-same (x ∷ xs) zero d = refl
-set-same (x ∷ xs) (suc i) d = ap (λ (l : List _). x ∷ l) (set-same xs i d)
 
 pub getD-map : {X Y : Type 0} (f : X → Y) (xs : List X) (i : ℕ) (d : X) (e : Y) → i < length xs → getD (map f xs) i e ≡ f (getD xs i d)
 getD-map f [] i d e l = absurd (not-suc-le-zero l)

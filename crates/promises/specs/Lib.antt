@@ -7,6 +7,8 @@ pub mod RealTimes
 pub mod MovedSum
 pub mod Tails
 pub mod OneSum
+pub mod Step
+pub mod Market
 pub mod Demand3
 pub mod Cuttings
 pub mod Marked

@@ -2,10 +2,10 @@
 use mathlib.Core.Path.{sym, ap}
 use Rattle.terms.specs.Paper.{one-number}
 use Rattle.octets.specs.Papers.{writtenPaper}
 use Rattle.host_words.specs.Told.{tells-done, tells-why}
 use borrow.Author.Needs.{needs}
-use Rattle.host_captures.proofs.told_bytes.Statement.{statement}
-use Rattle.host_captures.proofs.told_bytes.Tie as tie
+use Rattle.host_words.proofs.told_bytes.Statement.{statement}
+use Rattle.host_words.proofs.told_bytes.Tie as tie
 
 enum-known-w : tie.Need-enum-known-w
 enum-known-w c = search needs

@@ -3,8 +3,8 @@ use mathlib.Core.Path.{sym, ap, _∙_}
 use Rattle.terms.specs.Paper.{one-number}
 use Rattle.ledger.specs.Papers.{paperOf}
 use borrow.Author.Needs.{needs}
-use Rattle.host_captures.proofs.number_of.Statement.{statement}
-use Rattle.host_captures.proofs.number_of.Tie as tie
+use Rattle.host_words.proofs.number_of.Statement.{statement}
+use Rattle.host_words.proofs.number_of.Tie as tie
 
 enum-told : tie.Need-enum-told
 enum-told c = search needs

@@ -1,9 +1,9 @@
 -- `keep`: 0 and 12 store the next ledger, any other answer nothing. Assumes nothing.
 use borrow.Author.Tests.{ne-eqb}
 use Rattle.host_words.specs.Calls.{keptBy}
 use borrow.Author.Needs.{needs}
-use Rattle.host_captures.proofs.keep.Statement.{statement}
-use Rattle.host_captures.proofs.keep.Tie as tie
+use Rattle.host_words.proofs.keep.Statement.{statement}
+use Rattle.host_words.proofs.keep.Tie as tie
 
 state-of-requires : tie.Need-state-of-requires
 state-of-requires c κs = search needs
