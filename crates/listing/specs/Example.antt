@@ -23,7 +23,7 @@ use Rattle.listing_text.specs.Text.{column, named, summaryOf}
 use Rattle.walk_spec.specs.Literal.{walkFrom, literalWalk}
 use Rattle.listing_text.specs.Whole.{linesOf}
 use Rattle.listing_text.specs.Listed.{listedOf}
-use Rattle.listing.specs.Output.{over, outputOf}
+use Rattle.listing_text.specs.Output.{over, outputOf}
 
 unfoldable pub capture : List ℕ
 capture = frameA (0 ∷ 0 ∷ 0 ∷ 0 ∷ []) (0 ∷ 0 ∷ 0 ∷ 0x8E ∷ []) ++ (0xFF ∷ frameB)

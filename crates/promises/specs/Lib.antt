@@ -19,3 +19,7 @@ pub mod SameMap
 pub mod GivenUp
 pub mod Session
 pub mod Between
+pub mod TwoCaptures
+pub mod TwoCapturesHold
+pub mod TwoCapturesCalls
+pub mod Witness

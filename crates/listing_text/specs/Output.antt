@@ -4,14 +4,7 @@ use mathlib.Core.List.{List, [], _∷_}
 use lib.Dec.{leb}
 use lib.ListN.{length}
 use Rattle.terms.specs.Paper.{pick}
-use Rattle.ledger.specs.State.{bookOf}
-use Rattle.listing_text.specs.declared.Summary.{Summary}
-use Rattle.walk.specs.declared.Walked.{Walked}
-use Rattle.listing_text.specs.Listed.{lastAt, listedOf}
-
--- the last line's numbers, of what the code's walk hands back
-unfoldable pub lastBy : Walked → Summary
-lastBy w = lastAt (w .frames) (w .refused) (bookOf (w .ledger))
+use Rattle.listing_text.specs.Listed.{listedOf}
 
 -- `capture over 65536 bytes`, and a newline
 abbrev pub over : List ℕ
