@@ -3,7 +3,7 @@
 -- the caller has seen the history h, and finds the table x. The words (opened, since, ownHistory,
 -- line, grants) are told from the history alone: Words.antt of `channels_spec`.
 use Prim.Native.Nat.{ℕ, _+_, _%_, _≤_, _<_}
-use mathlib.Core.Path.{_≡_, refl}
+use mathlib.Core.Path.{_≡_, refl, sym, subst}
 use mathlib.Core.Bool.{true, false}
 use mathlib.Core.Logic.{_↔_}
 use Rattle.terms.specs.Paper.{Paper}
@@ -13,7 +13,7 @@ use Rattle.ledger_spec.specs.Answers.{refusedReply}
 use Rattle.host_words.specs.Told.{Refuses}
 use Rattle.channels_spec.specs.Table.{counted, empty}
 use Rattle.channels_spec.specs.Calls.{Open, Close, Request, To, Renew, Tick, Reply}
-use Rattle.channels_spec.specs.Trace.{History}
+use Rattle.channels_spec.specs.Trace.{History, start}
 use Rattle.channels_spec.specs.Words.{opened, asks, line, grants, grantsOn}
 use Rattle.channels_spec.specs.Demand.{Requests}
 use Rattle.channels_spec.proofs.Fair as Fair
@@ -21,14 +21,20 @@ use Rattle.channels.specs.declared.Channels.{Channels}
 use Rattle.channels.specs.declared.ChannelCall.{ChannelCall}
 use Rattle.channels.specs.declared.ChannelTold.{ChannelTold}
 use Rattle.channels.specs.Serves.{emptyChannels, Serves}
-use Rattle.host_channels.proofs.OneAnswer as Lends
-use Rattle.channels_seam.specs.Kept.{callOf, seen, LentRan}
+use Rattle.channels.proofs.Channels.none.Reads as none
+use Rattle.channels.proofs.Channels.none.Kinds as none-kinds
+use Rattle.channels_seam.specs.Kept.{callOf, seen, LentRan, opening}
 use Rattle.channels_seam.specs.Lent.{isUsed, LentChannel, LentPlace, LentAnswers, LentPending, LentTurn, LentThen, LentOpens, LentCloses, LentOpening, LentNotOpen, LentRaises, LentSession}
 use Rattle.channels_seam.specs.Broken.{Unsound}
 use Rattle.channels_seam.specs.Numbers.{tableNumber}
 use Rattle.channels_seam.proofs.Lent as Lent
 use Rattle.channels_seam.proofs.Broken as Broken
 use Rattle.channels_seam.proofs.Numbers as Numbers
+use Rattle.promises.specs.Calls.{Promises}
+
+-- the table that a program starts from: no channel is open, and no call was made
+pub starts-empty : Promises _ none-kinds.ps none-kinds.r none.Post (λ κs a x s. LentRan start x)
+starts-empty κs a x s p = subst (LentRan start) (sym p) opening
 
 -- "Hold up to 32 ledgers in one table": each open place has a channel that was opened and not
 -- closed since, and no channel stands at two
@@ -113,8 +119,8 @@ pub given-13 : {x next : Channels} {told : ChannelTold} (call : ChannelCall) →
 given-13 = Broken.given-13
 
 -- "each leaving the table as found": names, index and rows, byte for byte, save 12's top
-pub refused-keeps : (was : Channels) (call : ChannelCall) (told : ChannelTold) (next : Channels) → Serves was call told next → Refuses (told .answer) → (told .answer ≡ 12 → ⊥) → next ≡ was
-refused-keeps = Lends.rk-channels-refused-keeps
+pub refused-keeps : {was next : Channels} {told : ChannelTold} (call : ChannelCall) → Serves was call told next → Refuses (told .answer) → (told .answer ≡ 12 → ⊥) → next ≡ was
+refused-keeps = Lent.served-refused
 
 -- and every answer is 0, a number of the ledger's calls, 21 or 22
 pub channels-numbered : {x next : Channels} {told : ChannelTold} (call : ChannelCall) → Serves x call told next → tableNumber (told .answer) ≡ true
