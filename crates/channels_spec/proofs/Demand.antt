@@ -143,7 +143,7 @@ module _ (calls : Calls) where
   a = agrees calls
 
   -- the line is quiet: nothing waits in the table
-  nothing-waits : line h ≡ quiet → 32 ≤ pendingPlace t
+  pub nothing-waits : line h ≡ quiet → 32 ≤ pendingPlace t
   unfolding pendingPlace
   nothing-waits e = ⊎-elim (λ l. absurd (waiting _ refl (least-is (λ i. waits (t .place i)) 32 l .is-so))) (λ l. l) (less (pendingPlace t) 32)
     where
