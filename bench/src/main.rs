@@ -13,6 +13,7 @@ mod plain_step;
 mod session;
 mod shift;
 mod step;
+mod times;
 
 use made::Dice;
 use rietknoest_host as host;
@@ -637,6 +638,7 @@ fn main() {
         return;
     }
     sum_and_fill();
+    times::row();
     replies();
     spans();
     step::rows();

@@ -165,7 +165,11 @@ fn a_capture_of_the_other_line_is_told_of() {
         &["scrub", "in", "-o", "-", "--whole"],
     ] {
         let told = run(&folder, words);
-        assert!(told.error().contains("try --step"), "{words:?}");
+        assert!(
+            told.error()
+                .contains("scrub, check and explain take --step"),
+            "{words:?}"
+        );
         for word in PRIVATE {
             assert!(!told.out().contains(word) && !told.error().contains(word));
         }

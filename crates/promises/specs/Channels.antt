@@ -21,6 +21,8 @@ use Rattle.channels.specs.declared.Channels.{Channels}
 use Rattle.channels.specs.declared.ChannelCall.{ChannelCall}
 use Rattle.channels.specs.declared.ChannelTold.{ChannelTold}
 use Rattle.channels.specs.Serves.{emptyChannels, Serves}
+use Rattle.host_channels.specs.declared.Exchange.{Exchange}
+use Rattle.host_channels.specs.Exchanges.{Exchanges}
 use Rattle.channels.proofs.Channels.none.Reads as none
 use Rattle.channels.proofs.Channels.none.Kinds as none-kinds
 use Rattle.channels_seam.specs.Kept.{callOf, seen, LentRan, opening}
@@ -31,6 +33,11 @@ use Rattle.channels_seam.proofs.Lent as Lent
 use Rattle.channels_seam.proofs.Broken as Broken
 use Rattle.channels_seam.proofs.Numbers as Numbers
 use Rattle.promises.specs.Calls.{Promises}
+
+-- what the promise of rk_channels allows, to a table and to the call and answer lent beside it, is
+-- such a call
+pub exchange-serves : (was : Channels) (asks : Exchange) (next : Channels) (told : Exchange) → Exchanges was asks next told → Serves was (asks .call) (told .told) next
+exchange-serves was asks next told p = p .serves
 
 -- the table that a program starts from: no channel is open, and no call was made
 pub starts-empty : Promises _ none-kinds.ps none-kinds.r none.Post (λ κs a x s. LentRan start x)

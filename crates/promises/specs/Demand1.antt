@@ -301,6 +301,9 @@ words-answers =
     let state-of-one-answer = host_words.state-of-one-answer in
     let first-asked-one-answer = host_words.first-asked-one-answer in
     let last-asked-one-answer = host_words.last-asked-one-answer in
+    let number-of-one-answer = host_words.number-of-one-answer in
+    let keep-one-answer = host_words.keep-one-answer in
+    let told-bytes-one-answer = host_words.told-bytes-one-answer in
     named
 
 -- host_frames
@@ -638,6 +641,13 @@ clean-buffers : Named
 clean-buffers =
     let clean-one-buffer = clean.clean-one-buffer in
     let clean-refused-keeps = clean.clean-refused-keeps in
+    named
+
+words-buffers : Named
+words-buffers =
+    let keep-one-buffer = host_words.keep-one-buffer in
+    let told-bytes-one-buffer = host_words.told-bytes-one-buffer in
+    let told-bytes-refused-keeps = host_words.told-bytes-refused-keeps in
     named
 
 -- of all that a function of host_frames, host_ledger and host_captures is lent: told row,

@@ -11,6 +11,7 @@ use lib.Dec.{eqb, ltb, leb}
 use lib.ListN.{length}
 use Rattle.terms.specs.Paper.{Paper, answer, refusal, pick}
 use Rattle.terms.specs.Cases.{less}
+use Rattle.terms.specs.Letters.{spelled}
 use Rattle.octets.specs.Octets.{be}
 use Rattle.octets.specs.Papers.{roomFor}
 use Rattle.rules.specs.declared.Kind.{Kind}
@@ -148,7 +149,7 @@ opening-entries b =
 
 stepping : (b : List ℕ) (p : ℕ) → Numbered (stepOf b p .number)
 unfolding stepOf entryAt inTable
-stepping b p = chosen (stands b p) (entryAt b p) (refusal 20) (chosen (eqb (be 5 10 b) 0x4D44303031) _ _ (done refl) (done refl)) (refused refl)
+stepping b p = chosen (stands b p) (entryAt b p) (refusal 20) (chosen (eqb (be 5 10 b) (spelled "MD001")) _ _ (done refl) (done refl)) (refused refl)
 
 -- the ledger
 

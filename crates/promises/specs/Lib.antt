@@ -7,6 +7,8 @@ pub mod RealTimes
 pub mod MovedSum
 pub mod Tails
 pub mod OneSum
+pub mod Step
+pub mod Market
 pub mod Demand3
 pub mod Cuttings
 pub mod Marked
@@ -18,3 +20,7 @@ pub mod GivenUp
 pub mod Session
 pub mod Between
 pub mod Channels
+pub mod TwoCaptures
+pub mod TwoCapturesHold
+pub mod TwoCapturesCalls
+pub mod Witness
