@@ -3,9 +3,11 @@
 //!     cargo run --release -p bench            everything
 //!     cargo run --release -p bench -- small   without the captures of 10 and 100 MB
 //!     cargo run --release -p bench -- session the rows of a session alone
+//!     cargo run --release -p bench -- channels those of a table of channels
 //!
 //! Each job runs both ways in turn several times, and the best time of each counts. The answers are compared first.
 
+mod channels;
 mod made;
 mod market;
 mod plain;
@@ -637,12 +639,17 @@ fn main() {
         session::rows();
         return;
     }
+    if std::env::args().any(|a| a == "channels") {
+        channels::rows();
+        return;
+    }
     sum_and_fill();
     times::row();
     replies();
     spans();
     step::rows();
     session::rows();
+    channels::rows();
     captures("64 KiB", KIB_64);
     market::race();
     if !small {
