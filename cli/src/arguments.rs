@@ -1,70 +1,103 @@
-//! The command's arguments.
+//! The command's arguments. `SUBCOMMANDS` has a row for each subcommand.
 
 use std::ffi::{OsStr, OsString};
+use std::os::unix::ffi::OsStrExt;
 
 use crate::capture::shown;
-use crate::Trouble;
-
-pub const HELP: &str = "\
-usage: rietknoest list [--follow] [FILE]
-       rietknoest scrub [--step] IN -o OUT [--whole]
-       rietknoest check [--step] FILE
-       rietknoest explain [--step] FILE PLACE
-       rietknoest market FILE
-       rietknoest --help | --version
-
-list     prints a line for each reading of a capture: place, type (---- where
-         it was refused), answer, MsgSeqNum, channel, tick number, floor, top;
-         then a line that counts. Without FILE it lists standard input.
-         With --follow each line comes as soon as its reading is decided.
-scrub    writes the capture's good frames to OUT, each with its private fields
-         painted over, as they arrive. Bytes that are no frame are left out; it
-         says how many on standard error. With --whole it reads all of IN first,
-         and writes nothing where there is one.
-check    says whether a capture is clean: whether scrubbing it would change no
-         byte. If not, at which place, and in which field. It can't tell a
-         frame that came out of private bytes (docs/PRIVATE.md).
-explain  says in words what reading at a place of a capture answers, and why.
-         It shows no private field.
-market   says whether a B-to-H market file (mktdth.txt) is sound, or what is
-         wrong with it and at which place. It shows no byte of the file.
-
-With --step the capture is of the STEP line: each place is tried in turn, IN is
-read whole, and explain shows the values of numbers, flags and times alone.
-
-- is standard input, or standard output for OUT. IN is never overwritten.
-
-exit status: 0 all well; 1 something was refused, is missing or is private;
-2 wrong usage, or a file can't be read or written.
-The manual page is docs/rietknoest.1.
-";
+use crate::list::How;
+use crate::{help, progress, Trouble};
 
 pub enum Command {
-    Help,
+    Help(&'static str),
     Version,
     List {
-        file: OsString,
-        follow: bool,
+        files: Vec<OsString>,
+        how: How,
+    },
+    Gaps {
+        files: Vec<OsString>,
+        json: bool,
     },
     Scrub {
         from: OsString,
         to: OsString,
         whole: bool,
         step: bool,
+        force: bool,
     },
     Check {
-        file: OsString,
+        files: Vec<OsString>,
         step: bool,
     },
     Explain {
         file: OsString,
-        place: usize,
+        place: u64,
         step: bool,
     },
     Market {
-        file: OsString,
+        files: Vec<OsString>,
     },
 }
+
+/// A subcommand.
+struct Subcommand {
+    name: &'static str,
+    /// The options that it takes, beside --help and --quiet. -o has a file behind it.
+    options: &'static [&'static str],
+    help: &'static str,
+    /// What its words ask for.
+    made: fn(Words) -> Result<Command, Trouble>,
+}
+
+const SUBCOMMANDS: &[Subcommand] = &[
+    Subcommand {
+        name: "list",
+        options: &["--follow", "--summary", "--json"],
+        help: help::LIST,
+        made: list,
+    },
+    Subcommand {
+        name: "gaps",
+        options: &["--json"],
+        help: help::GAPS,
+        made: |words| {
+            let json = words.has("--json");
+            let files = words.files_or_input();
+            Ok(Command::Gaps { files, json })
+        },
+    },
+    Subcommand {
+        name: "scrub",
+        options: &["-o", "--whole", "--step", "--force"],
+        help: help::SCRUB,
+        made: scrub,
+    },
+    Subcommand {
+        name: "check",
+        options: &["--step"],
+        help: help::CHECK,
+        made: |words| {
+            let step = words.has("--step");
+            let files = words.files()?;
+            Ok(Command::Check { files, step })
+        },
+    },
+    Subcommand {
+        name: "explain",
+        options: &["--step"],
+        help: help::EXPLAIN,
+        made: explain,
+    },
+    Subcommand {
+        name: "market",
+        options: &[],
+        help: help::MARKET,
+        made: |words| {
+            let files = words.files()?;
+            Ok(Command::Market { files })
+        },
+    },
+];
 
 /// What the arguments ask for.
 pub fn parse(mut words: impl Iterator<Item = OsString>) -> Result<Command, Trouble> {
@@ -72,78 +105,180 @@ pub fn parse(mut words: impl Iterator<Item = OsString>) -> Result<Command, Troub
         return wrong("no command is given");
     };
     match name.to_str() {
-        Some("--help") => Ok(Command::Help),
-        Some("--version") => Ok(Command::Version),
-        Some(name @ ("list" | "scrub" | "check" | "explain" | "market")) => command(name, words),
-        _ => wrong(format!("{}: no such command", shown(&name))),
+        Some("--help" | "-h") => Ok(Command::Help(help::ALL)),
+        Some("--version" | "-V") => Ok(Command::Version),
+        Some("help") => match words.next() {
+            Some(name) => Ok(Command::Help(subcommand(&name)?.help)),
+            None => Ok(Command::Help(help::ALL)),
+        },
+        _ => {
+            let subcommand = subcommand(&name)?;
+            match Words::of(subcommand, words)? {
+                Some(words) => (subcommand.made)(words),
+                None => Ok(Command::Help(subcommand.help)),
+            }
+        }
     }
 }
 
-fn command(name: &str, mut words: impl Iterator<Item = OsString>) -> Result<Command, Trouble> {
-    let mut files = Vec::new();
-    let mut to = None;
-    let mut whole = false;
-    let mut follow = false;
-    let mut step = false;
-    let mut options = true;
-    while let Some(word) = words.next() {
-        match word.to_str() {
-            Some("--") if options => options = false,
-            Some("--help") if options => return Ok(Command::Help),
-            Some("--whole") if options && name == "scrub" => whole = true,
-            Some("--follow") if options && name == "list" => follow = true,
-            Some("--step") if options && name != "list" => step = true,
-            Some("-o") if options && name == "scrub" => match words.next() {
-                Some(out) if to.is_none() => to = Some(out),
-                Some(_) => return wrong("scrub: -o is given twice"),
-                None => return wrong("scrub: -o names no file"),
-            },
-            _ if options && is_option(&word) => {
-                return wrong(format!("{name}: {}: no such option", shown(&word)));
+fn subcommand(name: &OsStr) -> Result<&'static Subcommand, Trouble> {
+    let found = SUBCOMMANDS.iter().find(|known| name == known.name);
+    match found {
+        Some(found) => Ok(found),
+        None => wrong(format!("{}: no such command", shown(name))),
+    }
+}
+
+/// The words behind a subcommand's name.
+struct Words {
+    name: &'static str,
+    options: Vec<&'static str>,
+    /// What stands behind -o.
+    out: Option<OsString>,
+    files: Vec<OsString>,
+}
+
+impl Words {
+    /// None if help is asked for.
+    fn of(
+        subcommand: &Subcommand,
+        mut words: impl Iterator<Item = OsString>,
+    ) -> Result<Option<Words>, Trouble> {
+        let name = subcommand.name;
+        let mut given = Words {
+            name,
+            options: Vec::new(),
+            out: None,
+            files: Vec::new(),
+        };
+        let has_out = subcommand.options.contains(&"-o");
+        let mut options = true;
+        while let Some(word) = words.next() {
+            if !options || !is_option(&word) {
+                given.files.push(word);
+                continue;
             }
-            _ => files.push(word),
+            let known = subcommand.options.iter().find(|known| word == **known);
+            match (word.to_str(), known) {
+                (Some("--"), _) => options = false,
+                (Some("--help" | "-h"), _) => return Ok(None),
+                (Some("--quiet" | "-q"), _) => progress::silence(),
+                (Some("-o"), Some(_)) => match words.next() {
+                    Some(out) => given.out_is(out)?,
+                    None => return wrong(format!("{name}: -o names no file")),
+                },
+                (_, Some(known)) => given.options.push(known),
+                (_, None) => match word.as_bytes().strip_prefix(b"-o") {
+                    Some(out) if has_out => given.out_is(OsStr::from_bytes(out).into())?,
+                    _ => return wrong(format!("{name}: {}: no such option", shown(&word))),
+                },
+            }
+        }
+        Ok(Some(given))
+    }
+
+    fn out_is(&mut self, out: OsString) -> Result<(), Trouble> {
+        match self.out.replace(out) {
+            None => Ok(()),
+            Some(_) => wrong(format!("{}: -o is given twice", self.name)),
         }
     }
-    let files: Result<[OsString; 1], _> = match name {
-        "list" if files.is_empty() => Ok([OsString::from("-")]),
-        "explain" => return explain(files, step),
-        _ => files.try_into(),
+
+    fn has(&self, option: &str) -> bool {
+        self.options.contains(&option)
+    }
+
+    /// One file or more.
+    fn files(self) -> Result<Vec<OsString>, Trouble> {
+        if self.files.is_empty() {
+            return wrong(format!("{}: it takes a file, or several", self.name));
+        }
+        Ok(self.files)
+    }
+
+    /// The files, or standard input if there are none.
+    fn files_or_input(self) -> Vec<OsString> {
+        if self.files.is_empty() {
+            return vec![OsString::from("-")];
+        }
+        self.files
+    }
+}
+
+fn list(words: Words) -> Result<Command, Trouble> {
+    let how = How {
+        follow: words.has("--follow"),
+        summary: words.has("--summary"),
+        json: words.has("--json"),
     };
-    let Ok([file]) = files else {
-        return wrong(format!("{name}: it takes one file"));
+    let files = words.files_or_input();
+    if how.follow && files.len() > 1 {
+        return wrong("list: --follow takes one file");
+    }
+    Ok(Command::List { files, how })
+}
+
+fn scrub(words: Words) -> Result<Command, Trouble> {
+    let (whole, step) = (words.has("--whole"), words.has("--step"));
+    let force = words.has("--force");
+    let Ok([from]) = <[OsString; 1]>::try_from(words.files) else {
+        return wrong("scrub: it takes one file");
     };
-    match (name, to) {
-        ("list", _) => Ok(Command::List { file, follow }),
-        ("check", _) => Ok(Command::Check { file, step }),
-        ("market", _) => Ok(Command::Market { file }),
-        (_, Some(to)) => Ok(Command::Scrub {
-            from: file,
+    match words.out {
+        Some(to) => Ok(Command::Scrub {
+            from,
             to,
             whole,
             step,
+            force,
         }),
-        (_, None) => wrong("scrub: -o OUT is missing"),
+        None => wrong("scrub: -o OUT is missing"),
     }
 }
 
 /// The file and the place. A number too large for a place is beyond the end of every file.
-fn explain(words: Vec<OsString>, step: bool) -> Result<Command, Trouble> {
-    let Ok([file, place]) = <[OsString; 2]>::try_from(words) else {
+fn explain(words: Words) -> Result<Command, Trouble> {
+    let step = words.has("--step");
+    let Ok([file, place]) = <[OsString; 2]>::try_from(words.files) else {
         return wrong("explain: it takes a file and a place");
     };
     match place.to_str() {
         Some(digits) if !digits.is_empty() && digits.bytes().all(|b| b.is_ascii_digit()) => {
-            let place = digits.parse().unwrap_or(usize::MAX);
+            let place = digits.parse().unwrap_or(u64::MAX);
             Ok(Command::Explain { file, place, step })
         }
-        _ => wrong(format!("explain: {}: no place", shown(&place))),
+        _ => wrong(format!("explain: {}: not a number of bytes", shown(&place))),
     }
 }
 
 fn is_option(word: &OsStr) -> bool {
-    word.len() > 1 && word.as_encoded_bytes()[0] == b'-'
+    word.len() > 1 && word.as_bytes()[0] == b'-'
 }
 
-fn wrong(what: impl Into<String>) -> Result<Command, Trouble> {
+fn wrong<T>(what: impl Into<String>) -> Result<T, Trouble> {
     Err(Trouble::Usage(what.into()))
+}
+
+#[cfg(test)]
+mod tests {
+    use super::*;
+
+    /// The help of a subcommand starts with how it is called, and has each of its options and no
+    /// other; the help of all has each subcommand.
+    #[test]
+    fn the_help_has_every_option() {
+        for subcommand in SUBCOMMANDS {
+            let Subcommand { name, help, .. } = subcommand;
+            assert!(help.starts_with(&format!("usage: rietknoest {name} ")));
+            assert!(help::ALL.contains(&format!("\n{name:8} ")), "{name}");
+            let words = help.split([' ', '\n', '[', ']', ',', '|', ';', '.']);
+            let mut told: Vec<_> = words.filter(|word| is_option(OsStr::new(word))).collect();
+            let mut takes = subcommand.options.to_vec();
+            takes.extend(["--quiet", "--help"]);
+            told.sort();
+            told.dedup();
+            takes.sort();
+            assert_eq!(told, takes, "{name}");
+        }
+    }
 }

@@ -1,62 +1,162 @@
 //! `check`: is this capture clean?
 
 use std::ffi::OsStr;
+use std::ops::ControlFlow;
 
-use rietknoest_host::{first_unclean, private_spans, read, Frame, HEADER};
+use rietknoest_host::{
+    first_unclean, private_spans, read, scrub, Frame, Record, Refusal, HEADER, LONGEST,
+};
 
-use crate::capture::Capture;
-use crate::{names, print, step, Status, Trouble};
+use crate::capture::{Source, Step};
+use crate::{names, print, Status, Trouble};
 
 /// Amiss if cleaning the capture would change a byte. Prints the first such place, and what is
 /// there.
 pub fn check(file: &OsStr) -> Result<Status, Trouble> {
-    let capture = Capture::read(file)?;
-    step::hint(&capture.name, &capture.bytes);
-    let Some(place) = first_unclean(&capture.bytes) else {
-        print(format!("{}: clean\n", capture.name))?;
-        return Ok(Status::Well);
+    let source = Source::open(file)?;
+    let name = source.name.clone();
+    let mut looked = Looked::default();
+    source.walk(|step| {
+        let more = looked.at(&step);
+        more.map_err(|refusal| Trouble::refused(&name, refusal))
+    })?;
+    let (line, status) = match (looked.amiss(), looked.unjudged) {
+        (Some((place, what)), _) => (format!("not clean: place {place}: {what}"), Status::Amiss),
+        (None, 0) => ("clean".to_string(), Status::Well),
+        (None, bodies) => (
+            format!("clean, except that {}", names::unjudged(bodies)),
+            Status::Well,
+        ),
     };
-    let what = standing_at(&capture, place)?;
-    print(format!(
-        "{}: not clean: place {place}: {what}\n",
-        capture.name
-    ))?;
-    Ok(Status::Amiss)
+    print(format!("{name}: {line}\n"))?;
+    Ok(status)
 }
 
-/// What is at the first place that is not clean. If a reading up to there was refused, the cleaned
-/// capture differs from that reading on: its bytes are stray. Else the place is in the last frame
-/// read.
-fn standing_at(capture: &Capture, place: usize) -> Result<String, Trouble> {
-    let walk = capture.walk()?;
-    let mut last = None;
-    for at in walk.places().take_while(|at| *at <= place) {
-        match read(&capture.bytes, at) {
-            Ok(frame) => last = Some((at, frame)),
-            Err(refusal) => {
-                let answer = names::answer(refusal);
-                return Ok(format!(
-                    "stray bytes from {at} on, where reading answers {answer}"
-                ));
+/// What was found so far.
+#[derive(Default)]
+struct Looked {
+    /// The first place that is not clean, and what is there.
+    found: Option<(u64, String)>,
+    /// The first refused reading: the cleaned capture differs from there on.
+    stray: Option<Stray>,
+    /// How many bodies are not judged.
+    unjudged: u64,
+}
+
+/// Bytes that cleaning leaves out.
+struct Stray {
+    from: u64,
+    answer: Refusal,
+    /// The capture from there on, as far as one frame reaches.
+    bytes: Vec<u8>,
+}
+
+impl Stray {
+    fn keep(&mut self, more: &[u8]) {
+        let room = LONGEST - self.bytes.len();
+        self.bytes.extend(&more[..more.len().min(room)]);
+    }
+
+    fn what(&self) -> String {
+        format!(
+            "stray bytes from {} on, where reading answers {}",
+            self.from,
+            names::answer(self.answer)
+        )
+    }
+}
+
+impl Looked {
+    /// Looks at a step, and says whether it is enough.
+    fn at(&mut self, step: &Step) -> Result<ControlFlow<()>, Refusal> {
+        let refused = match &mut self.stray {
+            Some(stray) => {
+                stray.keep(step.bytes);
+                Some(stray.from)
+            }
+            None => {
+                self.frames(step)?;
+                self.stray.as_ref().map(|stray| stray.from)
+            }
+        };
+        if let (None, Some(from)) = (&self.found, refused) {
+            // the frame that cleaning puts where the stray bytes are
+            if let Some(record) = step.readings().find(|r| r.place > from) {
+                self.shifted(step, &record)?;
             }
         }
+        Ok(match self.found {
+            Some(_) => ControlFlow::Break(()),
+            None => ControlFlow::Continue(()),
+        })
     }
-    // the walk reads at 0, so there is one
-    Ok(last.map_or_else(String::new, |(at, frame)| {
-        let field = field_at(capture, at, &frame, place);
-        format!("{field} of the {} at {at}", names::letters(&frame))
-    }))
+
+    /// The frames of a step up to its end, or to the first refused reading: cleaning leaves each at
+    /// its place.
+    fn frames(&mut self, step: &Step) -> Result<(), Refusal> {
+        let refused = step.readings().find(Record::is_refused);
+        let frames = match &refused {
+            Some(record) => &step.bytes[..(record.place - step.place) as usize],
+            None => step.bytes,
+        };
+        if let Some(i) = first_unclean(frames) {
+            let place = step.place + i as u64;
+            let before = step.readings().take_while(|r| r.place <= place);
+            let what = before.last().map(|r| what_is_at(step, &r, place));
+            self.found = Some((place, what.transpose()?.unwrap_or_default()));
+            return Ok(());
+        }
+        let good = step.readings().take_while(|r| !r.is_refused());
+        self.unjudged += good.filter(names::is_unjudged).count() as u64;
+        if let Some((record, answer)) = refused.and_then(|r| Some((r, r.refusal()?))) {
+            let mut stray = Stray {
+                from: record.place,
+                answer,
+                bytes: Vec::new(),
+            };
+            stray.keep(step.from(record.place));
+            self.stray = Some(stray);
+        }
+        Ok(())
+    }
+
+    /// Where the capture first differs from the frame that cleaning puts there. It differs within
+    /// the frame: else a frame would read where one was refused.
+    fn shifted(&mut self, step: &Step, record: &Record) -> Result<(), Refusal> {
+        let mut frame = step.from(record.place)[..names::frame_len(record)].to_vec();
+        scrub(&mut frame)?;
+        if let Some(stray) = &self.stray {
+            let mut pairs = frame.iter().zip(&stray.bytes);
+            let same = pairs.position(|(a, b)| a != b).unwrap_or(frame.len());
+            self.found = Some((stray.from + same as u64, stray.what()));
+        }
+        Ok(())
+    }
+
+    /// The first place that is not clean, and what is there. If no frame follows stray bytes,
+    /// cleaning ends where they start.
+    fn amiss(&self) -> Option<(u64, String)> {
+        let stray = || self.stray.as_ref().map(|stray| (stray.from, stray.what()));
+        self.found.clone().or_else(stray)
+    }
 }
 
-/// The name of the private field that a place is in. Scrubbing changes these fields and the
+/// The private field of a frame that a place is in. Scrubbing changes these fields and the
 /// checksum, nothing else.
-fn field_at(capture: &Capture, at: usize, frame: &Frame, place: usize) -> &'static str {
-    let body = &capture.bytes[at + HEADER..][..frame.body_len as usize];
-    // the frame was read, so its length suits its type
-    let spans = private_spans(frame.msg_type as u32, body).unwrap_or_default();
+fn what_is_at(step: &Step, record: &Record, place: u64) -> Result<String, Refusal> {
+    let bytes = step.from(record.place);
+    let frame = read(bytes, 0)?;
+    let field = field_at(bytes, &frame, place - record.place)?;
+    let letters = names::letters(&frame);
+    Ok(format!("{field} of the {letters} at {}", record.place))
+}
+
+fn field_at(bytes: &[u8], frame: &Frame, place: u64) -> Result<&'static str, Refusal> {
+    let body = &bytes[HEADER..][..frame.body_len as usize];
+    let spans = private_spans(frame.msg_type as u32, body)?;
     let within = spans.iter().find(|span| {
-        let from = at + HEADER + span.place as usize;
-        (from..from + span.len as usize).contains(&place)
+        let from = HEADER as u64 + span.place;
+        (from..from + span.len).contains(&place)
     });
-    within.map_or("CheckSum", |span| names::private_field(frame, span.place))
+    Ok(within.map_or("CheckSum", |span| names::private_field(frame, span.place)))
 }

@@ -1,63 +1,223 @@
-//! `explain`: what reading at a place answers, and why, in words.
+//! `explain`: what the walk answers at a place, and why, in words.
 
 use std::ffi::OsStr;
 use std::fmt::Write;
+use std::ops::ControlFlow;
 
-use rietknoest_host::{private_spans, read, tail_fields, Frame, HEADER};
+use rietknoest_host::{
+    entries, private_spans, read, tail_fields, types, Entry, Frame, Record, Refusal, CHECK_SUM,
+    HEADER, LONGEST,
+};
 
-use crate::capture::{Capture, Walk};
-use crate::{count, names, print, step, Status, Trouble};
+use crate::capture::{Source, Step};
+use crate::{count, names, print, Status, Trouble};
 
-/// Amiss if reading refuses. A frame's fields are printed only where the walk reads it: a frame
-/// that reads inside another may be in private bytes. Of a refused frame only the answer's number,
-/// name and rule are printed.
-pub fn explain(file: &OsStr, place: usize) -> Result<Status, Trouble> {
-    let capture = Capture::read(file)?;
-    step::hint(&capture.name, &capture.bytes);
-    let end = capture.bytes.len();
-    if place > end {
-        let what = format!("the place is beyond the end, {end}");
-        return Err(Trouble::File(capture.name, what));
+/// Amiss if reading or the ledger refuses, as in the line that `list` has for the place. A frame's
+/// fields are printed only where the walk reads it: a frame that reads inside another may be in
+/// private bytes. Of a refused frame only the answer's number, name and rule are printed, and what
+/// `why_not` adds.
+pub fn explain(file: &OsStr, place: u64) -> Result<Status, Trouble> {
+    let source = Source::open(file)?;
+    let name = source.name.clone();
+    let mut spot = Spot::at(place);
+    source.walk(|step| {
+        spot.see(&step);
+        Ok(if spot.is_enough() {
+            ControlFlow::Break(())
+        } else {
+            ControlFlow::Continue(())
+        })
+    })?;
+    if place > spot.end {
+        let what = format!("the place is beyond the end, {}", spot.end);
+        return Err(Trouble::File(name, what));
     }
-    let walk = capture.walk()?;
-    let seen = walk.places().take_while(|at| *at <= place).last();
-    let answer = read(&capture.bytes, place);
-    let why = match &answer {
-        Ok(_) => "a frame reads here, 0 (done): every check passes".to_string(),
-        Err(refusal) => {
-            let (answer, reason) = (names::answer(*refusal), names::reason(*refusal));
-            format!("refused, {answer}: {reason}")
-        }
-    };
-    let more = match (&answer, seen) {
-        (Ok(frame), Some(at)) if at == place => fields(&capture, &walk, place, frame),
-        (Err(_), Some(at)) if at == place => onward(&walk, place),
-        (_, Some(at)) if place < end => passed_over(&capture, at),
-        _ => "this is the capture's end\n".to_string(),
-    };
-    print(format!("{}: place {place}: {why}\n{more}", capture.name))?;
-    Ok(Status::amiss(answer.is_err()))
+    let (text, status) = spot.told();
+    print(format!("{name}: place {place}: {text}"))?;
+    Ok(status)
 }
 
-/// The public fields of a frame that the walk reads.
-fn fields(capture: &Capture, walk: &Walk, place: usize, frame: &Frame) -> String {
-    let mut text = format!(
-        "MsgType {}, {}\n",
-        names::letters(frame),
-        names::purpose(frame)
-    );
-    let header = [
-        ("SendingTime", frame.sending_time),
-        ("MsgSeqNum", frame.seq.value()),
-        ("BodyLength", frame.body_len),
-    ];
-    for (name, value) in header.into_iter().chain(names::public_fields(frame)) {
-        let _ = writeln!(text, "{name} {value}");
+/// A place of a capture, and what the walk has shown of it.
+struct Spot {
+    place: u64,
+    /// The capture from there on, as far as one frame reaches.
+    bytes: Vec<u8>,
+    /// The last reading at the place or before it.
+    before: Option<Record>,
+    /// Whether a reading before the place was refused.
+    damaged: bool,
+    /// The first reading behind it.
+    behind: Option<u64>,
+    /// Where the bytes end that were seen.
+    end: u64,
+}
+
+impl Spot {
+    fn at(place: u64) -> Spot {
+        Spot {
+            place,
+            bytes: Vec::new(),
+            before: None,
+            damaged: false,
+            behind: None,
+            end: 0,
+        }
     }
-    let body = &capture.bytes[place + HEADER..][..frame.body_len as usize];
-    if &frame.type_name() == b"M201" {
-        text.push_str(&extension(body));
+
+    fn see(&mut self, step: &Step) {
+        for record in step.readings() {
+            if record.place > self.place {
+                self.behind = self.behind.or(Some(record.place));
+            } else {
+                self.damaged |= record.is_refused() && record.place < self.place;
+                self.before = Some(record);
+            }
+        }
+        self.end = step.place + step.bytes.len() as u64;
+        if self.end > self.place {
+            let more = step.from(self.place.max(step.place));
+            let room = LONGEST - self.bytes.len();
+            self.bytes.extend(&more[..more.len().min(room)]);
+        }
     }
+
+    /// The walk's own reading here; none if it does not read here.
+    fn reading(&self) -> Option<Record> {
+        self.before.filter(|record| record.place == self.place)
+    }
+
+    /// Whether the rest of the capture changes nothing of what is told.
+    fn is_enough(&self) -> bool {
+        match self.reading() {
+            Some(record) if !record.is_refused() => true,
+            Some(_) => self.bytes.len() == LONGEST && self.behind.is_some(),
+            None => self.bytes.len() == LONGEST,
+        }
+    }
+
+    fn told(&self) -> (String, Status) {
+        let answer = read(&self.bytes, 0);
+        let Some(record) = self.reading() else {
+            let (first, status) = match answer {
+                Ok(_) => (DONE.to_string(), Status::Well),
+                Err(refusal) => (refused(refusal), Status::Amiss),
+            };
+            return (format!("{first}\n{}", self.passed_over()), status);
+        };
+        let status = Status::amiss(record.answer != 0);
+        let mut text = match (&answer, record.refusal()) {
+            (Ok(_), None) => DONE.to_string(),
+            (Ok(_), Some(refusal)) => format!(
+                "a frame reads here, and the ledger of channel 100 refuses it, {}: {}",
+                names::answer(refusal),
+                names::reason(refusal)
+            ),
+            (Err(refusal), _) => refused(*refusal),
+        };
+        text.push('\n');
+        match &answer {
+            Ok(frame) => text.push_str(&self.fields(frame)),
+            Err(refusal) => {
+                text.push_str(&self.why_not(*refusal));
+                text.push_str(&self.onward());
+            }
+        }
+        let (floor, top) = (record.floor.value(), record.top.value());
+        let _ = writeln!(
+            text,
+            "the ledger of channel 100 then has floor {floor}, top {top}"
+        );
+        (text, status)
+    }
+
+    /// The public fields of a frame that the walk reads.
+    fn fields(&self, frame: &Frame) -> String {
+        let mut text = format!(
+            "MsgType {}, {}\n",
+            names::letters(frame),
+            names::purpose(frame)
+        );
+        let header = [
+            ("SendingTime", frame.sending_time),
+            ("MsgSeqNum", frame.seq.value()),
+            ("BodyLength", frame.body_len),
+        ];
+        for (name, value) in header.into_iter().chain(names::public_fields(frame)) {
+            let _ = writeln!(text, "{name} {value}");
+        }
+        let body = &self.bytes[HEADER..][..frame.body_len as usize];
+        text.push_str(&body_fields(frame, body));
+        let len = frame.frame_len() as u64;
+        let _ = writeln!(
+            text,
+            "the frame has {} and ends before place {}",
+            count(len, "byte"),
+            self.place + len
+        );
+        // after damage a frame was found by the search, or follows one that was without a gap
+        if self.damaged {
+            text.push_str(
+                "it stands after damage, and may lie inside private bytes of a damaged frame (docs/PRIVATE.md)\n",
+            );
+        }
+        text
+    }
+
+    /// More of why the walk's reading is refused: the lengths that suit, or both sums.
+    fn why_not(&self, refusal: Refusal) -> String {
+        match refusal {
+            Refusal::Length => suiting(&self.bytes),
+            Refusal::Sum if self.damaged => {
+                "the sums are not shown: after damage they may be those of private bytes\n"
+                    .to_string()
+            }
+            Refusal::Sum => sums(&self.bytes),
+            _ => String::new(),
+        }
+    }
+
+    /// Where the walk goes on after a refused reading.
+    fn onward(&self) -> String {
+        match self.behind {
+            Some(next) => format!("the walk goes on at {next}, where the next frame reads\n"),
+            None => "no frame reads behind it: the walk stops\n".to_string(),
+        }
+    }
+
+    /// What a place is in where the walk does not read.
+    fn passed_over(&self) -> String {
+        let Some(before) = self.before.filter(|_| self.place < self.end) else {
+            return "this is the capture's end\n".to_string();
+        };
+        let at = before.place;
+        let lies = if before.is_refused() {
+            format!("among the stray bytes from {at} on")
+        } else {
+            let letters = String::from_utf8_lossy(&before.msg_type).into_owned();
+            format!("inside the {letters} at {at}")
+        };
+        format!("the walk does not read here: the place lies {lies}, and no more is told of it\n")
+    }
+}
+
+const DONE: &str = "a frame reads here, 0 (done): every check passes";
+
+fn refused(refusal: Refusal) -> String {
+    let (answer, reason) = (names::answer(refusal), names::reason(refusal));
+    format!("refused, {answer}: {reason}")
+}
+
+/// The public fields of a body that the library does not name, and the names of the private ones.
+fn body_fields(frame: &Frame, body: &[u8]) -> String {
+    let mut text = match frame.msg_type as u32 {
+        types::M201 => extension(body),
+        types::M102 => snapshot(body),
+        types::M101 if !body.is_empty() => {
+            let body = count(frame.body_len, "byte");
+            format!("the body is not judged: {body}, not shown\n")
+        }
+        _ => String::new(),
+    };
     // the frame was read, so its length suits its type
     for span in private_spans(frame.msg_type as u32, body).unwrap_or_default() {
         let _ = writeln!(
@@ -65,20 +225,6 @@ fn fields(capture: &Capture, walk: &Walk, place: usize, frame: &Frame) -> String
             "{} is private: {}, not shown",
             names::private_field(frame, span.place),
             count(span.len, "byte")
-        );
-    }
-    let len = frame.frame_len();
-    let _ = writeln!(
-        text,
-        "the frame has {} and ends before place {}",
-        count(len as u64, "byte"),
-        place + len
-    );
-    // after damage a frame was found by the search, or follows one that was without a gap
-    let mut before = walk.places().take_while(|at| *at < place);
-    if before.any(|at| read(&capture.bytes, at).is_err()) {
-        text.push_str(
-            "it stands after damage, and may lie inside private bytes of a damaged frame (docs/PRIVATE.md)\n",
         );
     }
     text
@@ -90,34 +236,111 @@ fn extension(body: &[u8]) -> String {
     let fields = tail_fields(body).unwrap_or_default();
     for (name, field) in names::tail_names(fields.len()).iter().zip(&fields) {
         let bytes = &body[field.place as usize..][..field.len as usize];
-        let _ = match (field.hidden, field.text) {
-            (0, 0) => {
-                let number = bytes.iter().fold(0, |n, b| n << 8 | u64::from(*b));
-                writeln!(text, "{name} {number}")
-            }
-            (0, _) => {
-                let letters = bytes.escape_ascii().to_string();
-                writeln!(text, "{name} {}", letters.trim_end())
-            }
-            _ => Ok(()),
-        };
+        if field.hidden == 0 {
+            let value = value(bytes, field.text != 0);
+            let _ = writeln!(text, "{name} {value}");
+        }
     }
     text
 }
 
-/// Where the walk goes on after a refused reading.
-fn onward(walk: &Walk, place: usize) -> String {
-    match walk.places().find(|at| *at > place) {
-        Some(next) => format!("the walk goes on at {next}, where the next frame reads\n"),
-        None => "no frame reads behind it: the walk stops\n".to_string(),
+/// A field's value: its number, or its letters without the spaces behind them.
+fn value(bytes: &[u8], is_text: bool) -> String {
+    if is_text {
+        let letters = bytes.escape_ascii().to_string();
+        letters.trim_end().to_string()
+    } else {
+        let number = bytes.iter().fold(0, |n, b| n << 8 | u64::from(*b));
+        number.to_string()
     }
 }
 
-/// What a place is in where the walk does not read. The reading before it is at `at`.
-fn passed_over(capture: &Capture, at: usize) -> String {
-    let lies = match read(&capture.bytes, at) {
-        Ok(frame) => format!("inside the {} at {at}", names::letters(&frame)),
-        Err(_) => format!("among the stray bytes from {at} on"),
+/// The fields of an M102 and its entries.
+fn snapshot(body: &[u8]) -> String {
+    let mut text = String::new();
+    let mut rest = body;
+    for (name, width, is_text) in names::SNAPSHOT {
+        let (field, behind) = rest.split_at(width);
+        let _ = writeln!(text, "{name} {}", value(field, is_text));
+        rest = behind;
+    }
+    let Ok(entries) = entries(body) else {
+        return text;
     };
-    format!("the walk does not read here: the place lies {lies}, and no more is told of it\n")
+    for (i, entry) in entries.enumerate() {
+        let (kind, price, more) = match entry {
+            Entry::Index { kind, price } => (kind, price, String::new()),
+            Entry::Full {
+                kind,
+                price,
+                size,
+                position,
+            } => (kind, price, format!(", size {size}, position {position}")),
+        };
+        let kind = value(&kind, true);
+        let _ = writeln!(text, "entry {}: type {kind}, price {price}{more}", i + 1);
+    }
+    text
+}
+
+/// The longest body.
+const LONGEST_BODY: usize = LONGEST - HEADER - CHECK_SUM;
+
+/// The lengths that suit the type of a frame, as the library tells them: the lowest and the
+/// highest. None if it knows no such type.
+fn lengths(msg_type: u32) -> Option<(usize, usize)> {
+    let zeros = [0; LONGEST_BODY];
+    let suits = |len: &usize| private_spans(msg_type, &zeros[..*len]).is_ok();
+    let low = (0..=LONGEST_BODY).find(suits)?;
+    let high = (low..=LONGEST_BODY).rev().find(suits)?;
+    Some((low, high))
+}
+
+fn type_at(bytes: &[u8]) -> Option<u32> {
+    let letters = bytes.get(..4)?.try_into().ok()?;
+    Some(u32::from_be_bytes(letters))
+}
+
+/// The lengths that suit a frame whose own does not.
+fn suiting(bytes: &[u8]) -> String {
+    match type_at(bytes).and_then(lengths) {
+        Some((low, high)) if low == high => {
+            format!("a body of its type has {}\n", count(low as u64, "byte"))
+        }
+        Some((low, _)) => {
+            let low = count(low as u64, "byte");
+            format!("a body of its type has {low} or more\n")
+        }
+        None => String::new(),
+    }
+}
+
+/// Both sums of a frame whose own is wrong, if its type has no private field.
+fn sums(bytes: &[u8]) -> String {
+    let Some((msg_type, (_, high))) = type_at(bytes).and_then(|t| Some((t, lengths(t)?))) else {
+        return String::new();
+    };
+    let private = private_spans(msg_type, &[0; LONGEST_BODY][..high]);
+    if private.map_or(true, |spans| !spans.is_empty()) {
+        return "the sums are not shown: a frame of its type has private fields\n".to_string();
+    }
+    // the frame's length: with fewer bytes reading asks for more
+    let is_whole = |len: &usize| read(&bytes[..*len], 0) != Err(Refusal::More);
+    let Some(len) = (HEADER + CHECK_SUM..=bytes.len()).find(is_whole) else {
+        return String::new();
+    };
+    let mut frame = bytes[..len].to_vec();
+    let sum = len - CHECK_SUM;
+    let stored = frame[sum..].iter().fold(0, |n, b| n << 8 | u32::from(*b));
+    // the right one: reading no longer answers 5
+    let right = (0..=255u8).find(|right| {
+        frame[sum..].copy_from_slice(&u32::from(*right).to_be_bytes());
+        read(&frame, 0) != Err(Refusal::Sum)
+    });
+    let right = right.map_or(String::new(), |right| right.to_string());
+    let stored = match stored {
+        0..=255 => stored.to_string(),
+        _ => "above 255".to_string(),
+    };
+    format!("its bytes sum to {right}, and its CheckSum is {stored}\n")
 }

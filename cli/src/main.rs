@@ -1,33 +1,48 @@
-//! The command `rietknoest`: lists, scrubs, checks and explains captures. It has no rule of the
-//! documents: what a byte means is up to `rietknoest_host`. Files, words and exit statuses are
-//! handled here, tested but not proved.
+//! The command `rietknoest`: lists, scrubs, checks and explains captures, and finds their gaps. It
+//! has no rule of the documents: what a byte means is up to `rietknoest_host`. Files, words and exit
+//! statuses are handled here, tested but not proved.
 
-#![forbid(unsafe_code)]
+#![deny(unsafe_code)]
 
 mod arguments;
 mod capture;
 mod check;
 mod explain;
+mod gaps;
+mod help;
+mod hint;
+mod json;
 mod list;
 mod market;
 mod names;
+mod progress;
 mod scrub;
 mod step;
+#[allow(unsafe_code)]
+mod system;
+mod table;
 mod target;
 
 use std::env;
+use std::ffi::{OsStr, OsString};
+use std::fs::File;
 use std::io::{self, ErrorKind, Write};
+use std::ops::ControlFlow;
 use std::process::ExitCode;
+use std::sync::OnceLock;
 
 use arguments::Command;
+use capture::opened;
 use rietknoest_host::Refusal;
 
 /// How a command that did its work ended.
-#[derive(Clone, Copy)]
+#[derive(Clone, Copy, PartialEq, Eq, PartialOrd, Ord)]
 enum Status {
     Well = 0,
     /// Something was refused, is missing or is private.
     Amiss = 1,
+    /// One of several files could not be read, and that was said.
+    Failed = 2,
 }
 
 impl Status {
@@ -63,6 +78,16 @@ impl Trouble {
         let what = format!("refused, {}", names::answer(refusal));
         Trouble::File(name.to_string(), what)
     }
+
+    /// A standard file that was closed when the program was started.
+    fn closed(name: &str) -> Trouble {
+        Trouble::File(name.to_string(), "it is closed".to_string())
+    }
+
+    fn too_large(name: &str) -> Trouble {
+        let what = "too large for this machine's memory".to_string();
+        Trouble::File(name.to_string(), what)
+    }
 }
 
 fn main() -> ExitCode {
@@ -84,31 +109,64 @@ fn main() -> ExitCode {
 
 fn run(command: Command) -> Result<Status, Trouble> {
     match command {
-        Command::Help => print(arguments::HELP).map(|()| Status::Well),
+        Command::Help(text) => print(text).map(|()| Status::Well),
         Command::Version => {
             print(concat!("rietknoest ", env!("CARGO_PKG_VERSION"), "\n")).map(|()| Status::Well)
         }
-        Command::List { file, follow } if follow => list::follow(&file),
-        Command::List { file, .. } => list::list(&file),
+        Command::List { files, how } => list::list(&files, how),
+        Command::Gaps { files, json } => gaps::gaps(&files, json),
         Command::Scrub {
             from,
             to,
             whole,
             step,
-        } if step => step::scrub(&from, &to, whole),
-        Command::Scrub {
-            from, to, whole, ..
-        } => scrub::scrub(&from, &to, whole),
-        Command::Check { file, step } if step => step::check(&file),
-        Command::Check { file, .. } => check::check(&file),
-        Command::Explain { file, place, step } if step => step::explain(&file, place),
-        Command::Explain { file, place, .. } => explain::explain(&file, place),
-        Command::Market { file } => market::market(&file),
+            force,
+        } => {
+            let scrub = if step { step::scrub } else { scrub::scrub };
+            scrub(&from, &to, whole, force)
+        }
+        Command::Check { files, step } => {
+            let check = if step { step::check } else { check::check };
+            each(&files, |file| check(file).map(ControlFlow::Continue))
+        }
+        Command::Explain { file, place, step } => {
+            let explain = if step {
+                step::explain
+            } else {
+                explain::explain
+            };
+            explain(&file, place)
+        }
+        Command::Market { files } => each(&files, |file| {
+            market::market(file).map(ControlFlow::Continue)
+        }),
     }
+}
+
+/// Each file in turn, and the worst status. One of several that can't be read does not keep the
+/// others from being read.
+fn each(
+    files: &[OsString],
+    mut one: impl FnMut(&OsStr) -> Result<ControlFlow<Status, Status>, Trouble>,
+) -> Result<Status, Trouble> {
+    let mut worst = Status::Well;
+    for file in files {
+        match one(file) {
+            Ok(ControlFlow::Continue(status)) => worst = worst.max(status),
+            Ok(ControlFlow::Break(status)) => return Ok(worst.max(status)),
+            Err(Trouble::File(name, what)) if files.len() > 1 => {
+                say(&format!("{name}: {what}"));
+                worst = Status::Failed;
+            }
+            Err(trouble) => return Err(trouble),
+        }
+    }
+    Ok(worst)
 }
 
 /// A line on standard error. If that can't be written there is nowhere left to say so.
 fn say(what: &str) {
+    progress::clear();
     let _ = writeln!(io::stderr(), "rietknoest: {what}");
 }
 
@@ -120,13 +178,22 @@ fn print(text: impl AsRef<[u8]>) -> Result<(), Trouble> {
     }
 }
 
-/// Bytes on standard output.
+/// Bytes on standard output, at once. Not by the standard library's own, which takes an output that
+/// can't be written to for one that takes all.
 fn put(bytes: &[u8]) -> Result<(), Trouble> {
-    let mut out = io::stdout().lock();
-    match out.write_all(bytes).and_then(|()| out.flush()) {
+    static OUTPUT: OnceLock<io::Result<File>> = OnceLock::new();
+    let name = "standard output";
+    if system::was_closed(&io::stdout()) {
+        return Err(Trouble::closed(name));
+    }
+    let mut output: &File = match OUTPUT.get_or_init(|| opened(io::stdout())) {
+        Ok(output) => output,
+        Err(error) => return Err(Trouble::of(name, error)),
+    };
+    match output.write_all(bytes) {
         Ok(()) => Ok(()),
         Err(error) if error.kind() == ErrorKind::BrokenPipe => Err(Trouble::Unread),
-        Err(error) => Err(Trouble::of("standard output", &error)),
+        Err(error) => Err(Trouble::of(name, &error)),
     }
 }
 

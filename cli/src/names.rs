@@ -1,7 +1,7 @@
 //! Document 01's names and words, no rules: the library decides which bytes are private, and what
 //! reads.
 
-use rietknoest_host::{Frame, Refusal};
+use rietknoest_host::{types, Frame, Record, Refusal, CHECK_SUM, HEADER};
 
 /// MsgType as text.
 pub fn letters(frame: &Frame) -> String {
@@ -88,12 +88,52 @@ pub fn public_fields(frame: &Frame) -> Vec<(&'static str, u64)> {
     }
 }
 
+/// The fields of an M102 before its entries, in the table's order: name, width, and whether it is
+/// letters. None is private.
+pub const SNAPSHOT: [(&str, usize, bool); 13] = [
+    ("SecurityType", 1, false),
+    ("TradSesMode", 1, false),
+    ("TradeDate", 4, false),
+    ("LastUpdateTime", 4, false),
+    ("MDStreamID", 5, true),
+    ("SecurityID", 8, true),
+    ("Symbol", 8, true),
+    ("PreClosePx", 8, false),
+    ("TotalVolumeTraded", 8, false),
+    ("NumTrades", 8, false),
+    ("TotalValueTraded", 8, false),
+    ("TradingPhaseCode", 8, true),
+    ("NoMDEntries", 2, false),
+];
+
+/// The length of the frame that a record is of.
+pub fn frame_len(record: &Record) -> usize {
+    record.body_len as usize + HEADER + CHECK_SUM
+}
+
+/// Whether a frame has a body that is carried as bytes and not judged.
+pub fn is_unjudged(record: &Record) -> bool {
+    record.msg_type == types::M101.to_be_bytes() && record.body_len > 0
+}
+
+pub fn is_unjudged_frame(frame: &Frame) -> bool {
+    frame.msg_type == types::M101.into() && frame.body_len > 0
+}
+
+/// What is to be known of so many such bodies.
+pub fn unjudged(bodies: u64) -> String {
+    match bodies {
+        1 => "1 M101 body is not judged and could hold anything".to_string(),
+        n => format!("{n} M101 bodies are not judged and could hold anything"),
+    }
+}
+
 /// A refusal's number and name in the table.
 pub fn answer(refusal: Refusal) -> String {
     format!("{} ({})", refusal.number(), refusal.name())
 }
 
-/// Why reading refuses, in the table's words.
+/// Why reading or the ledger refuses, in the table's words.
 pub fn reason(refusal: Refusal) -> &'static str {
     match refusal {
         Refusal::More => {
@@ -105,6 +145,9 @@ pub fn reason(refusal: Refusal) -> &'static str {
         Refusal::Sum => "its CheckSum differs from the sum of its bytes",
         Refusal::Field => "a field breaks a rule of its type",
         Refusal::Time => "its SendingTime is no real time",
+        Refusal::Repeat => "the tick was received before",
+        Refusal::Far => "the tick is more than 256 above the floor: the top is raised to it",
+        Refusal::Channel => "it is of another channel, which a listing does not count",
         _ => "no frame reads here",
     }
 }
@@ -112,7 +155,30 @@ pub fn reason(refusal: Refusal) -> &'static str {
 #[cfg(test)]
 mod tests {
     use super::*;
-    use rietknoest_host::private_spans;
+    use rietknoest_host::{entries, private_spans};
+
+    /// The library finds the first entry where the fields end, and the fields are in that order.
+    #[test]
+    fn the_fields_of_a_snapshot() {
+        let widths = SNAPSHOT.iter().map(|(_, width, _)| width);
+        assert_eq!(widths.sum::<usize>(), 73);
+        let mut body = vec![0; 73];
+        let mut place = 0;
+        for (name, width, is_text) in SNAPSHOT {
+            let field = &mut body[place..place + width];
+            match name {
+                "SecurityType" | "TradSesMode" => field[0] = 1,
+                "MDStreamID" => field.copy_from_slice(b"MD002"),
+                "NoMDEntries" => field[1] = 1,
+                _ if is_text => field.fill(b'T'),
+                _ => {}
+            }
+            place += width;
+        }
+        body.extend([0; 19]);
+        assert_eq!(entries(&body).map(|entries| entries.place()), Ok(73));
+        assert_eq!(entries(&body).map(|entries| entries.count()), Ok(1));
+    }
 
     /// The bodies' lengths are the table's; the last M201 is an order of MD211.
     #[test]

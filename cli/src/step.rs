@@ -1,142 +1,217 @@
-//! `scrub --step`, `check --step` and `explain --step`: captures of the STEP line. Each place is tried in turn: where a frame reads the
-//! next place is the one behind it, else the next byte. Nothing is written but what the library's scrubbing gave.
+//! `scrub --step`, `check --step` and `explain --step`: captures of the STEP line. Each place is
+//! tried in turn: where a frame reads the next place is the one behind it, else the next byte.
+//! Nothing is written but what the library's scrubbing gave.
 
 use std::ffi::OsStr;
 use std::fmt::Write;
+use std::ops::ControlFlow;
 
-use rietknoest_host::step::{self, Frame};
+use rietknoest_host::step::{self, Frame, LONGEST};
 use rietknoest_host::Refusal;
 
-use crate::capture::{Capture, Source};
-use crate::target::Target;
-use crate::{count, print, say, Status, Trouble};
+use crate::capture::Source;
+use crate::target::{Held, Target};
+use crate::{count, hint, print, say, system, Status, Trouble};
 
-/// The frames of a capture with their places, in order.
-fn frames(bytes: &[u8]) -> impl Iterator<Item = (usize, Frame<'_>)> {
-    let mut place = 0;
-    std::iter::from_fn(move || {
-        while place < bytes.len() {
-            let at = place;
-            match Frame::read(bytes, at) {
-                Ok(frame) => {
-                    place += frame.len;
-                    return Some((at, frame));
-                }
-                Err(_) => place += 1,
-            }
-        }
-        None
-    })
+/// What is at a place.
+enum Part<'a> {
+    /// A frame, and its bytes.
+    Frame(Frame<'a>, &'a [u8]),
+    /// A byte at which reading refuses.
+    Stray(Refusal),
+    End,
 }
 
-/// A frame of a capture, scrubbed in memory of its own.
-fn scrubbed(capture: &Capture, place: usize, frame: &Frame) -> Result<Vec<u8>, Trouble> {
-    let mut bytes = capture.bytes[place..][..frame.len].to_vec();
+/// At least so many bytes are there before one is read: those of a frame, and a piece.
+const ROOM: usize = LONGEST + 65_536;
+
+/// Passes on what is at each place in turn, the end last, until enough was told. The bytes are
+/// those from the place on that are there; of a frame all are.
+fn walk(
+    mut source: Source,
+    mut tell: impl FnMut(u64, Part) -> Result<ControlFlow<()>, Trouble>,
+) -> Result<(), Trouble> {
+    let mut bytes = vec![0; ROOM];
+    // what is there stands from `at` to `end`, and `at` is at `place` of the capture
+    let (mut at, mut end, mut place) = (0, 0, 0);
+    let mut ended = false;
+    loop {
+        let rest = &bytes[at..end];
+        let answer = Frame::read(rest, 0);
+        if !ended && matches!(answer, Err(Refusal::More)) {
+            bytes.copy_within(at..end, 0);
+            (at, end) = (0, end - at);
+            let read = source.piece(&mut bytes[end..])?;
+            if place == 0 && end == 0 {
+                hint::hint_for_step(&source.name, &bytes[..read]);
+            }
+            (end, ended) = (end + read, read == 0);
+            continue;
+        }
+        let (len, told) = match answer {
+            Ok(frame) => (
+                frame.len,
+                tell(place, Part::Frame(frame, &rest[..frame.len]))?,
+            ),
+            Err(_) if rest.is_empty() => return tell(place, Part::End).map(|_| ()),
+            Err(refusal) => (1, tell(place, Part::Stray(refusal))?),
+        };
+        if told.is_break() {
+            return Ok(());
+        }
+        at += len;
+        place += len as u64;
+    }
+}
+
+/// A frame, scrubbed in memory of its own.
+fn scrubbed(name: &str, frame: &[u8]) -> Result<Vec<u8>, Trouble> {
+    let mut bytes = frame.to_vec();
     match step::scrub(&mut bytes) {
         Ok(_) => Ok(bytes),
-        Err(refusal) => Err(Trouble::refused(&capture.name, refusal)),
+        Err(refusal) => Err(Trouble::refused(name, refusal)),
     }
 }
 
 /// Amiss where a byte of the capture was left out. With `whole` nothing is written then.
-pub fn scrub(from: &OsStr, to: &OsStr, whole: bool) -> Result<Status, Trouble> {
+pub fn scrub(from: &OsStr, to: &OsStr, whole: bool, force: bool) -> Result<Status, Trouble> {
     let source = Source::open(from)?;
-    let target = Target::of(to, source.identity)?;
-    let capture = source.whole()?;
-    let kept: usize = frames(&capture.bytes).map(|(_, frame)| frame.len).sum();
-    let stray = (capture.bytes.len() - kept) as u64;
+    let target = Target::of(to, source.identity, force)?;
+    let name = source.name.clone();
+    system::remove_before_the_end();
+    let mut output = if whole {
+        Held::All(target, Vec::new())
+    } else {
+        Held::Nothing(target.open()?)
+    };
+    let (mut frames, mut stray) = (0, 0);
+    walk(source, |_, part| {
+        match part {
+            Part::Frame(_, bytes) => {
+                frames += 1;
+                output.write(&name, &scrubbed(&name, bytes)?)?;
+            }
+            Part::Stray(_) => stray += 1,
+            Part::End => {}
+        }
+        Ok(ControlFlow::Continue(()))
+    })?;
     if whole && stray > 0 {
         say(&format!(
-            "{}: {} in no frame that reads: nothing is written (--whole)",
-            capture.name,
+            "{name}: {} in no frame that reads: nothing is written (--whole)",
             count(stray, "byte")
         ));
         return Ok(Status::Amiss);
     }
-    let mut output = target.open()?;
-    let mut n = 0;
-    for (place, frame) in frames(&capture.bytes) {
-        output.write(&scrubbed(&capture, place, &frame)?)?;
-        n += 1;
-    }
     output.finish()?;
     say(&format!(
-        "{}: kept {}, left out {}",
-        capture.name,
-        count(n, "STEP frame"),
+        "{name}: kept {}, left out {}",
+        count(frames, "STEP frame"),
         count(stray, "byte")
     ));
     Ok(Status::amiss(stray > 0))
 }
 
-/// Amiss where scrubbing the capture would change a byte of it, or leave one out. Told is the first place where it would.
+/// Amiss where scrubbing the capture would change a byte of it, or leave one out. Told is the first
+/// place where it would.
 pub fn check(file: &OsStr) -> Result<Status, Trouble> {
-    let capture = Capture::read(file)?;
-    let what = first_amiss(&capture)?;
-    match &what {
-        None => print(format!("{}: clean\n", capture.name))?,
-        Some(what) => print(format!("{}: not clean: {what}\n", capture.name))?,
+    let source = Source::open(file)?;
+    let name = source.name.clone();
+    let mut amiss = None;
+    walk(source, |place, part| {
+        amiss = match part {
+            Part::Frame(frame, bytes) => {
+                let clean = scrubbed(&name, bytes)?;
+                changed(place, &frame, bytes, &clean)
+            }
+            Part::Stray(refusal) => Some(format!(
+                "place {place}: stray bytes, where reading answers {}",
+                why(refusal)
+            )),
+            Part::End => None,
+        };
+        Ok(if amiss.is_some() {
+            ControlFlow::Break(())
+        } else {
+            ControlFlow::Continue(())
+        })
+    })?;
+    match &amiss {
+        None => print(format!("{name}: clean\n"))?,
+        Some(what) => print(format!("{name}: not clean: {what}\n"))?,
     }
-    Ok(Status::amiss(what.is_some()))
+    Ok(Status::amiss(amiss.is_some()))
 }
 
-fn first_amiss(capture: &Capture) -> Result<Option<String>, Trouble> {
-    let mut end = 0;
-    for (place, frame) in frames(&capture.bytes) {
-        if place > end {
-            break;
-        }
-        let clean = scrubbed(capture, place, &frame)?;
-        let bytes = &capture.bytes[place..][..frame.len];
-        if let Some(i) = (0..frame.len).find(|i| bytes[*i] != clean[*i]) {
-            let field = frame.fields().find(|f| {
-                let from = frame.place + f.place;
-                (from..from + f.value.len()).contains(&i)
-            });
-            let name = field.map_or("CheckSum", |f| names(f.tag).0);
-            let at = place + i;
-            return Ok(Some(format!("place {at}: {name} of the frame at {place}")));
-        }
-        end = place + frame.len;
-    }
-    if end == capture.bytes.len() {
-        return Ok(None);
-    }
-    let answer = Frame::read(&capture.bytes, end).err().map(why);
-    Ok(Some(format!(
-        "place {end}: stray bytes, where reading answers {}",
-        answer.unwrap_or_default()
-    )))
+/// The first place of a frame that scrubbing changes, and its field.
+fn changed(place: u64, frame: &Frame, bytes: &[u8], clean: &[u8]) -> Option<String> {
+    let i = (0..frame.len).find(|i| bytes[*i] != clean[*i])?;
+    let field = frame.fields().find(|f| {
+        let from = frame.place + f.place;
+        (from..from + f.value.len()).contains(&i)
+    });
+    let name = field.map_or("CheckSum", |f| names(f.tag).0);
+    let at = place + i as u64;
+    Some(format!("place {at}: {name} of the frame at {place}"))
 }
 
-/// Amiss where reading refuses. A frame's fields are told where the command reads it, and nowhere else; of a field its name, its form
-/// and its length, and the value only of numbers, flags and times.
-pub fn explain(file: &OsStr, place: usize) -> Result<Status, Trouble> {
-    let capture = Capture::read(file)?;
-    let end = capture.bytes.len();
-    if place > end {
+/// Amiss where reading refuses. A frame's fields are told where the command reads it, and nowhere
+/// else; of a field its name, its form and its length, and the value only of numbers, flags and
+/// times.
+pub fn explain(file: &OsStr, place: u64) -> Result<Status, Trouble> {
+    let source = Source::open(file)?;
+    let name = source.name.clone();
+    let mut beyond = None;
+    let mut told = None;
+    walk(source, |at, part| {
+        told = match part {
+            Part::Frame(frame, _) if at == place => Some((Status::Well, fields(place, &frame))),
+            Part::Frame(frame, bytes) if place < at + frame.len as u64 => {
+                Some(inside(at, &bytes[(place - at) as usize..]))
+            }
+            Part::Stray(refusal) if at == place => Some((Status::Amiss, refused(refusal))),
+            Part::End if at == place => Some((Status::Amiss, refused(Refusal::More))),
+            Part::End => {
+                beyond = Some(at);
+                None
+            }
+            _ => None,
+        };
+        Ok(if told.is_some() {
+            ControlFlow::Break(())
+        } else {
+            ControlFlow::Continue(())
+        })
+    })?;
+    if let Some(end) = beyond {
         let what = format!("the place is beyond the end, {end}");
-        return Err(Trouble::File(capture.name, what));
+        return Err(Trouble::File(name, what));
     }
-    let answer = Frame::read(&capture.bytes, place);
-    let why = match &answer {
-        Ok(_) => "a STEP frame reads here, 0 (done): every check passes".to_string(),
-        Err(refusal) => format!("refused, {}", why(*refusal)),
-    };
-    let within = frames(&capture.bytes).find(|(at, frame)| (*at..at + frame.len).contains(&place));
-    let more = match (&answer, within) {
-        (Ok(frame), Some((at, _))) if at == place => fields(place, frame),
-        (_, Some((at, _))) => {
-            format!("the place lies inside the frame at {at}, and no more is told of it\n")
-        }
-        _ => String::new(),
-    };
-    print(format!("{}: place {place}: {why}\n{more}", capture.name))?;
-    Ok(Status::amiss(answer.is_err()))
+    let (status, text) = told.unwrap_or((Status::Amiss, String::new()));
+    print(format!("{name}: place {place}: {text}"))?;
+    Ok(status)
 }
 
-fn fields(place: usize, frame: &Frame) -> String {
-    let mut text = format!("MsgType {}, {}\n", frame.kind as char, purpose(frame.kind));
+fn refused(refusal: Refusal) -> String {
+    format!("refused, {}\n", why(refusal))
+}
+
+/// A place inside a frame. No frame reads there: within one every byte before a field's end is that
+/// field's, and a begin string has a SOH in it.
+fn inside(at: u64, bytes: &[u8]) -> (Status, String) {
+    let (status, first) = match Frame::read(bytes, 0) {
+        Ok(_) => (Status::Well, READS.to_string()),
+        Err(refusal) => (Status::Amiss, refused(refusal)),
+    };
+    let rest = format!("the place lies inside the frame at {at}, and no more is told of it\n");
+    (status, first + &rest)
+}
+
+const READS: &str = "a STEP frame reads here, 0 (done): every check passes\n";
+
+fn fields(place: u64, frame: &Frame) -> String {
+    let purpose = purpose(frame.kind);
+    let mut text = format!("{READS}MsgType {}, {purpose}\n", frame.kind as char);
     for field in frame.fields() {
         let (name, form) = names(field.tag);
         let long = count(field.value.len() as u64, "byte");
@@ -152,18 +227,9 @@ fn fields(place: usize, frame: &Frame) -> String {
         text,
         "the frame has {} and ends before place {}",
         count(frame.len as u64, "byte"),
-        place + frame.len
+        place + frame.len as u64
     );
     text
-}
-
-/// A line on standard error where a capture that is taken for the gateway's looks like the STEP line's.
-pub fn hint(name: &str, bytes: &[u8]) {
-    if bytes.starts_with(b"8=FIXT") {
-        say(&format!(
-            "{name}: this looks like a capture of the STEP line: try --step"
-        ));
-    }
 }
 
 /// Number and words, where STEP's differ from the gateway's.

@@ -1,21 +1,25 @@
-//! Where `scrub` writes. A file appears whole or not at all: it is written beside its place under
-//! another name, and renamed. Only scrubbed bytes are ever written.
+//! Where `scrub` writes. A file appears whole or not at all: it is written without a name, or
+//! beside its place under another name, and renamed. Only scrubbed bytes are ever written.
 
 use std::ffi::OsStr;
 use std::fs::{self, File, Metadata, OpenOptions};
-use std::io::{self, ErrorKind, Write};
+use std::io::{self, ErrorKind, IsTerminal, Write};
 use std::os::unix::fs::{MetadataExt, OpenOptionsExt, PermissionsExt};
 use std::path::{Path, PathBuf};
 use std::process;
 
 use crate::capture::{is_standard, opened, shown, Identity};
-use crate::{put, Trouble};
+use crate::{put, system, Trouble};
 
 const IS_INPUT: &str = "it is the input, which is never overwritten";
+const IS_TERMINAL: &str =
+    "it is a terminal, and scrubbed frames are no text: --force writes them all the same";
 
 /// Where to write; nothing is created yet.
 pub enum Target {
     Standard,
+    /// /dev/null, under any name.
+    Null,
     File(Place),
 }
 
@@ -30,17 +34,11 @@ pub struct Place {
 impl Target {
     /// The file of that name, which need not exist; refused if it is the input, under any name, or
     /// no plain file. A replaced file may have been open to fewer people than a new one would be:
-    /// the new one's mode has no bit that the old one's lacks.
-    pub fn of(name: &OsStr, input: Identity) -> Result<Target, Trouble> {
+    /// the new one's mode has no bit that the old one's lacks. A terminal gets nothing unless
+    /// forced.
+    pub fn of(name: &OsStr, input: Identity, force: bool) -> Result<Target, Trouble> {
         if is_standard(name) {
-            let same = opened(io::stdout())
-                .and_then(|file| file.metadata())
-                .is_ok_and(|data| data.is_file() && Identity::of(&data) == input);
-            return if same {
-                Err(refused("standard output", IS_INPUT))
-            } else {
-                Ok(Target::Standard)
-            };
+            return Target::standard(input, force);
         }
         let shown = shown(name);
         if fs::symlink_metadata(name).is_err_and(|error| error.kind() == ErrorKind::NotFound) {
@@ -58,6 +56,8 @@ impl Target {
             Err(refused(&shown, IS_INPUT))
         } else if data.is_dir() {
             Err(refused(&shown, "it is a folder"))
+        } else if is_null(&data) {
+            Ok(Target::Null)
         } else if !data.is_file() {
             Err(refused(&shown, "it is no plain file; - is standard output"))
         } else {
@@ -70,9 +70,27 @@ impl Target {
         }
     }
 
+    fn standard(input: Identity, force: bool) -> Result<Target, Trouble> {
+        let name = "standard output";
+        if system::was_closed(&io::stdout()) {
+            return Err(Trouble::closed(name));
+        }
+        let same = opened(io::stdout())
+            .and_then(|file| file.metadata())
+            .is_ok_and(|data| data.is_file() && Identity::of(&data) == input);
+        if same {
+            Err(refused(name, IS_INPUT))
+        } else if !force && io::stdout().is_terminal() {
+            Err(refused(name, IS_TERMINAL))
+        } else {
+            Ok(Target::Standard)
+        }
+    }
+
     pub fn open(self) -> Result<Output, Trouble> {
         match self {
             Target::Standard => Ok(Output::Standard),
+            Target::Null => Ok(Output::Null),
             Target::File(place) => match Beside::for_access(&place.path, &place.access) {
                 Ok(beside) => Ok(Output::File(place, beside)),
                 Err(error) => Err(Trouble::of(&place.name, &error)),
@@ -81,9 +99,18 @@ impl Target {
     }
 }
 
+/// Whether a file is /dev/null, under any name: the same device.
+fn is_null(data: &Metadata) -> bool {
+    let null = fs::metadata("/dev/null");
+    null.is_ok_and(|null| {
+        !null.is_file() && null.rdev() == data.rdev() && null.file_type() == data.file_type()
+    })
+}
+
 /// What is being written. Standard output gets it at once; a file appears when all is finished.
 pub enum Output {
     Standard,
+    Null,
     File(Place, Beside),
 }
 
@@ -91,6 +118,7 @@ impl Output {
     pub fn write(&mut self, bytes: &[u8]) -> Result<(), Trouble> {
         match self {
             Output::Standard => put(bytes),
+            Output::Null => Ok(()),
             Output::File(place, beside) => beside
                 .file
                 .write_all(bytes)
@@ -113,6 +141,38 @@ impl Output {
             beside.narrow(&Access::of(&data)).map_err(trouble)?;
         }
         beside.become_file(&place.path).map_err(trouble)
+    }
+}
+
+/// What is being written, or what will be written if nothing speaks against it at the end.
+pub enum Held {
+    Nothing(Output),
+    All(Target, Vec<u8>),
+}
+
+impl Held {
+    /// `name` is that of the input, for the error.
+    pub fn write(&mut self, name: &str, more: &[u8]) -> Result<(), Trouble> {
+        match self {
+            Held::Nothing(output) => output.write(more),
+            Held::All(_, bytes) => {
+                let room = bytes.try_reserve(more.len());
+                room.map_err(|_| Trouble::too_large(name))?;
+                bytes.extend(more);
+                Ok(())
+            }
+        }
+    }
+
+    pub fn finish(self) -> Result<(), Trouble> {
+        match self {
+            Held::Nothing(output) => output.finish(),
+            Held::All(target, bytes) => {
+                let mut output = target.open()?;
+                output.write(&bytes)?;
+                output.finish()
+            }
+        }
     }
 }
 
@@ -154,12 +214,12 @@ impl Access {
     }
 }
 
-/// A new file beside another. It is removed when this value is dropped, unless it has replaced the
-/// other.
+/// A new file in the folder of another. It is gone when this value is dropped, or when a signal
+/// ends the program, unless it has replaced the other.
 pub struct Beside {
-    path: PathBuf,
     file: File,
-    done: bool,
+    /// Where it is; none if it has no name, as where the file system knows such files.
+    path: Option<PathBuf>,
 }
 
 impl Beside {
@@ -178,26 +238,42 @@ impl Beside {
 
     /// A file that did not exist before.
     fn made(path: &Path, mode: u32) -> io::Result<Beside> {
-        let mut tries = 0;
-        loop {
-            let path = path.with_file_name(format!(".rietknoest-{}-{tries}", process::id()));
-            let file = OpenOptions::new()
-                .write(true)
-                .create_new(true)
-                .mode(mode)
-                .open(&path);
-            match file {
-                Ok(file) => {
-                    return Ok(Beside {
-                        path,
-                        file,
-                        done: false,
-                    })
-                }
-                Err(error) if error.kind() == ErrorKind::AlreadyExists && tries < 100 => tries += 1,
-                Err(error) => return Err(error),
-            }
+        match Beside::unnamed(path, mode) {
+            Ok(file) => Ok(Beside { file, path: None }),
+            Err(_) => Beside::named(path, mode),
         }
+    }
+
+    /// A file without a name, which goes with the program. It can be named later if Linux shows
+    /// the files that are open.
+    fn unnamed(path: &Path, mode: u32) -> io::Result<File> {
+        let folder = match path.parent() {
+            Some(folder) if folder != Path::new("") => folder,
+            _ => Path::new("."),
+        };
+        let file = OpenOptions::new()
+            .write(true)
+            .mode(mode)
+            .custom_flags(system::UNNAMED)
+            .open(folder)?;
+        fs::metadata(system::path_of(&file))?;
+        Ok(file)
+    }
+
+    /// A file with a name, which a signal removes.
+    fn named(path: &Path, mode: u32) -> io::Result<Beside> {
+        system::undisturbed(|| {
+            free_name(path, |path| {
+                let file = OpenOptions::new()
+                    .write(true)
+                    .create_new(true)
+                    .mode(mode)
+                    .open(&path)?;
+                system::remove_at_end(Some(&path));
+                let path = Some(path);
+                Ok(Beside { file, path })
+            })
+        })
     }
 
     /// Removes the mode bits that it would not have been created with.
@@ -213,18 +289,44 @@ impl Beside {
         self.file.set_permissions(permissions)
     }
 
-    /// Moves to the path, replacing what was there.
+    /// Moves to the path, replacing what was there. A signal waits until it is done.
     fn become_file(mut self, path: &Path) -> io::Result<()> {
-        fs::rename(&self.path, path)?;
-        self.done = true;
-        Ok(())
+        system::undisturbed(|| {
+            let beside = match self.path.take() {
+                Some(beside) => beside,
+                None => free_name(path, |beside| {
+                    system::name(&self.file, &beside)?;
+                    system::remove_at_end(Some(&beside));
+                    Ok(beside)
+                })?,
+            };
+            let renamed = fs::rename(&beside, path);
+            if renamed.is_err() {
+                let _ = fs::remove_file(&beside);
+            }
+            system::remove_at_end(None);
+            renamed
+        })
+    }
+}
+
+/// Something made under a name beside a path that nothing has yet.
+fn free_name<T>(path: &Path, make: impl Fn(PathBuf) -> io::Result<T>) -> io::Result<T> {
+    let mut tries = 0;
+    loop {
+        let name = format!(".rietknoest-{}-{tries}", process::id());
+        match make(path.with_file_name(name)) {
+            Err(error) if error.kind() == ErrorKind::AlreadyExists && tries < 100 => tries += 1,
+            made => return made,
+        }
     }
 }
 
 impl Drop for Beside {
     fn drop(&mut self) {
-        if !self.done {
-            let _ = fs::remove_file(&self.path);
+        if let Some(path) = self.path.take() {
+            let _ = fs::remove_file(path);
+            system::remove_at_end(None);
         }
     }
 }
@@ -246,7 +348,7 @@ mod tests {
                 fs::write(&to, old).unwrap();
             }
             let identity = Identity::of(&fs::metadata(&from).unwrap());
-            let target = Target::of(to.as_os_str(), identity).ok().unwrap();
+            let target = Target::of(to.as_os_str(), identity, false).ok().unwrap();
             fs::rename(&from, &to).unwrap();
             let mut output = target.open().ok().unwrap();
             assert!(output.write(b"scrubbed").is_ok());

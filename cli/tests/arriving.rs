@@ -13,7 +13,7 @@ use std::thread;
 use std::time::{Duration, Instant};
 
 use common::*;
-use rietknoest_host::{clean, read};
+use rietknoest_host::{clean, first_unclean, read};
 
 /// A command that prints nothing for so long never will.
 const PATIENCE: Duration = Duration::from_secs(60);
@@ -100,7 +100,10 @@ impl Running {
 fn run_in_pieces(folder: &Folder, words: &[&str], pieces: &[&[u8]]) -> Ran {
     let mut running = Running::new(folder, words);
     for piece in pieces {
-        running.write(piece);
+        // `check` ends as soon as it knows
+        if running.input.write_all(piece).is_err() {
+            break;
+        }
         thread::yield_now();
     }
     running.end()
@@ -126,12 +129,19 @@ fn same(a: &Ran, b: &Ran) {
     assert!(a.out == b.out, "the outputs differ");
 }
 
-/// In these pieces `list --follow` prints what `list` prints, and `scrub` writes what the library
-/// makes of the whole.
+/// In these pieces `list --follow` prints what `list` prints, `check` tells the place that the
+/// library tells of the whole, and `scrub` writes what it makes of that.
 fn arrives(folder: &Folder, capture: &[u8], pieces: &[&[u8]]) {
     let listed = run_on(folder, &["list"], capture);
     let followed = run_in_pieces(folder, &["list", "--follow"], pieces);
     same(&followed, &listed);
+
+    let checked = run_in_pieces(folder, &["check", "-"], pieces);
+    let place = match first_unclean(capture) {
+        Some(place) => format!("standard input: not clean: place {place}: "),
+        None => "standard input: clean".to_string(),
+    };
+    assert!(checked.out().starts_with(&place), "{}", checked.out());
 
     let scrubbed = run_in_pieces(folder, &["scrub", "-", "-o", "-"], pieces);
     let mut cleaned = vec![0; capture.len()];
@@ -151,9 +161,24 @@ fn arrives(folder: &Folder, capture: &[u8], pieces: &[&[u8]]) {
         Some(said.trim_end()),
         "the counts"
     );
-    let lines = if done.after_damage > 0 { 3 } else { 1 };
+    let mut lines = if done.after_damage > 0 { 3 } else { 1 };
+    if let said @ 1.. = unjudged(&cleaned) {
+        lines += 1;
+        let mark = format!(": {said} M101 bod");
+        assert!(scrubbed.error().contains(&mark), "the bodies not judged");
+    }
     assert_eq!(scrubbed.error().lines().count(), lines);
     assert_eq!(scrubbed.status, Some(i32::from(stray > 0)));
+}
+
+/// How many frames of a cleaned capture are M101 with a body.
+fn unjudged(cleaned: &[u8]) -> usize {
+    let (mut place, mut n) = (0, 0);
+    while let Ok(frame) = read(cleaned, place) {
+        n += usize::from(&frame.type_name() == b"M101" && frame.body_len > 0);
+        place += frame.frame_len();
+    }
+    n
 }
 
 #[test]
@@ -199,6 +224,34 @@ fn long_captures() {
     }
 }
 
+/// Clean frames, then stray bytes of any length, of which the first may be those of the next frame:
+/// the place that `check` tells is the library's.
+#[test]
+fn stray_bytes_that_look_like_the_next_frame() {
+    let folder = Folder::new();
+    let dice = &mut Dice(6);
+    for round in 0..40 {
+        let letters = vec![b' '; dice.below(8_000)];
+        let next = tick(1, &letters);
+        let alike = dice.below(next.len());
+        let long = [0, 1, 8_192, 8_193, 70_000, 140_000][dice.below(6)];
+        let capture = [
+            heartbeats(dice.below(3_000) as u64),
+            next[..alike].to_vec(),
+            vec![b'Z'; long],
+            next,
+            tick(2, b"A"),
+        ];
+        let capture = capture.concat();
+        let ran = run_on(&folder, &["check", "-"], &capture);
+        let place = match first_unclean(&capture) {
+            Some(place) => format!("standard input: not clean: place {place}: "),
+            None => "standard input: clean".to_string(),
+        };
+        assert!(ran.out().starts_with(&place), "{round}: {}", ran.out());
+    }
+}
+
 /// Each line of the sample comes out before the next frame is there. A refused reading is decided
 /// by its own bytes too, except for 1.
 #[test]
@@ -228,7 +281,8 @@ fn a_line_comes_as_soon_as_it_is_decided() {
     running.write(&sample[at..]);
     let ran = running.end();
     assert!(listing.ends_with(ran.out()));
-    assert_eq!((ran.status, ran.error()), (Some(1), ""));
+    assert_eq!(ran.status, Some(1));
+    assert!(ran.error().contains("1 frame of channel 101"));
 }
 
 /// A frame, then a stray byte: its refusal is printed once the 24 bytes of a header are there, not
@@ -291,15 +345,16 @@ fn whole_waits_for_the_end() {
     }
 }
 
-/// The file appears when all is written, not before.
+/// The file appears when all is written, not before: until then it has no name, and only scrubbed
+/// bytes.
 #[test]
 fn a_file_appears_at_the_end() {
     let folder = Folder::new().with("old", b"old");
     for out in ["new", "old"] {
         let mut running = Running::new(&folder, &["scrub", "-", "-o", out]);
         running.write(&logon("A", "B"));
-        let beside = wait_for_bytes_beside(&folder);
-        assert_eq!(fs::read(folder.path(&beside)).unwrap(), logon("", ""));
+        let written = wait_for_bytes(&folder, running.child.id());
+        assert_eq!(written, logon("", ""));
         assert!(!folder.path("new").exists() || out == "old");
         assert_eq!(fs::read(folder.path("old")).unwrap(), b"old");
         let ran = running.end();
@@ -317,26 +372,26 @@ fn a_file_that_was_closed_to_others_meanwhile() {
         let data = fs::metadata(folder.path(name)).unwrap();
         data.permissions().mode() & 0o777
     };
-    let running = Running::new(&folder, &["scrub", "-", "-o", "out"]);
-    wait_for("no file beside", || {
-        folder.names().iter().any(|name| name.starts_with('.'))
-    });
+    let mut running = Running::new(&folder, &["scrub", "-", "-o", "out"]);
+    running.write(&heartbeats(1));
+    wait_for_bytes(&folder, running.child.id());
     fs::write(folder.path("out"), b"").unwrap();
     fs::set_permissions(folder.path("out"), PermissionsExt::from_mode(0o400)).unwrap();
     assert_eq!(running.end().status, Some(0));
     assert_eq!((folder.names(), mode("out")), (vec!["out".into()], 0o400));
 }
 
-/// The name of the file that is being written, as soon as something is in it.
-fn wait_for_bytes_beside(folder: &Folder) -> String {
-    let mut found = String::new();
+/// What a run has written to a file of a folder, as soon as that is something: to one without a
+/// name, or beside its place.
+fn wait_for_bytes(folder: &Folder, run: u32) -> Vec<u8> {
+    let mut found = Vec::new();
     wait_for("nothing is written", || {
-        let mut names = folder.names().into_iter();
-        let written = |name: &String| {
-            let data = fs::metadata(folder.path(name));
-            name.starts_with('.') && data.is_ok_and(|data| data.len() > 0)
-        };
-        names.find(written).map(|name| found = name).is_some()
+        let files = open_files(run, folder).into_iter();
+        let mut bytes = files.filter_map(|file| fs::read(file).ok());
+        bytes.any(|bytes| {
+            found = bytes;
+            !found.is_empty()
+        })
     });
     found
 }
@@ -367,7 +422,7 @@ fn nothing_is_left_of_a_line_that_broke() {
             .spawn()
             .unwrap();
         ours.write_all(&logon("A", "B")).unwrap();
-        wait_for_bytes_beside(&folder);
+        wait_for_bytes(&folder, child.id());
         drop(ours);
         let ended = child.wait_with_output().unwrap();
         let said = "rietknoest: standard input: Connection reset by peer\n";
@@ -443,7 +498,7 @@ fn a_capture_larger_than_the_memory() {
             .args(["-c", &line, env!("CARGO_BIN_EXE_rietknoest")]);
         finish(shell, b"")
     };
-    let ran = limited("list --follow large");
+    let ran = limited("list large");
     assert_eq!((ran.status, ran.error()), (Some(1), ""));
     let last = "frames 700000 refused 1 floor 0 top 0 missing 0\n";
     assert!(ran.out().ends_with(last));

@@ -7,35 +7,98 @@ use std::process::Stdio;
 
 use common::*;
 
+/// The subcommands.
+const COMMANDS: [&str; 6] = ["list", "gaps", "scrub", "check", "explain", "market"];
+
+/// What is told of the sample's first M102, an index: its entries have no size and no position.
+const SNAPSHOT: &str = "\
+sample: place 285: a frame reads here, 0 (done): every check passes
+MsgType M102, a snapshot
+SendingTime 20260121092503000
+MsgSeqNum 4
+BodyLength 103
+SecurityType 1
+TradSesMode 1
+TradeDate 20260121
+LastUpdateTime 92503000
+MDStreamID MD001
+SecurityID 000001
+Symbol INDEX
+PreClosePx 10025000
+TotalVolumeTraded 182300
+NumTrades 41
+TotalValueTraded 1827557500
+TradingPhaseCode T111
+NoMDEntries 3
+entry 1: type 3, price 313500120
+entry 2: type 7, price 313980000
+entry 3: type 8, price 312900000
+the frame has 131 bytes and ends before place 416
+the ledger of channel 100 then has floor 0, top 0
+";
+
 const EMPTY: &str = "frames 0 refused 0 floor 0 top 0 missing 0\n";
 
 #[test]
 fn help_and_version() {
     let folder = Folder::new();
-    for words in [&["--help"][..], &["list", "--help"], &["scrub", "--help"]] {
+    for words in [&["--help"][..], &["-h"], &["help"]] {
         let ran = run(&folder, words);
-        assert!(ran
-            .out()
-            .starts_with("usage: rietknoest list [--follow] [FILE]\n"));
+        assert!(ran.out().starts_with("usage: rietknoest list ["));
         assert_eq!((ran.status, ran.error()), (Some(0), ""));
     }
-    run(&folder, &["--version"]).quiet(0, concat!("rietknoest ", env!("CARGO_PKG_VERSION"), "\n"));
+    for name in COMMANDS {
+        let help = run(&folder, &[name, "--help"]);
+        let start = format!("usage: rietknoest {name} ");
+        assert!(help.out().starts_with(&start), "{name}");
+        assert_eq!((help.status, help.error()), (Some(0), ""), "{name}");
+        run(&folder, &["help", name]).quiet(0, help.out());
+        run(&folder, &[name, "-h"]).quiet(0, help.out());
+        // also behind other words
+        run(&folder, &[name, "no", "-h"]).quiet(0, help.out());
+    }
+    for word in ["--version", "-V"] {
+        run(&folder, &[word]).quiet(0, concat!("rietknoest ", env!("CARGO_PKG_VERSION"), "\n"));
+    }
+}
+
+/// No line of a help text is wider than a terminal.
+#[test]
+fn the_help_fits_a_terminal() {
+    let folder = Folder::new();
+    for name in COMMANDS.iter().chain(&["help"]) {
+        let help = run(
+            &folder,
+            &[name, "--help"][..if *name == "help" { 1 } else { 2 }],
+        );
+        assert!(help.out().lines().all(|line| line.len() <= 80), "{name}");
+    }
 }
 
 #[test]
 fn wrong_usage_is_2() {
     let folder = Folder::new().with("a", b"").with("b", b"");
-    let wrong: [(&[&str], &str); 20] = [
+    let wrong: [(&[&str], &str); 24] = [
         (&[], "no command is given"),
         (&["burn"], "burn: no such command"),
         (&["-x"], "-x: no such command"),
-        (&["list", "a", "b"], "list: it takes one file"),
+        (&["help", "burn"], "burn: no such command"),
         (&["list", "-x"], "list: -x: no such option"),
+        (&["list", "-oa"], "list: -oa: no such option"),
         (&["list", "--whole"], "list: --whole: no such option"),
-        (&["list", "--follow", "a", "b"], "list: it takes one file"),
+        (
+            &["list", "--follow", "a", "b"],
+            "list: --follow takes one file",
+        ),
         (&["check", "--follow"], "check: --follow: no such option"),
-        (&["check"], "check: it takes one file"),
-        (&["check", "a", "b"], "check: it takes one file"),
+        (&["check"], "check: it takes a file, or several"),
+        (&["market"], "market: it takes a file, or several"),
+        (&["market", "--step", "a"], "market: --step: no such option"),
+        (&["scrub", "a", "b", "-o", "c"], "scrub: it takes one file"),
+        (
+            &["scrub", "a", "-oc", "-o", "d"],
+            "scrub: -o is given twice",
+        ),
         (&["scrub", "a"], "scrub: -o OUT is missing"),
         (&["scrub", "-o", "b"], "scrub: it takes one file"),
         (&["scrub", "a", "-o"], "scrub: -o names no file"),
@@ -45,10 +108,19 @@ fn wrong_usage_is_2() {
         ),
         (&["explain"], "explain: it takes a file and a place"),
         (&["explain", "a"], "explain: it takes a file and a place"),
-        (&["explain", "a", "one"], "explain: one: no place"),
-        (&["explain", "a", "+0"], "explain: +0: no place"),
-        (&["explain", "a", ""], "explain: : no place"),
-        (&["explain", "a", "--", "-1"], "explain: -1: no place"),
+        (
+            &["explain", "a", "one"],
+            "explain: one: not a number of bytes",
+        ),
+        (
+            &["explain", "a", "+0"],
+            "explain: +0: not a number of bytes",
+        ),
+        (&["explain", "a", ""], "explain: : not a number of bytes"),
+        (
+            &["explain", "a", "--", "-1"],
+            "explain: -1: not a number of bytes",
+        ),
     ];
     for (words, what) in wrong {
         let ran = run(&folder, words);
@@ -63,15 +135,24 @@ fn wrong_usage_is_2() {
 fn the_sample_is_listed() {
     let listing = fs::read_to_string(root().join("crates/listing/stdout")).unwrap();
     let folder = Folder::new().with("sample", &sample());
-    run(&folder, &["list", "sample"]).quiet(1, &listing);
+    let listed = |ran: Ran, name: &str| {
+        assert_eq!((ran.status, ran.out()), (Some(1), listing.as_str()));
+        assert_eq!(ran.error(), not_counted(name, "1 frame of channel 101"));
+    };
+    listed(run(&folder, &["list", "sample"]), "sample");
     // the same over a pipe, by name and without one
-    run_on(&folder, &["list", "-"], &sample()).quiet(1, &listing);
-    run_on(&folder, &["list"], &sample()).quiet(1, &listing);
-    run_on(&folder, &["list", "--", "-"], &sample()).quiet(1, &listing);
+    for words in [&["list", "-"][..], &["list"], &["list", "--", "-"]] {
+        listed(run_on(&folder, words, &sample()), "standard input");
+    }
 }
 
-/// 1 if the last line counts a refusal or a missing number; a repeat and a tick of another channel
-/// are neither.
+/// The line on frames of other channels.
+fn not_counted(name: &str, frames: &str) -> String {
+    format!("rietknoest: {name}: a listing counts channel 100 alone, and not {frames}: 'rietknoest gaps' counts them\n")
+}
+
+/// 1 if the last line counts a refusal or a missing number, or if there are frames of other
+/// channels; a repeat is none of these.
 #[test]
 fn the_status_of_a_listing() {
     let folder = Folder::new();
@@ -81,8 +162,30 @@ fn the_status_of_a_listing() {
     assert_eq!(status(&both), Some(1));
     assert_eq!(status(&[tick(1, b""), tick(2, b"")].concat()), Some(0));
     assert_eq!(status(&[tick(1, b""), tick(1, b"")].concat()), Some(0));
-    assert_eq!(status(&tick_on(101, 2, b"")), Some(0));
+    assert_eq!(status(&tick_on(101, 1, b"")), Some(1));
     assert_eq!(status(&tick(2, b"")), Some(1));
+}
+
+/// Five ticks of channel 1 are missing: the listing's own line says that none is, so another line
+/// says what was not counted.
+#[test]
+fn frames_of_other_channels_are_told() {
+    let folder = Folder::new();
+    let on = |channel: u16| [1, 2, 5, 9].map(|n| tick_on(channel, n, b"")).concat();
+    let ran = run_on(&folder, &["list"], &on(1));
+    let last = "frames 4 refused 0 floor 0 top 0 missing 0";
+    assert_eq!(ran.out().lines().last(), Some(last));
+    let said = not_counted("standard input", "4 frames of channel 1");
+    assert_eq!((ran.status, ran.error()), (Some(1), said.as_str()));
+
+    let many: Vec<_> = (1..=12).rev().flat_map(on).collect();
+    let ran = run_on(&folder, &["list", "--summary"], &many);
+    let named: Vec<_> = (1..=8)
+        .map(|n| format!("4 frames of channel {n}"))
+        .collect();
+    let named = format!("{}, 16 frames of 4 more channels", named.join(", "));
+    let said = not_counted("standard input", &named);
+    assert_eq!((ran.status, ran.error()), (Some(1), said.as_str()));
 }
 
 #[test]
@@ -130,7 +233,13 @@ fn the_sample_is_scrubbed_and_then_clean() {
     assert_eq!((ran.status, ran.out()), (Some(1), ""));
     let cleaned = fs::read(folder.path("out")).unwrap();
     assert_eq!(cleaned.len(), sample().len() - 812);
-    run(&folder, &["check", "out"]).quiet(0, "out: clean\n");
+    // it has an M101 with a body: never a bare `clean`
+    let unjudged = "1 M101 body is not judged and could hold anything";
+    let said = format!("out: clean, except that {unjudged}\n");
+    run(&folder, &["check", "out"]).quiet(0, &said);
+    assert!(ran
+        .error()
+        .ends_with(&format!("sample: {unjudged}: passed on as sent\n")));
 
     // to standard output, and from standard input, the same
     let ran = run(&folder, &["scrub", "sample", "-o", "-"]);
@@ -142,7 +251,8 @@ fn the_sample_is_scrubbed_and_then_clean() {
     // again: nothing changes, nothing is left out, and no frame is after damage
     let ran = run(&folder, &["scrub", "--whole", "out", "-o", "again"]);
     let said = "rietknoest: out: kept 30 frames, left out 0 bytes, 0 frames after damage\n";
-    assert_eq!((ran.status, ran.error()), (Some(0), said));
+    let said = format!("{said}rietknoest: out: {unjudged}: passed on as sent\n");
+    assert_eq!((ran.status, ran.error()), (Some(0), said.as_str()));
     assert_eq!(fs::read(folder.path("again")).unwrap(), cleaned);
     assert_eq!(folder.names(), ["again", "out", "sample"]);
     assert_eq!(fs::read(folder.path("sample")).unwrap(), sample());
@@ -181,6 +291,32 @@ fn checked(capture: &[u8], says: &str) {
     let folder = Folder::new();
     let line = format!("standard input: {says}\n");
     run_on(&folder, &["check", "-"], capture).quiet(i32::from(says != "clean"), &line);
+}
+
+/// An M101 has any body. One without a body could hold nothing.
+#[test]
+fn bodies_that_are_not_judged_are_told() {
+    let folder = Folder::new();
+    let status = |n: usize, body: &[u8]| frame(b"M101", 1, body).repeat(n);
+    checked(&status(3, b""), "clean");
+    let ran = run_on(&folder, &["check", "-"], &status(2, b"PASSWORD"));
+    let told = "2 M101 bodies are not judged and could hold anything";
+    ran.quiet(0, &format!("standard input: clean, except that {told}\n"));
+    for words in [
+        &["scrub", "-", "-o", "-"][..],
+        &["scrub", "-", "-o-", "--whole"],
+    ] {
+        let ran = run_on(&folder, words, &status(2, b"PASSWORD"));
+        let said = format!("rietknoest: standard input: {told}: passed on as sent\n");
+        assert!(ran.error().ends_with(&said));
+        assert_eq!((ran.status, ran.out), (Some(0), status(2, b"PASSWORD")));
+        let ran = run_on(&folder, words, &status(3, b""));
+        assert_eq!(ran.error().lines().count(), 1);
+    }
+    let help = run(&folder, &["--help"]);
+    assert!(help
+        .out()
+        .contains("M101 bodies are not judged, could hold anything"));
 }
 
 #[test]
@@ -299,6 +435,7 @@ MemberID is private: 12 bytes, not shown
 TraderCode is private: 12 bytes, not shown
 InvestorName is private: 32 bytes, not shown
 the frame has 212 bytes and ends before place 1035
+the ledger of channel 100 then has floor 1, top 1
 ",
     );
     run(&folder, &["explain", "sample", "2129"]).quiet(
@@ -314,11 +451,114 @@ ApplEndSeqNum 5
 ResendStatus 1
 RejectText is private: 32 bytes, not shown
 the frame has 80 bytes and ends before place 2209
+the ledger of channel 100 then has floor 3, top 9
 ",
     );
-    let ran = run(&folder, &["explain", "sample", "2633"]);
+    let ran = run(&folder, &["explain", "sample", "3395"]);
     assert!(ran.out().contains("\nit stands after damage, "));
     assert_eq!(ran.status, Some(0));
+}
+
+/// The fields of an M102 and its entries: all are public.
+#[test]
+fn explain_tells_a_snapshot() {
+    let folder = Folder::new().with("sample", &sample());
+    run(&folder, &["explain", "sample", "285"]).quiet(0, SNAPSHOT);
+    let ran = run(&folder, &["explain", "sample", "416"]);
+    let entries = ran.out().lines().filter(|l| l.starts_with("entry "));
+    assert!(entries.clone().count() > 0);
+    assert!(entries
+        .clone()
+        .all(|l| l.contains(", size ") && l.contains(", position ")));
+}
+
+/// The answer is that of the line that `list` has for the place, with its floor and top; also where
+/// the ledger refuses a frame that reads.
+#[test]
+fn explain_agrees_with_list() {
+    let folder = Folder::new().with("sample", &sample());
+    let listing = fs::read_to_string(root().join("crates/listing/stdout")).unwrap();
+    for line in listing.lines().filter(|line| !line.starts_with("frames")) {
+        let columns: Vec<_> = line.split(' ').collect();
+        let (answer, floor, top) = (columns[2], columns[6], columns[7]);
+        let ran = run(&folder, &["explain", "sample", columns[0]]);
+        let first = ran.out().lines().next().unwrap();
+        assert!(first.contains(&format!(", {answer} (")), "{line}");
+        let last = format!("the ledger of channel 100 then has floor {floor}, top {top}");
+        assert_eq!(ran.out().lines().last(), Some(last.as_str()));
+        assert_eq!(ran.status, Some(i32::from(answer != "0")), "{line}");
+    }
+    let refused = [
+        ("2633", "11 (repeat): the tick was received before"),
+        (
+            "2845",
+            "12 (far): the tick is more than 256 above the floor: the top is raised to it",
+        ),
+        (
+            "2971",
+            "18 (channel): it is of another channel, which a listing does not count",
+        ),
+    ];
+    for (place, why) in refused {
+        let ran = run(&folder, &["explain", "sample", place]);
+        let said = "a frame reads here, and the ledger of channel 100 refuses it";
+        let first = format!("sample: place {place}: {said}, {why}\nMsgType M201, a tick\n");
+        assert!(ran.out().starts_with(&first), "{place}");
+    }
+}
+
+/// For 4 the lengths that suit, for 5 both sums; of a type with private fields no sum.
+#[test]
+fn explain_tells_lengths_and_sums() {
+    let folder = Folder::new();
+    let second = |capture: &[u8]| {
+        let ran = run_on(&folder, &["explain", "-", "0"], capture);
+        assert_eq!(ran.status, Some(1));
+        ran.out().lines().nth(1).unwrap().to_string()
+    };
+    let lengths: [(&[u8; 4], &str); 7] = [
+        (b"S001", "74 bytes"),
+        (b"S002", "260 bytes"),
+        (b"S003", "0 bytes"),
+        (b"P001", "12 bytes"),
+        (b"P002", "52 bytes"),
+        (b"M102", "73 bytes or more"),
+        (b"M201", "45 bytes or more"),
+    ];
+    for (kind, suits) in lengths {
+        let mut beat = heartbeats(1);
+        beat[..4].copy_from_slice(kind);
+        beat[23] = 11;
+        assert_eq!(second(&beat), format!("a body of its type has {suits}"));
+    }
+
+    let mut beat = heartbeats(1);
+    let sum = beat[27];
+    beat[27] ^= 1;
+    let said = |stored: &str| format!("its bytes sum to {sum}, and its CheckSum is {stored}");
+    assert_eq!(second(&beat), said(&(sum ^ 1).to_string()));
+    // four bytes that are no sum are not shown: they may be another frame's
+    beat[24] = b'A';
+    assert_eq!(second(&beat), said("above 255"));
+    let private = "the sums are not shown: a frame of its type has private fields";
+    let resend = [&[0, 100, 1][..], &[0; 7], &[4], &[0; 7], &[5, 1], &[32; 32]].concat();
+    let logout = [&[0; 4][..], &[32; 256]].concat();
+    let frames = [
+        logon("A", "B"),
+        tick(1, b""),
+        tick(1, b"C"),
+        frame(b"P002", 1, &resend),
+        frame(b"S002", 1, &logout),
+    ];
+    for mut frame in frames {
+        *frame.last_mut().unwrap() ^= 1;
+        assert_eq!(second(&frame), private);
+        let behind = [vec![0xFF], heartbeats(1), beat.clone()].concat();
+        let ran = run_on(&folder, &["explain", "-", "29"], &behind);
+        assert!(ran
+            .out()
+            .contains("\nthe sums are not shown: after damage "));
+    }
 }
 
 /// The sample has a refusal for each number that reading gives.
@@ -350,11 +590,9 @@ fn explain_tells_a_refusal_by_number_and_name() {
         let start = format!("sample: place {place}: refused, {answer}: ");
         assert!(ran.out().starts_with(&start), "{place}");
         assert!(!ran.out().contains("no frame reads here"), "{place}");
-        assert!(
-            ran.out().lines().nth(1).unwrap().starts_with(more),
-            "{place}"
-        );
-        assert_eq!(ran.out().lines().count(), 2);
+        let mut lines = ran.out().lines().skip(1);
+        assert!(lines.any(|line| line.starts_with(more)), "{place}");
+        assert!(ran.out().lines().count() <= 4);
         assert_eq!((ran.status, ran.error()), (Some(1), ""));
     }
     let beyond = "the place is beyond the end, 4451";
@@ -434,7 +672,15 @@ fn damaged_captures() {
         let checked = run_on(&folder, &["check", "-"], &capture);
         let clean = cleaned.out == capture;
         assert_eq!(checked.status, Some(i32::from(!clean)), "{round}");
-        run_on(&folder, &["check", "-"], &cleaned.out).quiet(0, "standard input: clean\n");
+        // the place is the library's, which has the capture whole
+        let place = match rietknoest_host::first_unclean(&capture) {
+            Some(place) => format!("standard input: not clean: place {place}: "),
+            None => "standard input: clean".to_string(),
+        };
+        assert!(checked.out().starts_with(&place), "{round}");
+        let again = run_on(&folder, &["check", "-"], &cleaned.out);
+        assert!(again.out().starts_with("standard input: clean"), "{round}");
+        assert_eq!((again.status, again.error()), (Some(0), ""), "{round}");
         let again = run_on(&folder, &["list"], &cleaned.out);
         assert!(!again.out().contains(" ---- "), "{round}");
         let place = dice.below(capture.len() + 1).to_string();

@@ -252,16 +252,27 @@ fn nothing_is_left_of_a_file_that_was_half_written() {
     assert_eq!(fs::read(folder.path("in")).unwrap(), heartbeats(3000));
 }
 
-/// The command may have 64 MB here: enough to read the capture, and too little for the records that
-/// it might have.
+/// The command may have 16 MB here: too little for a capture of 20 that is to be whole first. The
+/// others do not hold it whole.
 #[test]
 fn a_capture_too_large_for_the_memory() {
     let folder = Folder::new().with("large", &vec![0; 20_000_000]);
-    for words in [&["list", "large"][..], &["explain", "large", "0"]] {
-        run_behind(&folder, "ulimit -v 65536", words)
-            .failed("large", "too large for this machine's memory");
+    let limited = |words: &[&str]| run_behind(&folder, "ulimit -v 16384", words);
+    let too_large = "too large for this machine's memory";
+    limited(&["scrub", "--whole", "large", "-o", "out"]).failed("large", too_large);
+    limited(&["market", "large"]).failed("large", too_large);
+    for words in [
+        &["list", "large"][..],
+        &["check", "large"],
+        &["check", "--step", "large"],
+        &["explain", "large", "19999999"],
+        &["explain", "--step", "large", "19999999"],
+        &["scrub", "large", "-o", "out"],
+        &["scrub", "--step", "large", "-o", "out"],
+    ] {
+        let ran = limited(words);
+        assert_eq!(ran.status, Some(1), "{words:?}: {}", ran.error());
     }
-    run_behind(&folder, "ulimit -v 16384", &["list", "large"]).failed("large", "out of memory");
 }
 
 /// No file is written with the name under which another run is writing.

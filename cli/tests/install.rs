@@ -59,7 +59,13 @@ fn the_installer() {
 fn what_is_installed_is_found_and_used(to: &Path) {
     let ran = install(to, None);
     assert_eq!((ran.status, ran.out()), (Some(0), ""), "{}", ran.error());
-    for file in ["include/rietknoest.h", "share/man/man1/rietknoest.1"] {
+    for file in [
+        "include/rietknoest.h",
+        "share/man/man1/rietknoest.1",
+        "share/bash-completion/completions/rietknoest",
+        "share/zsh/site-functions/_rietknoest",
+        "share/fish/vendor_completions.d/rietknoest.fish",
+    ] {
         assert!(to.join(file).is_file(), "{file}");
     }
     let mut command = Command::new(to.join("bin/rietknoest"));

@@ -167,7 +167,11 @@ fn no_private_byte_is_written() {
     let mut words: Vec<Vec<String>> = [
         "--help",
         "list sample",
-        "list --follow sample",
+        "list --json sample",
+        "list --summary sample",
+        "list sample sample",
+        "gaps sample",
+        "gaps --json sample",
         "check sample",
         "scrub sample -o out",
         "scrub sample -o -",
@@ -252,4 +256,89 @@ fn every_frame_behind_damage_is_warned_of() {
     let first = 28 + HEADER + 45;
     let places = [0, first, first + 28, capture.len() - 28];
     assert_eq!(places.map(warned), [false, true, true, true]);
+}
+
+/// A session whose private bytes are made of one letter, each as long as ever, with damage in it
+/// and another channel. The letter is in private fields alone, and in a damaged frame's.
+fn session(letter: &str) -> Vec<u8> {
+    let letters = |n: usize| letter.repeat(n);
+    let resend = |status: u8| {
+        let numbers = [&[0, 100, 1][..], &4u64.to_be_bytes(), &5u64.to_be_bytes()].concat();
+        let body = [numbers, vec![status], text(32, &letters(32))].concat();
+        frame(b"P002", 9, &body)
+    };
+    let announce = |last: u64| {
+        let body = [&[13, 0, 100][..], &last.to_be_bytes(), b"N"].concat();
+        frame(b"P001", 3, &body)
+    };
+    let spoilt = |mut frame: Vec<u8>| {
+        let last = frame.len() - 1;
+        frame[last] ^= 1;
+        frame
+    };
+    let hidden = letters(40);
+    [
+        logon(&letters(32), &letters(32)),
+        announce(3),
+        order(1, &letters(12), &letters(12), &letters(32)),
+        order(2, &letters(12), &letters(12), &letters(32)),
+        tick(5, hidden.as_bytes()),
+        resend(0),
+        resend(4),
+        tick_on(101, 7, hidden.as_bytes()),
+        spoilt(announce(9)),
+        frame(b"M101", 8, b"STATUS"),
+        spoilt(logon(&letters(32), &letters(32))),
+        tick(300, hidden.as_bytes()),
+        spoilt(tick(6, hidden.as_bytes())),
+        frame(
+            b"S002",
+            10,
+            &[vec![0; 4], text(256, &letters(256))].concat(),
+        ),
+    ]
+    .concat()
+}
+
+/// Two captures that differ in private bytes alone: every command prints the same of both, on both
+/// streams, with the same status, and writes the same file.
+#[test]
+fn private_bytes_leave_no_trace() {
+    let folders = ["Q", "z"].map(|letter| Folder::new().with("in", &session(letter)));
+    let mut lines: Vec<String> = [
+        "list in",
+        "list --json in",
+        "list --summary in",
+        "list --json --summary in in",
+        "gaps in",
+        "gaps --json in in",
+        "check in",
+        "check in in",
+        "scrub in -o out",
+        "scrub in -o -",
+        "scrub in -oout --whole",
+        "check out",
+        "list out",
+        "market in",
+        "check --step in",
+        "scrub --step in -o none",
+        "explain --step in 30",
+    ]
+    .map(String::from)
+    .to_vec();
+    let listed = run(&folders[0], &["list", "in"]);
+    let rows = listed.out().lines().map(|row| row.split(' ').next());
+    for place in rows.filter_map(|place| place?.parse::<usize>().ok()) {
+        lines.extend([0, 1, 24, 60].map(|more| format!("explain in {}", place + more)));
+    }
+    for line in lines {
+        let words: Vec<_> = line.split(' ').collect();
+        let [one, other] = [&folders[0], &folders[1]].map(|folder| run(folder, &words));
+        assert_eq!(one.status, other.status, "{line}");
+        assert!(one.out == other.out, "{line}: standard output differs");
+        assert!(one.error == other.error, "{line}: standard error differs");
+        assert_eq!(folders[0].names(), folders[1].names(), "{line}");
+    }
+    let [one, other] = folders.map(|folder| fs::read(folder.path("out")).unwrap());
+    assert!(one == other && !one.is_empty());
 }

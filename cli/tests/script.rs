@@ -4,17 +4,18 @@
 mod common;
 
 use std::fs::{self, File};
+use std::io::{BufRead, BufReader};
 use std::os::unix::fs::{symlink, PermissionsExt};
 use std::path::{Path, PathBuf};
-use std::process::Command;
+use std::process::{Command, Stdio};
 use std::time::SystemTime;
 
 use common::*;
 
 /// What the script needs of a machine, except rt and cargo.
-const TOOLS: [&str; 16] = [
+const TOOLS: [&str; 17] = [
     "awk", "bash", "cat", "chmod", "dirname", "env", "find", "flock", "grep", "mkdir", "readlink",
-    "sed", "sort", "tac", "tee", "wc",
+    "sed", "sleep", "sort", "tac", "tee", "wc",
 ];
 
 /// Notes its call, prints what rt prints for a crate, and makes the library.
@@ -25,6 +26,7 @@ echo 'fn terms::new: proved' >&2
 echo 'rt: terms proved (1 s)' >&2
 echo 'rt: rules proved (unchanged since it was last proved)' >&2
 [ ! -f broken ] || exit 1
+while [ -f wait ]; do sleep 0.02; done
 echo >build/librietknoest.a
 ";
 
@@ -104,6 +106,8 @@ fn calls(folder: &Folder) -> String {
 fn the_script() {
     it_builds_once_and_again_when_something_changed();
     a_library_that_is_there_takes_no_minutes();
+    what_is_left_after_an_interruption_is_told();
+    each_crate_is_told_as_it_is_proved();
     what_can_not_be_built_is_told();
 }
 
@@ -174,6 +178,41 @@ fn a_library_that_is_there_takes_no_minutes() {
     assert!(ran.error().starts_with(first) && !ran.error().contains("minutes"));
     assert_eq!((ran.status, ran.out()), (Some(1), "elsewhere: 0 \n"));
     assert_eq!(calls(&folder), "archive\ncargo\n");
+}
+
+/// rt leaves a mark for each crate that is proved.
+fn what_is_left_after_an_interruption_is_told() {
+    let folder = project();
+    for proved in ["terms", "rules", "other"] {
+        put(folder.path("project/target/stamp").join(proved), "", 0o644);
+    }
+    let ran = run_script(&folder, &folder.path("project/rietknoest"), &[]);
+    let first = "rietknoest: it was broken off before: 2 of 6 crates are proved, and 4 are left, ";
+    assert!(ran.error().starts_with(first), "{}", ran.error());
+    // each line comes as it is printed, and those of crates that are proved already do not
+    assert!(ran.error().contains("\nrietknoest: terms proved (1 s)\n"));
+    assert!(!ran.error().contains("unchanged"));
+    assert_eq!((ran.status, ran.out()), (Some(1), "elsewhere: 0 \n"));
+}
+
+/// A crate's line is there before the next crate is proved.
+fn each_crate_is_told_as_it_is_proved() {
+    let folder = project();
+    fs::write(folder.path("project/wait"), "").unwrap();
+    let mut script = Command::new(folder.path("project/rietknoest"));
+    script
+        .current_dir(folder.path("elsewhere"))
+        .env("PATH", folder.path("bin"))
+        .stdout(Stdio::null())
+        .stderr(Stdio::piped());
+    let mut child = script.spawn().unwrap();
+    let mut lines = BufReader::new(child.stderr.take().unwrap()).lines();
+    let told = lines.find(|line| line.as_ref().unwrap().contains("terms proved"));
+    assert!(told.is_some());
+    assert!(child.try_wait().unwrap().is_none());
+    fs::remove_file(folder.path("project/wait")).unwrap();
+    assert_eq!(lines.last().unwrap().unwrap(), "rietknoest: built");
+    assert_eq!(child.wait().unwrap().code(), Some(1));
 }
 
 fn what_can_not_be_built_is_told() {

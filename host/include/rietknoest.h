@@ -1,12 +1,13 @@
 /* Frames of the exchange's market data gateway: read, written, searched for, scrubbed; the gap
  * ledger of a tick channel; captures walked, listed and cleaned, whole or while they arrive; the
- * client's side of a session. The library is proved. For C11 and C++. Link librietknoest (.a or
- * .so): tools/archive builds it, tools/install installs it for pkg-config.
+ * client's side of a session. The library is proved. For C11, and C++98 or later. Link
+ * librietknoest (.a or .so): tools/archive builds it, tools/install installs it for pkg-config.
  *
  * Every function returns a code of the table below, 0 for success; results go to out-parameters.
  * Those for market files return a code of their own table and a place, by value.
  * The library keeps no pointer, allocates nothing and has no state of its own. Functions may be
- * called from several threads at once.
+ * called from several threads at once. A call takes at most 1 KB of stack; where it takes more, its
+ * comment says so.
  *
  * A refusal (any code but 0) writes nothing. One exception: rk_ledger_tick's 12 raises the ledger's
  * top. Success writes all of each out-parameter, and of a buffer the bytes that are counted, none
@@ -23,11 +24,16 @@
 #include <stddef.h>
 #include <stdint.h>
 
-#ifdef __cplusplus
-#define RK_SIZE(row, numbers) static_assert(sizeof(row) == 8 * (numbers), #row)
-extern "C" {
-#else
+#if !defined(__cplusplus)
 #define RK_SIZE(row, numbers) _Static_assert(sizeof(row) == 8 * (numbers), #row)
+#elif __cplusplus >= 201103L
+#define RK_SIZE(row, numbers) static_assert(sizeof(row) == 8 * (numbers), #row)
+#else
+#define RK_SIZE(row, numbers) typedef char rk_size_of_##row[sizeof(row) == 8 * (numbers) ? 1 : -1]
+#endif
+
+#ifdef __cplusplus
+extern "C" {
 #endif
 
 RK_SIZE(size_t, 1);
@@ -74,6 +80,17 @@ enum rk_answer {
 /* FRAMES */
 
 /* MsgType is its four bytes as one number, high byte first: "S003" is 0x53303033. */
+enum rk_msg_type {
+    RK_S001 = 0x53303031, /* a logon */
+    RK_S002 = 0x53303032, /* a logout */
+    RK_S003 = 0x53303033, /* a heartbeat */
+    RK_P001 = 0x50303031, /* an announcement of a channel's last number */
+    RK_P002 = 0x50303032, /* a request to send ticks again, or a reply to one */
+    RK_M101 = 0x4D313031, /* a market status: its body is not judged */
+    RK_M102 = 0x4D313032, /* a snapshot */
+    RK_M201 = 0x4D323031  /* a tick */
+};
+
 typedef struct {
     uint64_t msg_type;
     uint64_t sending_time;
@@ -235,12 +252,17 @@ uint32_t rk_ledger_request(rk_ledger *state, uint16_t channel, rk_request *told)
 uint32_t rk_ledger_reply(rk_ledger *state, uint16_t channel, uint64_t first, uint8_t status,
                          rk_settled *told);
 
+/* A new session of the line begins: what was requested on the old line will not be answered on the
+ * new one, and is no longer pending. Nothing else changes.
+ * Returns 0, 13. 0 writes *state. */
+uint32_t rk_ledger_renew(rk_ledger *state);
+
 /* What a ledger holds.
  * Returns 0, 13. 0 writes *told. */
 uint32_t rk_ledger_told(const rk_ledger *state, rk_told *told);
 
 /* How many numbers from a to b, both included, are missing: neither received nor given up, and not
- * above the top. 0 if b is below a. It takes the same time for any span.
+ * above the top. 0 if b is below a. No span takes longer than one of 256 numbers.
  * Returns 0, 10 (a or b is 0 or has more than 18 digits), 13, 18. 0 writes *told. */
 uint32_t rk_ledger_missing(const rk_ledger *state, uint16_t channel, uint64_t a, uint64_t b,
                            uint64_t *told);
@@ -267,7 +289,9 @@ typedef struct {
 } rk_cleaned;
 RK_SIZE(rk_cleaned, 3);
 
-/* Walks a capture: a record of 64 bytes for each reading, and the ledger of channel 100.
+/* Walks a capture: a record of 64 bytes for each reading, and the ledger of channel 100. A record has
+ * these numbers, high byte first: place 8 bytes, MsgType 4 (spaces if the reading was refused),
+ * answer 4, MsgSeqNum 8, tick number 8, channel 2, zero 2, BodyLength 4, floor 8, top 8, zero 8.
  * Returns 0, 8. 0 writes the first 64 * told->records bytes of records, *state and *told. */
 uint32_t rk_walk(const uint8_t *capture, size_t len, uint8_t *records, size_t records_len, rk_ledger *state, rk_counts *told);
 
@@ -283,7 +307,7 @@ uint32_t rk_listing(const uint8_t *records, size_t records_len, uint64_t frames,
 uint32_t rk_clean(const uint8_t *capture, size_t len, uint8_t *out, size_t out_len, rk_cleaned *told);
 
 /* Whether a capture is clean: the first place that rk_clean would change, or none. It takes about
- * 9 KB of stack, rk_stream_feed and rk_stream_close up to 135 KB, all others at most 1 KB.
+ * 9 KB of stack.
  * Always returns 0, and writes *told. */
 uint32_t rk_is_clean(const uint8_t *capture, size_t len, rk_found *told);
 
@@ -295,10 +319,10 @@ uint32_t rk_is_clean(const uint8_t *capture, size_t len, rk_found *told);
  * become a frame. Each call takes some microseconds, so collect single bytes first.
  *
  * Keep and copy the struct as you like, but do not read or make its words and bytes. The ledger may
- * be passed to rk_listing, rk_ledger_told, rk_ledger_missing, rk_ledger_request and
- * rk_ledger_reply. The last two
- * change its pending request, and a reply of status 4 its floor and map too: in these it then differs
- * from rk_walk's. A call on a stream that breaks the state rules returns 13. */
+ * be passed to rk_listing, rk_ledger_told, rk_ledger_missing, rk_ledger_request, rk_ledger_reply
+ * and rk_ledger_renew. The last three change its pending request, and a reply of status 4 its floor
+ * and map too: in these it then differs from rk_walk's. A call on a stream that breaks the state
+ * rules returns 13. */
 typedef struct {
     uint64_t words[6];
     rk_ledger ledger;
@@ -325,14 +349,14 @@ uint32_t rk_stream_open(uint64_t words[6], rk_ledger *ledger, uint8_t kept[8191]
 
 /* One more cut: a record of 64 bytes for each reading that it decides.
  * RK_RECORDS_ROOM(waiting + cut_len) bytes are always room enough. After 8 you may pass the same
- * cut again, with more room.
+ * cut again, with more room. It takes up to 135 KB of stack.
  * Returns 0, 8, 13, 19, 29. 0 writes the first 64 * told->records bytes of records, and words,
  * *ledger, kept and *told. */
 uint32_t rk_stream_feed(uint64_t words[6], rk_ledger *ledger, uint8_t kept[8191], const uint8_t *cut, size_t cut_len, uint8_t *records,
                         size_t records_len, rk_fed *told);
 
 /* Ends the stream: what waits is walked as the end of a capture. RK_RECORDS_ROOM(waiting) bytes are
- * always room enough. After 8 the stream is still open.
+ * always room enough. After 8 the stream is still open. It takes up to 135 KB of stack.
  * Returns 0, 8, 13, 19. 0 writes the first 64 * told->records bytes of records, and words, *ledger,
  * kept and *told. */
 uint32_t rk_stream_close(uint64_t words[6], rk_ledger *ledger, uint8_t kept[8191], uint8_t *records, size_t records_len, rk_fed *told);
@@ -386,23 +410,24 @@ enum rk_market {
     RK_MARKET_LARGE = 47      /* above 65,536 bytes */
 };
 
-/* An answer: RK_DONE, a number above, or RK_ROOM. Beside RK_DONE a count: of lines, or of the bytes written. Beside 40 to 43 and 45 the
- * place of the fault, beside the others 0. */
+/* An answer: RK_DONE, a number above, or RK_ROOM. Beside RK_DONE a count: of lines, or of the bytes
+ * written. Beside 40 to 43 and 45 the place of the fault, beside the others 0. */
 typedef struct {
     uint64_t number;
     uint64_t place;
 } rk_finding;
 RK_SIZE(rk_finding, 2);
 
-/* Whether a file is sound. 0 and its lines; 40 to 47, the lowest place first, 44 and 46 only where nothing else is wrong. */
+/* Whether a file is sound. 0 and its lines; 40 to 47, the lowest place first, 44 and 46 only where
+ * nothing else is wrong. */
 rk_finding rk_market_check(const uint8_t *file, size_t len);
 
 /* The values of a file. As rk_market_check, then 8; len bytes are always room enough.
  * 0 writes out's first place bytes. */
 rk_finding rk_market_values(const uint8_t *file, size_t len, uint8_t *out, size_t out_len);
 
-/* The file that values make: count and sum are worked out. 40, 42, 43 by rising place among the values, then 47, then 8; 65,536 bytes are
- * always room enough.
+/* The file that values make: count and sum are worked out. 40, 42, 43 by rising place among the
+ * values, then 47, then 8; 65,536 bytes are always room enough.
  * 0 writes out's first place bytes. */
 rk_finding rk_market_write(const uint8_t *values, size_t len, uint8_t *out, size_t out_len);
 
@@ -417,7 +442,8 @@ rk_finding rk_market_write(const uint8_t *values, size_t len, uint8_t *out, size
  * each frame.
  *
  * Keep and copy the words as you like, but do not read or make them. A call on words that break the
- * state rules returns 13. A new session is rk_session_open again. */
+ * state rules returns 13. A new session is rk_session_open again, and rk_ledger_renew for each
+ * ledger that you keep. */
 typedef struct {
     uint64_t words[8];
 } rk_session;

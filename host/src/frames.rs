@@ -7,6 +7,9 @@ use crate::raw;
 pub const HEADER: usize = 24;
 pub const CHECK_SUM: usize = 4;
 
+/// A frame has at most so many bytes.
+pub const LONGEST: usize = 8_192;
+
 /// What a frame holds. Channel, tick, first, last and status are 0 if the type has none.
 #[derive(Clone, Copy, Debug, Default, PartialEq, Eq)]
 #[repr(C)]

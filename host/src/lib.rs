@@ -14,19 +14,22 @@ pub mod market;
 mod numbers;
 #[allow(unsafe_code)]
 mod raw;
+mod records;
 mod session;
 pub mod step;
 mod stream;
+pub mod types;
 
 pub use captures::{
     clean, first_unclean, listing, records_room, text_room, walk, Cleaned, Walked, RECORD,
 };
 pub use frames::{
     entries, entry, private_spans, read, scrub, search, tail_fields, write, Entries, Entry, Field,
-    Frame, Span, CHECK_SUM, HEADER,
+    Frame, Span, CHECK_SUM, HEADER, LONGEST,
 };
 pub use ledger::{Ledger, LedgerStatus, Passed, Request, Settled, STATE_FORM};
 pub use numbers::{ChannelNumber, Refusal, SessionNumber, TickNumber};
+pub use records::{records, Record};
 pub use session::{Arrival, Passing, Session, ToSend};
 pub use stream::{Fed, Stream, KEPT};
 

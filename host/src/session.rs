@@ -1,7 +1,7 @@
 //! The client's side of a line: what to send, when, and under which number.
 
 use crate::numbers::{always, result, Refusal, SessionNumber};
-use crate::raw;
+use crate::{raw, types};
 
 /// The client's side of one line to the gateway. It sends nothing itself: each call returns what
 /// to send, and the host writes it with [`write`](crate::write), its own CompIDs and SendingTime.
@@ -33,11 +33,11 @@ pub enum ToSend {
 impl ToSend {
     fn from_row(msg_type: u64, seq: u64) -> ToSend {
         let seq = SessionNumber::new(seq);
-        match &(msg_type as u32).to_be_bytes() {
-            b"S001" => ToSend::Logon(seq),
-            b"S002" => ToSend::Logout(seq),
-            b"S003" => ToSend::Heartbeat(seq),
-            b"P002" => ToSend::Resend(seq),
+        match msg_type as u32 {
+            types::S001 => ToSend::Logon(seq),
+            types::S002 => ToSend::Logout(seq),
+            types::S003 => ToSend::Heartbeat(seq),
+            types::P002 => ToSend::Resend(seq),
             _ => ToSend::Nothing,
         }
     }
@@ -46,10 +46,10 @@ impl ToSend {
     pub const fn frame(self) -> Option<(u32, SessionNumber)> {
         match self {
             ToSend::Nothing => None,
-            ToSend::Logon(seq) => Some((u32::from_be_bytes(*b"S001"), seq)),
-            ToSend::Logout(seq) => Some((u32::from_be_bytes(*b"S002"), seq)),
-            ToSend::Heartbeat(seq) => Some((u32::from_be_bytes(*b"S003"), seq)),
-            ToSend::Resend(seq) => Some((u32::from_be_bytes(*b"P002"), seq)),
+            ToSend::Logon(seq) => Some((types::S001, seq)),
+            ToSend::Logout(seq) => Some((types::S002, seq)),
+            ToSend::Heartbeat(seq) => Some((types::S003, seq)),
+            ToSend::Resend(seq) => Some((types::P002, seq)),
         }
     }
 }
@@ -72,7 +72,8 @@ pub struct Arrival {
 }
 
 impl Session {
-    /// A new session: both counters at 1.
+    /// A new session: both counters at 1. Renew each ledger that is kept from an earlier one
+    /// ([`Ledger::renew`](crate::Ledger::renew)).
     #[must_use]
     pub fn open() -> Session {
         let mut session = Session { words: [0; 8] };

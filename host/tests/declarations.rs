@@ -45,7 +45,7 @@ fn run(command: &mut Command, input: &[u8]) -> Vec<u8> {
 /// The crates of which the library is made, and how many functions each has for others.
 const EXPORTS: [(&str, usize); 7] = [
     ("host_frames", 8),
-    ("host_ledger", 7),
+    ("host_ledger", 8),
     ("host_session", 7),
     ("host_captures", 4),
     ("host_stream", 3),
@@ -293,6 +293,66 @@ fn the_header_has_the_table_of_numbers() {
     assert_eq!(said, rows);
 }
 
+/// The numbers of the types stand in the header as in the wrapper, and no other number is a type.
+#[test]
+fn the_header_has_the_table_of_types() {
+    let text = text_of("host/include/rietknoest.h");
+    let (_, table) = text.split_once("enum rk_msg_type {").expect("the table");
+    let table = table.split("};").next().expect("its end");
+    let lines = table.lines().map(str::trim).filter(|l| !l.is_empty());
+    let said: Vec<_> = lines
+        .map(|l| l.split("/*").next().expect("a row"))
+        .map(|l| l.trim().trim_end_matches(',').to_string())
+        .collect();
+    let rows = host::types::ALL.map(|number| {
+        let letters = number.to_be_bytes().map(char::from);
+        format!("RK_{} = {number:#X}", String::from_iter(letters))
+    });
+    assert_eq!(said, rows);
+    // the library knows these alone: it refuses a type by 2, and lengths by 4
+    for number in host::types::ALL {
+        let body = [0; 73];
+        assert_ne!(host::private_spans(number, &body), Err(Refusal::Type));
+        for other in [number ^ 1 << 31, number + 0x100] {
+            assert_eq!(host::private_spans(other, &body), Err(Refusal::Type));
+        }
+    }
+}
+
+/// The records of a capture taken apart have what its listing has.
+#[test]
+fn a_record_has_the_numbers_of_its_line() {
+    let capture = fs::read(root().join("crates/listing/stdin")).expect("the sample");
+    let mut bytes = vec![0; host::records_room(capture.len())];
+    let walked = host::walk(&capture, &mut bytes).expect("room");
+    bytes.truncate(walked.records * host::RECORD);
+    let mut lines = String::new();
+    for r in host::records(&bytes) {
+        let letters = String::from_utf8(r.msg_type.to_vec()).expect("text");
+        let letters = if r.is_refused() { "----" } else { &letters };
+        let numbers = (r.seq.value(), r.channel.value(), r.tick.value());
+        let _ = writeln!(
+            lines,
+            "{} {letters} {} {} {} {} {} {}",
+            r.place,
+            r.answer,
+            numbers.0,
+            numbers.1,
+            numbers.2,
+            r.floor.value(),
+            r.top.value()
+        );
+        assert_eq!(r.refusal().map_or(0, Refusal::number), r.answer);
+        let frame = host::read(&capture, r.place as usize);
+        assert_eq!(frame.is_err(), r.is_refused());
+        let len = frame.map_or(0, |frame| frame.body_len);
+        assert_eq!(u64::from(r.body_len), len);
+    }
+    let listing = text_of("crates/listing/stdout");
+    assert!(listing.starts_with(&lines));
+    assert_eq!(listing.lines().count(), lines.lines().count() + 1);
+}
+
 /// The header's version is that of all crates, as the pkg-config file and the command have it.
 #[test]
 fn the_header_has_the_version() {
@@ -519,7 +579,7 @@ fn ledgers(s: &mut Script, d: &mut Dice) {
         let (near, edge) = (words[1].wrapping_add(d.below(262)), d.edge());
         let n = d.of(&[near, near, near, edge]);
         let (its, tick) = (ChannelNumber::new(channel), TickNumber::new(n));
-        match d.below(8) {
+        match d.below(9) {
             0 => {
                 let answer = ledger.announce(its, tick).map(|()| (vec![], None));
                 s.ask("announce", &format!("{channel} {n}"), answer, Some(&ledger));
@@ -571,6 +631,10 @@ fn ledgers(s: &mut Script, d: &mut Dice) {
                     answer,
                     Some(&ledger),
                 );
+            }
+            5 => {
+                let answer = ledger.renew().map(|()| (vec![], None));
+                s.ask("renew", "", answer, Some(&ledger));
             }
             _ => {
                 let answer = ledger.tick(its, tick);
@@ -945,6 +1009,20 @@ fn ten_lines_of_c_scrub_a_frame() {
     }
 }
 
+#[test]
+fn ten_lines_of_c_count_what_is_missing() {
+    let program = compiled("cc", "-std=c11", "host/examples/screen.c");
+    let said = run(&mut Command::new(program), b"");
+    assert_eq!(said, b"4 of 1 to 1000 are missing\n");
+}
+
+#[test]
+fn a_program_in_c_prints_what_a_reply_settles() {
+    let program = compiled("cc", "-std=c11", "host/examples/no_data.c");
+    let said = run(&mut Command::new(program), b"");
+    assert_eq!(said, b"given up: 2 3\ndeliver: 4\n");
+}
+
 /// The next frame that a client sends.
 fn next_frame(from: &mut impl Read) -> (u32, u64, Vec<u8>) {
     let mut head = [0; 24];
@@ -1006,6 +1084,8 @@ fn the_header_is_for_cpp_too() {
 int main() { rk_stream s; rk_found f; unsigned char b = 0; return int(rk_stream_open(RK_STREAM(&s)) + rk_search(&b, 1, 0, &f)); }
 ";
     fs::write(&source, text).expect("a writable folder");
-    let program = compiled("c++", "-std=c++11", source.to_str().expect("text"));
-    run(&mut Command::new(program), b"");
+    for standard in ["-std=c++98", "-std=c++11", "-std=c++17"] {
+        let program = compiled("c++", standard, source.to_str().expect("text"));
+        run(&mut Command::new(program), b"");
+    }
 }

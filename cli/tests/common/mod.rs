@@ -132,6 +132,16 @@ pub fn run_on<S: AsRef<OsStr>>(folder: &Folder, words: &[S], input: &[u8]) -> Ra
     finish(command, input)
 }
 
+/// The files in a folder that a running program has open, with a name or without one.
+pub fn open_files(run: u32, folder: &Folder) -> Vec<PathBuf> {
+    let Ok(entries) = fs::read_dir(format!("/proc/{run}/fd")) else {
+        return Vec::new();
+    };
+    let paths = entries.filter_map(|entry| Some(entry.ok()?.path()));
+    let within = |path: &PathBuf| fs::read_link(path).is_ok_and(|to| to.starts_with(&folder.0));
+    paths.filter(within).collect()
+}
+
 /// A frame.
 pub fn frame(kind: &[u8; 4], seq: u64, body: &[u8]) -> Vec<u8> {
     let mut out = vec![0; 8192];

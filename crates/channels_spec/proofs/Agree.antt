@@ -19,13 +19,14 @@ use Rattle.ledger_spec.specs.Words.{answered, valueAt, stillPending}
 use Rattle.ledger_spec.proofs.Given.{given-0}
 use Rattle.ledger_spec.proofs.Tests.{and-false, pick-cases}
 use Rattle.ledger_spec.proofs.Steps.{Step, step}
+use Rattle.ledger_spec.proofs.Answers.{new-session}
 use Rattle.channels_spec.specs.Table.{Place, free, holds, Table, empty, put, waits, bookIn, placeOf, freePlace, pendingPlace, turn, isOpen, bookOf, TableRules}
-use Rattle.channels_spec.specs.Calls.{Said, Tick, Announce, Reply, Between, Call, Open, Close, Request, To, Told, called, openingNumber, requestNumber, asking, asked, granted, unopened, answerTo, nextOf}
+use Rattle.channels_spec.specs.Calls.{Said, Tick, Announce, Reply, Between, Call, Open, Close, Request, To, Told, Renew, called, openingNumber, requestNumber, asking, asked, granted, unopened, renewedPlace, renewed, answerTo, nextOf}
 use Rattle.channels_spec.specs.Trace.{Calls, none, _▸_, after, History, start, _▸_⇒_, trace}
 use Rattle.channels_spec.specs.Words.{opened, grantedTo, since, Line, quiet, asks, replied, asksFor, line, pendingOn}
 use Rattle.channels_spec.proofs.Places.{After, here, else, after-put, put-here, put-else, one-book, not-free, Here, open-here, its-open, its-place}
 use Rattle.channels_spec.proofs.Views.{Opening, fine-0, wide-10, twice-22, full-21, opening, free-there, Asking, busy-14, whole-15, turns, asking-view, none-waits, TurnAt, turn-at}
-use Rattle.channels_spec.proofs.Rules.{empty-rules, rules-kept}
+use Rattle.channels_spec.proofs.Rules.{empty-rules, Before, before, renewed-rules, rules-kept}
 
 -- some place holds the channel's ledger
 pub record Holder (t : Table) (channel : ℕ) : Type 0 where
@@ -377,6 +378,31 @@ module _ (h : History) (t : Table) (a : Agrees h t) where
       now-pending : stillPending (ledger.Request d) (asked t) (b .pending) ≡ pendingOn d (asks d (valueAt x 1) (valueAt x 2))
       now-pending = ap (λ (n : ℕ). pick (eqb n 0) (range (valueAt (asked t) 0) (valueAt (asked t) 1)) (b .pending)) z ∙ sym (own-pending d _ _)
 
+-- ---- a new session
+
+done-renewal : (h : History) (t : Table) → Agrees h t → Agrees (h ▸ Renew ⇒ answer 0 []) (renewed t)
+unfolding opened since line
+done-renewal h t a =
+    record {
+      rules = renewed-rules t (a .rules);
+      open-to = λ c e. to c (a .open-to c e);
+      open-from = λ i b c e y. (let f = before t i b e in a .open-from i (f .book) c (f .was) (same-channel i b f ∙ y));
+      each = λ i b c e y. (let f = before t i b e in
+          sym (f .is) ∙ ap (λ (q : Book). ledger.nextOf q ledger.Renew) (a .each i (f .book) c (f .was) (same-channel i b f ∙ y)));
+      pending-is = λ i b c e y. (let f = before t i b e in
+          ap (λ (q : Book). q .pending) (sym (f .is)) ∙ new-session (f .book) (a .rules .sound i (f .book) (f .was)) .cleared);
+      asker-open = λ c first last e. absurd (never-quiet c first last e);
+    }
+  where
+    kept-channel : (i : ℕ) (d : Book) → t .place i ≡ holds d → ledger.nextOf d ledger.Renew .channel ≡ d .channel
+    kept-channel i d e = step d ledger.Renew (a .rules .sound i d e) .channel-same
+
+    same-channel : (i : ℕ) (b : Book) (f : Before t i b) → f .book .channel ≡ b .channel
+    same-channel i b f = sym (kept-channel i (f .book) (f .was)) ∙ ap (λ (q : Book). q .channel) (f .is)
+
+    to : (c : ℕ) → Holder t c → Holder (renewed t) c
+    to c m = record { place = m .place; book = ledger.nextOf (m .book) ledger.Renew; is = ap renewedPlace (m .is); own = kept-channel (m .place) (m .book) (m .is) ∙ m .own }
+
 -- ---- every call
 
 next-agrees : (h : History) (t : Table) (call : Call) → Agrees h t → Agrees (h ▸ call ⇒ answerTo t call) (nextOf t call)
@@ -410,6 +436,7 @@ next-agrees h t (Told d) a = told-agrees _
   where
     told-agrees : (x : Paper) → Agrees (h ▸ Told d ⇒ x) t
     told-agrees x = still h t _ a (λ c. refl) (λ i b c e y. refl) refl
+next-agrees h t Renew a = done-renewal h t a
 
 pub agrees : (calls : Calls) → Agrees (trace calls) (after calls)
 unfolding trace

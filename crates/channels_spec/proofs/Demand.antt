@@ -5,7 +5,7 @@ use mathlib.Core.Bool.{Bool, true, false, _&&_, not}
 use mathlib.Core.Logic.{_⊎_, inl, inr, ⊎-elim}
 use mathlib.Core.List.{List, [], _∷_}
 use Prim.Native.Nat.{ℕ, _+_, _-_, _%_, _≤_, _<_}
-use native.Mathlib.Nat.{mod-eq-of-lt, add-mod-right}
+use native.Mathlib.Nat.{mod-lt, mod-eq-of-lt, mod-add-mod, add-mod-mod, add-mod-right, zero-add}
 use native.Mathlib.Omega.{arith}
 use lib.Dec.{eqb, leb, ltb}
 use borrow.Author.Tests.{eq-eqb, ne-eqb, eqb-true, lt-ltb, le-ltb, le-leb, ltb-true, ltb-false}
@@ -20,11 +20,11 @@ use Rattle.ledger_spec.specs.Demand3.{missingIn, MissingNumbers, SomeMissing, L
 use Rattle.ledger_spec.specs.Demand3 as one
 use Rattle.ledger_spec.proofs.Told.{told-tick, told-announce, told-reply, told-between}
 use Rattle.ledger_spec.proofs.Demand3.{demand-3, first-clear, missing-below, missing-above}
-use Rattle.channels_spec.specs.Table.{Place, free, holds, Table, misses, waits, bookIn, placeOf, pendingPlace, counted, steps, turn, isOpen, bookOf, TableRules}
-use Rattle.channels_spec.specs.Calls.{Call, Request, To, Said, Tick, Announce, Reply, Between, called, asked, requestNumber, answerTo}
-use Rattle.channels_spec.specs.Trace.{Calls, after, History, trace}
-use Rattle.channels_spec.specs.Words.{opened, since, ownHistory, Line, quiet, asks, line, pendingOn}
-use Rattle.channels_spec.specs.Demand.{SaidAnswers, EachChannel, Misses, SomeChannel, Due, Busy, Whole, Gives, Requests, OnePending, Turn}
+use Rattle.channels_spec.specs.Table.{Place, free, holds, Table, misses, waits, bookIn, placeOf, pendingPlace, nextPlace, counted, steps, turn, isOpen, bookOf, TableRules}
+use Rattle.channels_spec.specs.Calls.{Call, Request, To, Renew, Said, Tick, Announce, Reply, Between, called, asked, requestNumber, answerTo}
+use Rattle.channels_spec.specs.Trace.{Calls, _▸_, after, History, trace}
+use Rattle.channels_spec.specs.Words.{opened, since, ownHistory, Line, quiet, asks, line, pendingOn, grants, grantsOn}
+use Rattle.channels_spec.specs.Demand.{SaidAnswers, EachChannel, Misses, SomeChannel, Due, Busy, Whole, Gives, Requests, OnePending, Turn, SessionTold}
 use Rattle.channels_spec.proofs.Least.{least-low, least-is}
 use Rattle.channels_spec.proofs.Places.{its-open, its-book}
 use Rattle.channels_spec.proofs.Views.{Asking, busy-14, whole-15, turns, asking-view, none-waits, TurnAt, turn-at}
@@ -99,18 +99,21 @@ none-missing b h channel d s e = clash (d .missing-numbers .exactly (s .number) 
 
 -- ======== Counted round
 
-pub record Round (last i : ℕ) : Type 0 where
+-- from wherever it begins, counting round comes to each place within 32 steps
+pub record Round (start i : ℕ) : Type 0 where
   pub steps : ℕ
   pub below-32 : steps < 32
-  pub there : (last + 1 + steps) % 32 ≡ i
+  pub there : (start + steps) % 32 ≡ i
 
-pub round : (last i : ℕ) → last < 32 → i < 32 → Round last i
-round last i l h = ⊎-elim
-    (λ x. (let e : last + 1 + (i - last - 1) ≡ i = omega arith in
-    record { steps = i - last - 1; below-32 = omega arith; there = ap (_% 32) e ∙ mod-eq-of-lt h }))
-    (λ x. (let e : last + 1 + (i + 31 - last) ≡ i + 32 = omega arith in
-    record { steps = i + 31 - last; below-32 = omega arith; there = ap (_% 32) e ∙ add-mod-right i 32 ∙ mod-eq-of-lt h }))
-    (less last i)
+pub round : (start i : ℕ) → i < 32 → Round start i
+round start i h =
+    let r : start % 32 < 32 = mod-lt start (omega arith) in
+    let e : start % 32 + (i + 32 - start % 32) ≡ i + 32 = omega arith in
+    record {
+      steps = (i + 32 - start % 32) % 32;
+      below-32 = mod-lt _ (omega arith);
+      there = add-mod-mod start (i + 32 - start % 32) 32 ∙ sym (mod-add-mod start 32 (i + 32 - start % 32)) ∙ ap (_% 32) e ∙ add-mod-right i 32 ∙ mod-eq-of-lt h;
+    }
 
 -- a place that misses something is not behind the turn
 pub turn-low : (t : Table) (k : ℕ) → k < 32 → misses (t .place (counted t k)) ≡ true → steps t ≤ k
@@ -122,7 +125,7 @@ misses-is t i b e n = ap misses e ∙ ap not (ne-eqb _ _ n)
 
 pub some-turn : (t : Table) → TableRules t → (i : ℕ) (b : Book) → t .place i ≡ holds b → (b .top ≡ b .floor → ⊥) → steps t < 32
 some-turn t r i b e n =
-    let k = round (t .last) i (r .last-in) (r .within i b e) in
+    let k = round (nextPlace t) i (r .within i b e) in
     let l : steps t ≤ k .steps = turn-low t (k .steps) (k .below-32) (ap (λ (j : ℕ). misses (t .place j)) (k .there) ∙ misses-is t i b e n) in
     let h : k .steps < 32 = k .below-32 in
     omega arith
@@ -140,7 +143,7 @@ module _ (calls : Calls) where
   a = agrees calls
 
   -- the line is quiet: nothing waits in the table
-  nothing-waits : line h ≡ quiet → 32 ≤ pendingPlace t
+  pub nothing-waits : line h ≡ quiet → 32 ≤ pendingPlace t
   unfolding pendingPlace
   nothing-waits e = ⊎-elim (λ l. absurd (waiting _ refl (least-is (λ i. waits (t .place i)) 32 l .is-so))) (λ l. l) (less (pendingPlace t) 32)
     where
@@ -316,3 +319,9 @@ one-pending calls =
       only-open = a .asker-open;
       at-most-one = a .rules .one-waits;
     }
+
+-- ======== A new session
+
+pub new-session-told : (calls : Calls) → SessionTold (trace calls) (trace (calls ▸ Renew))
+unfolding trace answerTo opened since line grants grantsOn
+new-session-told calls = record { none-pending = refl; opened-same = λ c. refl; since-has = λ c. refl; grants-same = zero-add _; grants-on-same = λ c. zero-add _ }

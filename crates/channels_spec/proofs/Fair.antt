@@ -18,15 +18,15 @@ use Rattle.ledger_spec.specs.Calls.{fresh}
 use Rattle.ledger_spec.specs.Words.{answered, valueAt, one}
 use Rattle.ledger_spec.proofs.Tests.{pick-cases}
 use Rattle.ledger_spec.proofs.Steps.{step}
-use Rattle.channels_spec.specs.Table.{Place, free, holds, Table, empty, put, misses, bookIn, placeOf, freePlace, counted, steps, turn, isOpen, bookOf, TableRules}
-use Rattle.channels_spec.specs.Calls.{Said, Call, Open, Close, Request, To, Told, called, openingNumber, requestNumber, asking, asked, granted, answerTo, nextOf}
+use Rattle.channels_spec.specs.Table.{Place, free, holds, Table, empty, put, misses, bookIn, placeOf, freePlace, nextPlace, counted, steps, turn, isOpen, bookOf, TableRules}
+use Rattle.channels_spec.specs.Calls.{Said, Call, Open, Close, Request, To, Told, Renew, called, openingNumber, requestNumber, asking, asked, granted, answerTo, nextOf}
 use Rattle.channels_spec.specs.Trace.{Calls, _▸_, after, History, trace, followed}
 use Rattle.channels_spec.specs.Words.{grantedTo, grants, grantsOn}
 use Rattle.channels_spec.specs.Words as words
 use Rattle.channels_spec.specs.Demand.{Misses, LastAsked, KeepsMissing, AskedWithin32}
 use Rattle.channels_spec.proofs.Places.{After, here, else, after-put, one-book, not-free, Here, open-here, its-open, its-place}
 use Rattle.channels_spec.proofs.Views.{Opening, fine-0, wide-10, twice-22, full-21, opening, Asking, busy-14, whole-15, turns, asking-view, TurnAt, turn-at}
-use Rattle.channels_spec.proofs.Rules.{reached-rules}
+use Rattle.channels_spec.proofs.Rules.{Before, before, reached-rules}
 use Rattle.channels_spec.proofs.Agree.{Holder, Agrees, agrees}
 use Rattle.channels_spec.proofs.Demand.{held-demand, none-missing, Round, round, turn-low, misses-is}
 
@@ -79,6 +79,9 @@ module _ (t : Table) (r : TableRules t) (i : ℕ) (b : Book) (channel : ℕ) (is
           let q : t .place (placeOf t c) ≡ holds (bookOf t c) = k .is ∙ ap holds (sym (ap bookIn (k .is))) in
           stays-next (placeOf t c) (bookOf t c) d j q _ (step (bookOf t c) (called c said) (r .sound (placeOf t c) (bookOf t c) q) .channel-same) (after-put t _ j _ (holds d) f) y
   stays (Told c) j d e y = there j d e y
+  stays Renew j d e y =
+      let f = before t j d e in
+      there j (f .book) (f .was) (sym (step (f .book) ledger.Renew (r .sound j (f .book) (f .was)) .channel-same) ∙ ap (λ (q : Book). q .channel) (f .is) ∙ y)
 
 -- ---- only a granted request moves the place last asked
 
@@ -92,6 +95,7 @@ last-stays t Request e = pick-cases (λ (u : Table). u .last ≡ t .last) (eqb (
     some o = ap (λ (x : Bool). eqb (one x) 1) o
 last-stays t (To c said) e = pick-cases (λ (u : Table). u .last ≡ t .last) (isOpen t c) _ t (λ o. refl) (λ o. refl)
 last-stays t (Told c) e = refl
+last-stays t Renew e = refl
 
 -- ---- counts never fall
 
@@ -125,6 +129,7 @@ grant-view (Close c) a = other-call refl
 grant-view Request a = ⊎-elim (λ e. grants-now e) (λ e. other-call (ap one e)) (two (answered a 0))
 grant-view (To c said) a = other-call refl
 grant-view (Told c) a = other-call refl
+grant-view Renew a = other-call refl
 
 -- a granted request has gone to the place whose turn it was
 pub went : (t : Table) → answered (answerTo t Request) 0 ≡ true → (steps t < 32) × (nextOf t Request .last ≡ turn t)
@@ -221,7 +226,7 @@ asked-within-32 channel calls [] keeps e = absurd (too-many e)
 asked-within-32 channel calls (call ∷ more) keeps e =
     let m = agrees calls .open-to channel (keeps .0 .is-open) in
     let r = reached-rules calls in
-    let k = round (after calls .last) (m .place) (r .last-in) (r .within (m .place) (m .book) (m .is)) in
+    let k = round (nextPlace (after calls)) (m .place) (r .within (m .place) (m .book) (m .is)) in
     let l : k .steps < 32 = k .below-32 in
     within channel calls (call ∷ more) (k .steps) l keeps (λ j d x y. there (after calls) r (m .place) (m .book) channel (m .is) (m .own) j d x y ∙ sym (k .there)) (omega arith)
 

@@ -15,14 +15,16 @@ use Rattle.ledger_spec.specs.Calls as ledger
 use Rattle.ledger_spec.specs.Calls.{fresh, isPending}
 use Rattle.ledger_spec.specs.Words.{answered}
 use Rattle.ledger_spec.specs.Given.{MissingAt, SettledAt, StatusRight}
-use Rattle.ledger_spec.proofs.Answers.{keeps}
+use Rattle.ledger_spec.specs.Answers as ledger-answers
+use Rattle.ledger_spec.proofs.Answers.{keeps, renew-answer, renew-next}
+use Rattle.ledger_spec.proofs.Answers.{new-session as ledger-new-session}
 use Rattle.ledger_spec.proofs.Given as ledger-given
 use Rattle.ledger_spec.proofs.Numbers.{checked-facts}
 use Rattle.ledger_spec.proofs.Tests.{pick-cases, skip, false-of}
 use Rattle.ledger_spec.proofs.Demand3.{first-clear, nothing-pending}
 use Rattle.channels_spec.specs.Table.{Place, free, holds, Table, put, isFree, misses, waits, bookIn, placeOf, freePlace, pendingPlace, counted, steps, turn, isOpen, bookOf, TableRules}
-use Rattle.channels_spec.specs.Calls.{Said, Tick, Announce, Reply, Between, Call, Open, Close, Request, To, Told, called, openingNumber, requestNumber, asking, asked, granted, unopened, answerTo, nextOf}
-use Rattle.channels_spec.specs.Given.{OpenIn, Given22, Given21, FineOpening, Opens, Closes, SomePending, SomeMisses, Given15, FineRequest, Names, Given18, Given10Tick, Given10Announcement, Given10Between, Given17, Given16, Raises, Keeps}
+use Rattle.channels_spec.specs.Calls.{Said, Tick, Announce, Reply, Between, Call, Open, Close, Request, To, Told, Renew, called, openingNumber, requestNumber, asking, asked, granted, unopened, renewedPlace, renewed, answerTo, nextOf}
+use Rattle.channels_spec.specs.Given.{OpenIn, Given22, Given21, FineOpening, Opens, Closes, SomePending, SomeMisses, Given15, FineRequest, Names, Given18, Given10Tick, Given10Announcement, Given10Between, Given17, Given16, Raises, Keeps, NewSession}
 use Rattle.channels_spec.proofs.Least.{least-is, least-low, least-none}
 use Rattle.channels_spec.proofs.Places.{After, here, else, after-put, put-here, put-else, put-same, not-free, Here, open-here, its-open, its-place, its-book}
 use Rattle.channels_spec.proofs.Views.{Opening, fine-0, wide-10, twice-22, full-21, opening, free-there, Asking, busy-14, whole-15, turns, asking-view, none-waits, TurnAt, turn-at}
@@ -349,6 +351,7 @@ given-18 t (Told c) r = (
       where
         told-0 : OpenIn t c → answerTo t (Told c) .number ≡ 0
         told-0 o = rw (in-open t r c o)
+given-18 t Renew r = (λ e. absurd (apart 18 e refl), λ g. absurd (g .named))
 
 -- ======== A refusal leaves the table, save 12's top
 
@@ -366,6 +369,7 @@ same-table t (To channel said) e f = ⊎-elim (λ o. rw o (kept o (open-here t c
         keeps (bookOf t channel) c .same (ap (λ (u : Bool). eqb (pick u (ledger.answerTo (bookOf t channel) c) (unopened channel said) .number) 0) (sym o) ∙ e) (ap (λ (u : Bool). eqb (pick u (ledger.answerTo (bookOf t channel) c) (unopened channel said) .number) 12) (sym o) ∙ f) in
         put-same t (placeOf t channel) _ (h .is ∙ ap holds (sym (same-book ∙ ap bookIn (h .is))))
 same-table t (Told channel) e f = refl
+same-table t Renew e f = absurd (clash refl e)
 
 -- 12 is answered to a tick alone
 record TickOf (said : Said) : Type 0 where
@@ -431,6 +435,7 @@ top-raised t (To c said) e = ⊎-elim (λ o. rw o (raises o (rw o at e))) (λ o.
           last-same = refl;
         })
 top-raised t (Told c) e = absurd (pick-cases (λ (a : Paper). answered a 12 ≡ true → ⊥) (isOpen t c) _ (refusal 18) (λ o z. clash z refl) (λ o z. clash z refl) e)
+top-raised t Renew e = absurd (clash e refl)
 
 pub refused-keeps : (t : Table) (call : Call) → Keeps t call (nextOf t call) (answerTo t call)
 refused-keeps t call = record { same = same-table t call; far = top-raised t call }
@@ -474,3 +479,27 @@ never-13 t (To channel said) r = ⊎-elim (λ o. rw o (sound-there (open-here t 
     sound-there : Here t channel (placeOf t channel) → eqb (ledger.numberTo (bookOf t channel) (called channel said)) 13 ≡ false
     sound-there h = ne-eqb _ 13 (λ e. ledger-given.given-13 (bookOf t channel) (called channel said) .0 e (r .sound (placeOf t channel) (bookOf t channel) (h .is ∙ ap holds (sym (ap bookIn (h .is))))))
 never-13 t (Told channel) r = pick-cases (λ (a : Paper). answered a 13 ≡ false) (isOpen t channel) _ (refusal 18) (λ o. refl) (λ o. refl)
+never-13 t Renew r = refl
+
+-- ======== A new session changes nothing but the pending request
+
+-- a ledger with nothing pending stays as it is
+unchanged : (b : Book) → StateRules b → b .pending ≡ nothing → ledger.nextOf b ledger.Renew ≡ b
+unfolding ledger.waiting
+unchanged b r e = renew-next b r ∙ (λ i. record { channel = b .channel; floor = b .floor; top = b .top; bits = b .bits; pending = sym e i })
+
+pub new-session : (t : Table) → TableRules t → NewSession t (answerTo t Renew) (nextOf t Renew)
+unfolding answerTo nextOf
+new-session t r =
+    record {
+      answer-is = refl;
+      last-same = refl;
+      free-same = λ i e. ap renewedPlace e;
+      others-same = λ i b e n. ap renewedPlace e ∙ ap holds (unchanged b (r .sound i b e) n) ∙ sym e;
+      next-book = λ i b e. ledger.nextOf b ledger.Renew;
+      there = λ i b e. ap renewedPlace e;
+      only-cleared = λ i b e. cleared-by b (r .sound i b e);
+    }
+  where
+    cleared-by : (b : Book) → StateRules b → ledger-answers.NewSession b (answer 0 []) (ledger.nextOf b ledger.Renew)
+    cleared-by b s = subst (λ (p : Paper). ledger-answers.NewSession b p (ledger.nextOf b ledger.Renew)) (renew-answer b s) (ledger-new-session b s)

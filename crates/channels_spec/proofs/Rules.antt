@@ -13,10 +13,11 @@ use Rattle.ledger_spec.specs.Calls.{isPending, fresh}
 use Rattle.ledger_spec.specs.Words.{answered, stillPending}
 use Rattle.ledger_spec.proofs.Tests.{pick-cases}
 use Rattle.ledger_spec.proofs.Steps.{Step, step, fresh-rules}
+use Rattle.ledger_spec.proofs.Answers.{new-session}
 use Rattle.channels_spec.specs.Table.{Place, free, holds, Table, empty, put, waits, bookIn, placeOf, freePlace, pendingPlace, turn, isOpen, bookOf, TableRules}
-use Rattle.channels_spec.specs.Calls.{Said, Tick, Announce, Reply, Between, Call, Open, Close, Request, To, Told, called, openingNumber, requestNumber, asking, asked, granted, nextOf}
+use Rattle.channels_spec.specs.Calls.{Said, Tick, Announce, Reply, Between, Call, Open, Close, Request, To, Told, Renew, called, openingNumber, requestNumber, asking, asked, granted, renewedPlace, renewed, nextOf}
 use Rattle.channels_spec.specs.Trace.{Calls, none, _▸_, after}
-use Rattle.channels_spec.proofs.Places.{Here, open-here, its-open, not-free, rules-put, rules-freed, rules-last}
+use Rattle.channels_spec.proofs.Places.{Here, open-here, its-open, one-book, not-free, rules-put, rules-freed, rules-last}
 use Rattle.channels_spec.proofs.Views.{Opening, fine-0, wide-10, twice-22, full-21, opening, Asking, busy-14, whole-15, turns, asking-view, none-waits, TurnAt, turn-at}
 
 pub empty-rules : TableRules empty
@@ -55,6 +56,42 @@ granted-rules t r l g =
     rules-last (put t (turn t) _) (turn t) (g .within)
     (rules-put t (turn t) _ r (g .within) (s .rules) (λ j d e c. r .apart j (turn t) d b e is (c ∙ s .channel-same)) (λ e j f. absurd (none-waits t r l j f)))
 
+-- ---- a new session
+
+-- what stands at a place was there before it
+pub record Before (t : Table) (i : ℕ) (b : Book) : Type 0 where
+  pub book : Book
+  pub was : t .place i ≡ holds book
+  pub is : ledger.nextOf book ledger.Renew ≡ b
+
+pub before : (t : Table) (i : ℕ) (b : Book) → renewed t .place i ≡ holds b → Before t i b
+before t i b e = at (t .place i) refl e
+  where
+    at : (p : Place) → t .place i ≡ p → renewedPlace p ≡ holds b → Before t i b
+    at free x y = absurd (not-free y)
+    at (holds d) x y = record { book = d; was = x; is = one-book y }
+
+pub renewed-rules : (t : Table) → TableRules t → TableRules (renewed t)
+renewed-rules t r =
+    record {
+      last-in = r .last-in;
+      sound = λ i b e. (let f = before t i b e in subst StateRules (f .is) (stepped i (f .book) (f .was) .rules));
+      within = λ i b e. (let f = before t i b e in r .within i (f .book) (f .was));
+      apart = λ i j b d e g c. (let f = before t i b e in let k = before t j d g in
+          r .apart i j (f .book) (k .book) (f .was) (k .was) (sym (same-channel i b f) ∙ c ∙ same-channel j d k));
+      one-waits = λ i j e f. absurd (none-pending i (t .place i) refl e);
+    }
+  where
+    stepped : (i : ℕ) (d : Book) → t .place i ≡ holds d → Step d ledger.Renew (ledger.nextOf d ledger.Renew) (ledger.answerTo d ledger.Renew)
+    stepped i d e = step d ledger.Renew (r .sound i d e)
+
+    same-channel : (i : ℕ) (b : Book) (f : Before t i b) → b .channel ≡ f .book .channel
+    same-channel i b f = ap (λ (q : Book). q .channel) (sym (f .is)) ∙ stepped i (f .book) (f .was) .channel-same
+
+    none-pending : (i : ℕ) (p : Place) → t .place i ≡ p → waits (renewedPlace p) ≡ true → ⊥
+    none-pending i free x y = clash y refl
+    none-pending i (holds d) x y = clash y (ap isPending (new-session d (r .sound i d x) .cleared))
+
 -- ---- every call
 
 open-rules : (t : Table) (channel n : ℕ) → TableRules t → Opening t channel n → TableRules (pick (eqb n 0) (put t (freePlace t) (holds (fresh channel))) t)
@@ -80,6 +117,7 @@ rules-kept t (To channel said) r = pick-cases TableRules (isOpen t channel) _ t 
     said-at : Here t channel (placeOf t channel) → TableRules (put t (placeOf t channel) (holds (ledger.nextOf (bookOf t channel) (called channel said))))
     said-at h = subst (λ (b : Book). TableRules (put t (placeOf t channel) (holds (ledger.nextOf b (called channel said))))) (sym (ap bookIn (h .is))) (said-rules t channel _ said r h)
 rules-kept t (Told channel) r = r
+rules-kept t Renew r = renewed-rules t r
 
 pub reached-rules : (calls : Calls) → TableRules (after calls)
 reached-rules none = empty-rules

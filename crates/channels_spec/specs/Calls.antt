@@ -18,13 +18,14 @@ pub data Said : Type 0 where
   Reply : (first status : ℕ) → Said
   Between : (a z : ℕ) → Said
 
--- a request names no channel
+-- a request names no channel, and a new session (request 12) none either
 pub data Call : Type 0 where
   Open : (channel : ℕ) → Call
   Close : (channel : ℕ) → Call
   Request : Call
   To : (channel : ℕ) → Said → Call
   Told : (channel : ℕ) → Call
+  Renew : Call
 
 -- the ledger's own call
 abbrev pub called : ℕ → Said → ledger.Call
@@ -64,6 +65,15 @@ granted t =
       last = turn t;
     }
 
+-- ======== A new session: each ledger has nothing pending, and all else stays, the turn too
+
+abbrev pub renewedPlace : Place → Place
+renewedPlace free = free
+renewedPlace (holds b) = holds (ledger.nextOf b ledger.Renew)
+
+abbrev pub renewed : Table → Table
+renewed t = record { place = λ i. renewedPlace (t .place i); last = t .last }
+
 -- ======== What a channel has to tell: floor, top, how many numbers are missing and held, the
 -- pending request's first and last number or 0 and 0
 
@@ -86,6 +96,7 @@ answerTo t (Close channel) = refusal (closingNumber t channel)
 answerTo t Request = answer (requestNumber t) (pick (eqb (requestNumber t) 0) (bookIn (t .place (turn t)) .channel ∷ asked t .values) [])
 answerTo t (To channel said) = pick (isOpen t channel) (ledger.answerTo (bookOf t channel) (called channel said)) (unopened channel said)
 answerTo t (Told channel) = pick (isOpen t channel) (answer 0 (toldOf (bookOf t channel))) (refusal 18)
+answerTo t Renew = answer 0 []
 
 unfoldable pub nextOf : Table → Call → Table
 nextOf t (Open channel) = pick (eqb (openingNumber t channel) 0) (put t (freePlace t) (holds (fresh channel))) t
@@ -93,3 +104,4 @@ nextOf t (Close channel) = pick (isOpen t channel) (put t (placeOf t channel) fr
 nextOf t Request = pick (eqb (requestNumber t) 0) (granted t) t
 nextOf t (To channel said) = pick (isOpen t channel) (put t (placeOf t channel) (holds (ledger.nextOf (bookOf t channel) (called channel said)))) t
 nextOf t (Told channel) = t
+nextOf t Renew = renewed t

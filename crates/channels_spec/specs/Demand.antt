@@ -5,15 +5,16 @@ use mathlib.Core.Path.{_≡_}
 use mathlib.Core.Bool.{Bool, true, false}
 use mathlib.Core.Logic.{_⊎_, _↔_}
 use mathlib.Core.List.{List, [], _∷_}
-use Prim.Native.Nat.{ℕ, _+_, _≤_, _<_}
+use Prim.Native.Nat.{ℕ, _+_, _%_, _≤_, _<_}
 use Rattle.terms.specs.Paper.{Paper, answer, refusal}
 use Rattle.ledger_spec.specs.State.{Book}
+use Rattle.ledger_spec.specs.Calls as ledger
 use Rattle.ledger_spec.specs.Trace as ledger-trace
 use Rattle.ledger_spec.specs.Words.{valueAt, answered, pending}
 use Rattle.ledger_spec.specs.Answers.{TickAnswers, AnnounceAnswers, ReplyAnswers}
 use Rattle.ledger_spec.specs.Between.{BetweenAnswers}
 use Rattle.ledger_spec.specs.Demand3.{SomeMissing, LowestRun, Demand3}
-use Rattle.channels_spec.specs.Table.{Place, free, holds, Table, waits, counted, placeOf, bookOf}
+use Rattle.channels_spec.specs.Table.{Place, free, holds, Table, waits, placeOf, bookOf}
 use Rattle.channels_spec.specs.Calls.{Call, Request, To, Tick, Announce, Reply, Between, answerTo, nextOf}
 use Rattle.channels_spec.specs.Trace.{Calls, _▸_, after, History, trace, followed}
 use Rattle.channels_spec.specs.Words.{opened, since, ownHistory, Line, quiet, asks, line, pendingOn, granted, grants, grantsOn}
@@ -91,15 +92,15 @@ pub record OnePending (h : History) (t : Table) : Type 0 where
 -- ======== Whose turn
 
 -- "The next one goes to the first channel with something missing, counted round from the place
--- after the last one asked": `counted t k` is k places on from there
+-- after the last one asked": the place k steps on from there is (t .last + 1 + k) % 32
 pub record Turn (h : History) (t : Table) (a : Paper) : Type 0 where
   pub steps : ℕ
   pub book : Book
   pub below-32 : steps < 32
-  pub there : t .place (counted t steps) ≡ holds book
+  pub there : t .place ((t .last + 1 + steps) % 32) ≡ holds book
   pub channel-is : valueAt a 0 ≡ book .channel
   pub misses-one : Misses (book .channel) h
-  pub none-before : (k : ℕ) (b : Book) → k < steps → t .place (counted t k) ≡ holds b → Misses (b .channel) h → ⊥
+  pub none-before : (k : ℕ) (b : Book) → k < steps → t .place ((t .last + 1 + k) % 32) ≡ holds b → Misses (b .channel) h → ⊥
 
 -- the place last asked is that of the channel which the last granted request went to; nothing but a
 -- grant moves it (`counts-from-first` of proofs/Fair.antt: at first counting begins at place 0)
@@ -117,3 +118,14 @@ abbrev pub AskedWithin32 : Type 0
 AskedWithin32 =
     (channel : ℕ) (calls : Calls) (more : List Call) → KeepsMissing channel calls more → grants (trace calls) + 32 ≤ grants (trace (followed calls more))
     → grantsOn channel (trace calls) < grantsOn channel (trace (followed calls more))
+
+-- ======== A new session (request 12)
+
+-- told from the calls: nothing is pending, each channel has seen a new session, and no other word
+-- changes. (`NewSession` of Given.antt tells it of the table.)
+pub record SessionTold (h next : History) : Type 0 where
+  pub none-pending : line next ≡ quiet
+  pub opened-same : (channel : ℕ) → opened channel next ≡ opened channel h
+  pub since-has : (channel : ℕ) → since channel next ≡ ledger-trace._▸_ (since channel h) ledger.Renew
+  pub grants-same : grants next ≡ grants h
+  pub grants-on-same : (channel : ℕ) → grantsOn channel next ≡ grantsOn channel h

@@ -6,14 +6,16 @@ use mathlib.Core.Path.{_≡_}
 use mathlib.Core.Bool.{true, false}
 use mathlib.Core.Logic.{_⊎_}
 use Prim.Native.Nat.{ℕ, _≤_, _<_}
-use Rattle.terms.specs.Paper.{Paper}
-use Rattle.ledger_spec.specs.State.{Book, largest, range}
+use mathlib.Core.List.{[]}
+use Rattle.terms.specs.Paper.{Paper, answer}
+use Rattle.ledger_spec.specs.State.{Book, largest, nothing, range}
 use Rattle.ledger_spec.specs.Calls.{fresh}
 use Rattle.ledger_spec.specs.Words.{answered}
 use Rattle.ledger_spec.specs.Given.{MissingAt, StatusRight}
+use Rattle.ledger_spec.specs.Answers as ledger-answers
 use Rattle.ledger_spec.specs.Answers.{OnlyTop}
 use Rattle.channels_spec.specs.Table.{Place, free, holds, Table}
-use Rattle.channels_spec.specs.Calls.{Call, Open, Close, Request, To, Told, Tick}
+use Rattle.channels_spec.specs.Calls.{Call, Open, Close, Request, To, Told, Renew, Tick}
 
 -- a channel is open: its ledger stands at a place
 pub record OpenIn (t : Table) (channel : ℕ) : Type 0 where
@@ -85,7 +87,8 @@ pub record FineRequest (t : Table) : Type 0 where
   pub none-pending : SomePending t → ⊥
   pub some : SomeMisses t
 
--- ======== 18: the call names a channel that is not open. An opening and a request name none
+-- ======== 18: the call names a channel that is not open. An opening, a request and a new
+-- session name none
 
 abbrev pub Names : Call → ℕ → Type 0
 Names (Open c) channel = ⊥
@@ -93,6 +96,7 @@ Names (Close c) channel = c ≡ channel
 Names Request channel = ⊥
 Names (To c said) channel = c ≡ channel
 Names (Told c) channel = c ≡ channel
+Names Renew channel = ⊥
 
 pub record Given18 (t : Table) (call : Call) : Type 0 where
   pub channel : ℕ
@@ -141,3 +145,16 @@ pub record Raises (t : Table) (call : Call) (next : Table) : Type 0 where
 pub record Keeps (t : Table) (call : Call) (next : Table) (a : Paper) : Type 0 where
   pub same : answered a 0 ≡ false → answered a 12 ≡ false → next ≡ t
   pub far : answered a 12 ≡ true → Raises t call next
+
+-- ======== A new session (request 12)
+
+-- it is answered 0; the ledger with a request pending is the same but for that request; every other
+-- place, and the place last asked, are as they were
+pub record NewSession (t : Table) (a : Paper) (next : Table) : Type 0 where
+  pub answer-is : a ≡ answer 0 []
+  pub last-same : next .last ≡ t .last
+  pub free-same : (i : ℕ) → t .place i ≡ free → next .place i ≡ free
+  pub others-same : (i : ℕ) (b : Book) → t .place i ≡ holds b → b .pending ≡ nothing → next .place i ≡ t .place i
+  pub next-book : (i : ℕ) (b : Book) → t .place i ≡ holds b → Book
+  pub there : (i : ℕ) (b : Book) (e : t .place i ≡ holds b) → next .place i ≡ holds (next-book i b e)
+  pub only-cleared : (i : ℕ) (b : Book) (e : t .place i ≡ holds b) → ledger-answers.NewSession b (answer 0 []) (next-book i b e)

@@ -71,9 +71,12 @@ unfoldable pub pendingPlace : Table → ℕ
 pendingPlace t = least (λ i. waits (t .place i)) 32
 
 -- the next request goes to the first place with something missing, "counted round from the place
--- after the last one asked"
+-- after the last one asked": k places on from there
+abbrev pub nextPlace : Table → ℕ
+nextPlace t = t .last + 1
+
 abbrev pub counted : Table → ℕ → ℕ
-counted t k = (t .last + 1 + k) % 32
+counted t k = (nextPlace t + k) % 32
 
 unfoldable pub steps : Table → ℕ
 steps t = least (λ k. misses (t .place (counted t k))) 32

@@ -21,7 +21,7 @@ use Rattle.walk_laws.specs.Frames.{eachOf, f-nil, f-cons, taggedOf, framesIn, r
 use Rattle.reading.specs.declared.Seen.{Seen}
 use Rattle.reading.specs.Seen.{seenOf, saysOf}
 use Rattle.reading.specs.SeenLaws.{says-frame, frame-says}
-use Rattle.walk_spec.specs.Offers.{callsBy, answered, offerOf}
+use Rattle.walk_spec.specs.Offers.{callsBy, offering, offerOf}
 use Rattle.walk_spec.specs.OfferLaws.{calls-refused}
 use Rattle.walk_spec.specs.Walk.{madeOf, recordBy, bookBy, sights, walkOf, accepts, refuses, framesOf, refusedOf, added, callsFrom, callsOf}
 use Rattle.walk_spec.specs.CallLaws.{walk-ledger}
@@ -138,8 +138,8 @@ book-nowhere b x = refl
 
 -- a refused reading leaves the ledger as it is
 book-refused : (b : Book) (x : Sight Seen) → (x .read .answer ≡ 0 → ⊥) → bookBy b x ≡ b
-unfolding bookBy offerOf answered
-book-refused b x ne = ap (λ (calls : List Call). answered b (x .read .answer) calls .book) (calls-refused (x .read) ne)
+unfolding bookBy offerOf offering
+book-refused b x ne = ap (λ (calls : List Call). offering b (x .read .answer) calls .book) (calls-refused (x .read) ne)
 
 records-reads : (b : Book) (xs : List (Sight Seen)) → eachOf unplaced (frameRecords b xs) ≡ recordsMade b (reads xs)
 unfolding frameRecords eachOf readsOf recordsMade

@@ -1,0 +1,249 @@
+//! `gaps`: which tick numbers are missing, channel by channel.
+
+mod common;
+
+use std::collections::BTreeSet;
+use std::process::Command;
+
+use common::*;
+
+fn ticks(channel: u16, numbers: &[u64]) -> Vec<u8> {
+    let frames = numbers.iter().map(|n| tick_on(channel, *n, b""));
+    frames.collect::<Vec<_>>().concat()
+}
+
+fn announced(channel: u16, last: u64) -> Vec<u8> {
+    let body = [&[13][..], &channel.to_be_bytes(), &last.to_be_bytes(), b"N"];
+    frame(b"P001", 1, &body.concat())
+}
+
+/// What it prints of a capture, with nothing on standard error.
+#[track_caller]
+fn told(capture: &[u8], status: i32, lines: &[&str]) {
+    let folder = Folder::new();
+    let lines: String = lines.iter().map(|line| format!("{line}\n")).collect();
+    run_on(&folder, &["gaps"], capture).quiet(status, &lines);
+    run_on(&folder, &["gaps", "-"], capture).quiet(status, &lines);
+}
+
+#[test]
+fn a_gap_has_its_numbers() {
+    told(
+        &ticks(1, &[1, 2, 5, 9]),
+        1,
+        &[
+            "channel 1: floor 2, top 9, missing 5: 3-4 6-8",
+            "next request: channel 1, 3 to 4",
+        ],
+    );
+    told(
+        &ticks(7, &[1, 2, 3]),
+        0,
+        &["channel 7: floor 3, top 3, missing 0", "next request: none"],
+    );
+    told(
+        &ticks(7, &[3]),
+        1,
+        &[
+            "channel 7: floor 0, top 3, missing 2: 1-2",
+            "next request: channel 7, 1 to 2",
+        ],
+    );
+    told(b"", 0, &["next request: none"]);
+    told(
+        &[heartbeats(2), logon("A", "B")].concat(),
+        0,
+        &["next request: none"],
+    );
+}
+
+/// Channels come in the order in which the captures name them. An announcement names one too.
+#[test]
+fn several_channels() {
+    let capture = [
+        ticks(9, &[1, 2]),
+        announced(3, 4),
+        ticks(100, &[2]),
+        ticks(3, &[1]),
+    ];
+    told(
+        &capture.concat(),
+        1,
+        &[
+            "channel 9: floor 2, top 2, missing 0",
+            "channel 3: floor 1, top 4, missing 3: 2-4",
+            "channel 100: floor 0, top 2, missing 1: 1",
+            "next request: channel 3, 2 to 4",
+        ],
+    );
+}
+
+/// A tick more than 256 above the floor is not taken: the numbers up to it are missing, also those
+/// of 18 digits. A request has at most 200 numbers.
+#[test]
+fn far_ticks_and_large_numbers() {
+    told(
+        &ticks(5, &[1, 300]),
+        1,
+        &[
+            "channel 5: floor 1, top 300, missing 299: 2-300",
+            "next request: channel 5, 2 to 201",
+        ],
+    );
+    let last = 999_999_999_999_999_999;
+    told(
+        &[ticks(5, &[1, 4]), announced(5, last)].concat(),
+        1,
+        &[
+            "channel 5: floor 1, top 999999999999999999, missing 999999999999999997: 2-3 5-999999999999999999",
+            "next request: channel 5, 2 to 3",
+        ],
+    );
+}
+
+/// At most 20 runs, and then how many more.
+#[test]
+fn many_runs() {
+    let even: Vec<u64> = (1..=20).map(|n| 2 * n).collect();
+    let runs = |n: u64| (0..n).map(|i| (2 * i + 1).to_string()).collect::<Vec<_>>();
+    let line = format!(
+        "channel 1: floor 0, top 40, missing 20: {}",
+        runs(20).join(" ")
+    );
+    told(
+        &ticks(1, &even),
+        1,
+        &[&line, "next request: channel 1, 1 to 1"],
+    );
+    let even: Vec<u64> = (1..=25).map(|n| 2 * n).collect();
+    let line = format!(
+        "channel 1: floor 0, top 50, missing 25: {} and 5 more",
+        runs(20).join(" ")
+    );
+    told(
+        &ticks(1, &even),
+        1,
+        &[&line, "next request: channel 1, 1 to 1"],
+    );
+}
+
+/// Ticks in any order, with repeats: what is missing is what never came, up to the largest.
+#[test]
+fn ticks_in_any_order() {
+    let folder = Folder::new();
+    let dice = &mut Dice(7);
+    for _ in 0..40 {
+        let numbers: Vec<u64> = (0..dice.below(200))
+            .map(|_| 1 + dice.below(256) as u64)
+            .collect();
+        let came: BTreeSet<u64> = numbers.iter().copied().collect();
+        let Some(top) = came.last() else {
+            continue;
+        };
+        let missing: Vec<u64> = (1..=*top).filter(|n| !came.contains(n)).collect();
+        let floor = missing.first().map_or(*top, |first| first - 1);
+        let ran = run_on(&folder, &["gaps"], &ticks(2, &numbers));
+        let line = ran.out().lines().next().unwrap();
+        let start = format!(
+            "channel 2: floor {floor}, top {top}, missing {}",
+            missing.len()
+        );
+        assert!(line.starts_with(&start), "{line}");
+        let (runs, more) = line[start.len()..]
+            .split_once(" and ")
+            .unwrap_or((&line[start.len()..], ""));
+        let mut named = Vec::new();
+        for run in runs
+            .trim_start_matches(": ")
+            .split(' ')
+            .filter(|run| !run.is_empty())
+        {
+            let (first, last) = run.split_once('-').unwrap_or((run, run));
+            named.extend(first.parse::<u64>().unwrap()..=last.parse().unwrap());
+        }
+        assert_eq!(named, missing[..named.len()]);
+        assert_eq!(more.is_empty(), named.len() == missing.len());
+        assert_eq!(ran.status, Some(i32::from(!missing.is_empty())));
+    }
+}
+
+/// Captures are one after the other: what the first lacks may be in the second.
+#[test]
+fn captures_in_a_row() {
+    let folder = Folder::new()
+        .with("a", &ticks(1, &[1, 2, 5]))
+        .with("b", &ticks(1, &[3, 4, 7]));
+    let whole = "channel 1: floor 5, top 7, missing 1: 6\nnext request: channel 1, 6 to 6\n";
+    run(&folder, &["gaps", "a", "b"]).quiet(1, whole);
+    let first = "channel 1: floor 2, top 5, missing 2: 3-4\nnext request: channel 1, 3 to 4\n";
+    run(&folder, &["gaps", "a"]).quiet(1, first);
+    let ran = run(&folder, &["gaps", "a", "no", "b"]);
+    let said = "rietknoest: no: No such file or directory\n";
+    assert_eq!((ran.status, ran.out(), ran.error()), (Some(2), whole, said));
+}
+
+/// The table has 32 places; frames of further channels are told of.
+#[test]
+fn more_channels_than_the_table_has() {
+    let folder = Folder::new();
+    let all = |n: u16| (1..=n).map(|c| ticks(c, &[1])).collect::<Vec<_>>().concat();
+    let ran = run_on(&folder, &["gaps"], &all(32));
+    assert_eq!((ran.status, ran.error()), (Some(0), ""));
+    assert_eq!(ran.out().lines().count(), 33);
+    let capture = [all(34), ticks(33, &[2])].concat();
+    let ran = run_on(&folder, &["gaps"], &capture);
+    let said = "rietknoest: 32 channels are counted, and not 3 frames of 2 more channels\n";
+    assert_eq!((ran.status, ran.error()), (Some(1), said));
+    assert_eq!(ran.out().lines().count(), 33);
+}
+
+/// Where a reading was refused a tick may have been.
+#[test]
+fn damage_is_told() {
+    let folder = Folder::new().with("in", &[ticks(1, &[1]), vec![0; 9]].concat());
+    let ran = run(&folder, &["gaps", "in"]);
+    let said = "rietknoest: in: 1 reading refused, and what is there not counted: 'rietknoest list' has the places\n";
+    assert_eq!((ran.status, ran.error()), (Some(1), said));
+    let out = "channel 1: floor 1, top 1, missing 0\nnext request: none\n";
+    assert_eq!(ran.out(), out);
+}
+
+#[test]
+fn the_objects_of_gaps() {
+    let folder = Folder::new();
+    let capture = [ticks(1, &[1, 2, 5, 9]), ticks(2, &[1])].concat();
+    let objects = r#"{"channel":1,"floor":2,"top":9,"missing":5,"held":2,"ranges":[{"first":3,"last":4},{"first":6,"last":8}],"more":0}
+{"channel":2,"floor":1,"top":1,"missing":0,"held":0,"ranges":[],"more":0}
+{"request":{"channel":1,"first":3,"last":4}}
+"#;
+    run_on(&folder, &["gaps", "--json"], &capture).quiet(1, objects);
+    run_on(&folder, &["gaps", "--json"], b"").quiet(0, "{\"request\":null}\n");
+    let mut python = Command::new("python3");
+    python.args([
+        "-c",
+        "import json, sys\nfor line in sys.stdin: print(sorted(json.loads(line)))",
+    ]);
+    let ran = finish(python, objects.as_bytes());
+    assert_eq!(ran.out().lines().count(), 3, "{}", ran.error());
+}
+
+/// A capture of the sample's kind, damaged in any way: it agrees with the listing's channel 100.
+#[test]
+fn it_agrees_with_the_listing() {
+    let folder = Folder::new();
+    let dice = &mut Dice(8);
+    for round in 0..40 {
+        let capture = damaged(dice);
+        let listed = run_on(&folder, &["list", "--summary"], &capture);
+        let told = run_on(&folder, &["gaps"], &capture);
+        let counts: Vec<_> = listed.out().trim_end().split(' ').collect();
+        let (floor, top, missing) = (counts[5], counts[7], counts[9]);
+        let start = format!("channel 100: floor {floor}, top {top}, missing {missing}");
+        let mut lines = told.out().lines();
+        let line = lines.find(|line| line.starts_with("channel 100: "));
+        match line {
+            Some(line) => assert!(line.starts_with(&start), "{round}: {line}"),
+            None => assert_eq!((top, missing), ("0", "0"), "{round}"),
+        }
+    }
+}
