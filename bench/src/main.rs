@@ -2,6 +2,7 @@
 //!
 //!     cargo run --release -p bench            everything
 //!     cargo run --release -p bench -- small   without the captures of 10 and 100 MB
+//!     cargo run --release -p bench -- session the rows of a session alone
 //!
 //! Each job runs both ways in turn several times, and the best time of each counts. The answers are compared first.
 
@@ -9,8 +10,10 @@ mod made;
 mod market;
 mod plain;
 mod plain_step;
+mod session;
 mod shift;
 mod step;
+mod times;
 
 use made::Dice;
 use rietknoest_host as host;
@@ -630,10 +633,16 @@ fn main() {
     let small = std::env::args().any(|a| a == "small");
     println!("| Job | Input | ours | plain Rust | ratio | goal |");
     println!("|---|---|---|---|---|---|");
+    if std::env::args().any(|a| a == "session") {
+        session::rows();
+        return;
+    }
     sum_and_fill();
+    times::row();
     replies();
     spans();
     step::rows();
+    session::rows();
     captures("64 KiB", KIB_64);
     market::race();
     if !small {

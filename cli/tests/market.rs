@@ -67,6 +67,15 @@ fn the_sum_is_46_and_one_file_is_taken() {
 }
 
 #[test]
+fn standard_input_is_taken() {
+    let folder = Folder::new();
+    let told = "standard input: sound, 2 lines\n";
+    run_on(&folder, &["market", "-"], SAMPLE).quiet(0, told);
+    let told = "standard input: 40 at 100: the file ends where more is due\n";
+    run_on(&folder, &["market", "-"], &SAMPLE[..100]).quiet(1, told);
+}
+
+#[test]
 fn no_byte_of_the_file_is_shown() {
     let mark = b"SECRETMARKS";
     for place in [201, 88, 49] {

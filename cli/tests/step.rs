@@ -111,6 +111,49 @@ fn a_frame_is_explained_without_a_private_value() {
     }
 }
 
+/// Whatever the command is asked of a capture with damage in it, it writes none of the private values, to no output and no file.
+#[test]
+fn no_private_value_is_written() {
+    let mut damaged = logon();
+    damaged[20] ^= 1;
+    let capture = [logon(), damaged, logout(), b"s3cretword".to_vec()].concat();
+    let folder = Folder::new().with("in", &capture);
+    let mut words: Vec<String> = [
+        "check --step in",
+        "scrub --step in -o out",
+        "scrub --step in -o -",
+        "scrub --step in -o none --whole",
+        "check --step out",
+        "scrub --step out -o again",
+        "list in",
+        "check in",
+        "scrub in -o plain",
+        "market in",
+    ]
+    .map(String::from)
+    .into();
+    words.extend((0..=capture.len()).map(|place| format!("explain --step in {place}")));
+    for line in words {
+        let ran = run(&folder, &line.split(' ').collect::<Vec<_>>());
+        assert_ne!(ran.status, Some(2), "{line}");
+        told_nothing(&ran.out, &line);
+        told_nothing(&ran.error, &line);
+    }
+    assert_eq!(folder.names(), ["again", "in", "out", "plain"]);
+    for name in ["again", "out", "plain"] {
+        told_nothing(&fs::read(folder.path(name)).unwrap(), name);
+    }
+}
+
+fn told_nothing(bytes: &[u8], of: &str) {
+    for word in PRIVATE {
+        assert!(
+            !bytes.windows(word.len()).any(|w| w == word.as_bytes()),
+            "{of}"
+        );
+    }
+}
+
 #[test]
 fn a_capture_of_the_other_line_is_told_of() {
     let folder = Folder::new().with("in", &logon());
@@ -118,6 +161,8 @@ fn a_capture_of_the_other_line_is_told_of() {
         &["check", "in"][..],
         &["list", "in"],
         &["explain", "in", "0"],
+        &["scrub", "in", "-o", "-"],
+        &["scrub", "in", "-o", "-", "--whole"],
     ] {
         let told = run(&folder, words);
         assert!(

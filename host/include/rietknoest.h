@@ -252,12 +252,17 @@ uint32_t rk_ledger_request(rk_ledger *state, uint16_t channel, rk_request *told)
 uint32_t rk_ledger_reply(rk_ledger *state, uint16_t channel, uint64_t first, uint8_t status,
                          rk_settled *told);
 
+/* A new session of the line begins: what was requested on the old line will not be answered on the
+ * new one, and is no longer pending. Nothing else changes.
+ * Returns 0, 13. 0 writes *state. */
+uint32_t rk_ledger_renew(rk_ledger *state);
+
 /* What a ledger holds.
  * Returns 0, 13. 0 writes *told. */
 uint32_t rk_ledger_told(const rk_ledger *state, rk_told *told);
 
 /* How many numbers from a to b, both included, are missing: neither received nor given up, and not
- * above the top. 0 if b is below a. It takes the same time for any span.
+ * above the top. 0 if b is below a. No span takes longer than one of 256 numbers.
  * Returns 0, 10 (a or b is 0 or has more than 18 digits), 13, 18. 0 writes *told. */
 uint32_t rk_ledger_missing(const rk_ledger *state, uint16_t channel, uint64_t a, uint64_t b,
                            uint64_t *told);
@@ -314,10 +319,10 @@ uint32_t rk_is_clean(const uint8_t *capture, size_t len, rk_found *told);
  * become a frame. Each call takes some microseconds, so collect single bytes first.
  *
  * Keep and copy the struct as you like, but do not read or make its words and bytes. The ledger may
- * be passed to rk_listing, rk_ledger_told, rk_ledger_missing, rk_ledger_request and
- * rk_ledger_reply. The last two
- * change its pending request, and a reply of status 4 its floor and map too: in these it then differs
- * from rk_walk's. A call on a stream that breaks the state rules returns 13. */
+ * be passed to rk_listing, rk_ledger_told, rk_ledger_missing, rk_ledger_request, rk_ledger_reply
+ * and rk_ledger_renew. The last three change its pending request, and a reply of status 4 its floor
+ * and map too: in these it then differs from rk_walk's. A call on a stream that breaks the state
+ * rules returns 13. */
 typedef struct {
     uint64_t words[6];
     rk_ledger ledger;
@@ -405,23 +410,24 @@ enum rk_market {
     RK_MARKET_LARGE = 47      /* above 65,536 bytes */
 };
 
-/* An answer: RK_DONE, a number above, or RK_ROOM. Beside RK_DONE a count: of lines, or of the bytes written. Beside 40 to 43 and 45 the
- * place of the fault, beside the others 0. */
+/* An answer: RK_DONE, a number above, or RK_ROOM. Beside RK_DONE a count: of lines, or of the bytes
+ * written. Beside 40 to 43 and 45 the place of the fault, beside the others 0. */
 typedef struct {
     uint64_t number;
     uint64_t place;
 } rk_finding;
 RK_SIZE(rk_finding, 2);
 
-/* Whether a file is sound. 0 and its lines; 40 to 47, the lowest place first, 44 and 46 only where nothing else is wrong. */
+/* Whether a file is sound. 0 and its lines; 40 to 47, the lowest place first, 44 and 46 only where
+ * nothing else is wrong. */
 rk_finding rk_market_check(const uint8_t *file, size_t len);
 
 /* The values of a file. As rk_market_check, then 8; len bytes are always room enough.
  * 0 writes out's first place bytes. */
 rk_finding rk_market_values(const uint8_t *file, size_t len, uint8_t *out, size_t out_len);
 
-/* The file that values make: count and sum are worked out. 40, 42, 43 by rising place among the values, then 47, then 8; 65,536 bytes are
- * always room enough.
+/* The file that values make: count and sum are worked out. 40, 42, 43 by rising place among the
+ * values, then 47, then 8; 65,536 bytes are always room enough.
  * 0 writes out's first place bytes. */
 rk_finding rk_market_write(const uint8_t *values, size_t len, uint8_t *out, size_t out_len);
 
@@ -436,7 +442,8 @@ rk_finding rk_market_write(const uint8_t *values, size_t len, uint8_t *out, size
  * each frame.
  *
  * Keep and copy the words as you like, but do not read or make them. A call on words that break the
- * state rules returns 13. A new session is rk_session_open again. */
+ * state rules returns 13. A new session is rk_session_open again, and rk_ledger_renew for each
+ * ledger that you keep. */
 typedef struct {
     uint64_t words[8];
 } rk_session;

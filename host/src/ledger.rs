@@ -25,7 +25,7 @@ pub struct Passed {
 
 /// The range of a resend request: its first and last number.
 #[derive(Clone, Copy, Debug, Default, PartialEq, Eq)]
-#[must_use = "the range is pending until the exchange replies: send it"]
+#[must_use = "the range is pending until the exchange replies or a new session begins: send it"]
 #[repr(C)]
 pub struct Request {
     pub first: TickNumber,
@@ -140,6 +140,12 @@ impl Ledger {
         result(answer, settled)
     }
 
+    /// A new session of the line begins: what was requested on the old line will not be answered on
+    /// the new one, and is no longer pending. Nothing else changes.
+    pub fn renew(&mut self) -> Result<(), Refusal> {
+        result(raw::ledger_renew(self), ())
+    }
+
     /// What the ledger holds, or 13.
     pub fn status(&self) -> Result<LedgerStatus, Refusal> {
         let mut row = raw::StatusRow::default();
@@ -148,7 +154,7 @@ impl Ledger {
     }
 
     /// How many numbers from `a` to `b`, both included, are missing: neither received nor given up,
-    /// and not above the top. 0 if `b` is below `a`. It takes the same time for any span.
+    /// and not above the top. 0 if `b` is below `a`. No span takes longer than one of 256 numbers.
     pub fn missing_between(
         &self,
         channel: ChannelNumber,

@@ -132,6 +132,7 @@ extern "C" {
     fn rk_ledger_announce(state: *mut Ledger, channel: u16, last: u64) -> u32;
     fn rk_ledger_request(state: *mut Ledger, channel: u16, told: *mut Request) -> u32;
     fn rk_ledger_reply(state: *mut Ledger, channel: u16, first: u64, status: u8, told: *mut Settled) -> u32;
+    fn rk_ledger_renew(state: *mut Ledger) -> u32;
     fn rk_ledger_told(state: *const Ledger, told: *mut StatusRow) -> u32;
     fn rk_ledger_missing(state: *const Ledger, channel: u16, a: u64, b: u64, told: *mut u64) -> u32;
     fn rk_walk(capture: *const u8, len: usize, records: *mut u8, records_len: usize, state: *mut Ledger, told: *mut Counts) -> u32;
@@ -254,6 +255,11 @@ pub fn ledger_reply(
     // SAFETY: `state` and `told` are rows of nine, and any words in them are allowed; they can't
     // overlap: both are `&mut`.
     unsafe { rk_ledger_reply(state, channel.value(), first.value(), status, told) }
+}
+
+pub fn ledger_renew(state: &mut Ledger) -> u32 {
+    // SAFETY: `state` is a row of nine, and any words in it are allowed.
+    unsafe { rk_ledger_renew(state) }
 }
 
 pub fn ledger_told(state: &Ledger, told: &mut StatusRow) -> u32 {

@@ -72,7 +72,8 @@ pub struct Arrival {
 }
 
 impl Session {
-    /// A new session: both counters at 1.
+    /// A new session: both counters at 1. Renew each ledger that is kept from an earlier one
+    /// ([`Ledger::renew`](crate::Ledger::renew)).
     #[must_use]
     pub fn open() -> Session {
         let mut session = Session { words: [0; 8] };

@@ -1,13 +1,16 @@
 //! STEP frames: read, written and scrubbed, field by field.
 
+use std::fmt;
+
 use crate::numbers::{result, Refusal};
 use crate::raw;
 
 /// A frame has at most so many bytes.
 pub const LONGEST: usize = 8_192;
 
-/// A frame that reads: its type and its fields, as they stand in the bytes that it was read from.
-#[derive(Clone, Copy, Debug, PartialEq, Eq)]
+/// A frame that reads: its type and its fields, as they stand in the bytes that it was read from. A
+/// field may be a password: so `Debug` shows lengths and tags, and no byte of a value.
+#[derive(Clone, Copy, PartialEq, Eq)]
 pub struct Frame<'a> {
     /// One of A 5 0 1 2 3 4.
     pub kind: u8,
@@ -44,7 +47,7 @@ impl<'a> Frame<'a> {
 }
 
 /// A field, and where its value starts among the fields.
-#[derive(Clone, Copy, Debug, PartialEq, Eq)]
+#[derive(Clone, Copy, PartialEq, Eq)]
 pub struct Field<'a> {
     pub tag: u64,
     pub value: &'a [u8],
@@ -52,10 +55,40 @@ pub struct Field<'a> {
 }
 
 /// The fields of a message, one after the other; it ends where none stands.
-#[derive(Clone, Debug)]
+#[derive(Clone)]
 pub struct Fields<'a> {
     fields: &'a [u8],
     place: usize,
+}
+
+impl fmt::Debug for Frame<'_> {
+    fn fmt(&self, f: &mut fmt::Formatter<'_>) -> fmt::Result {
+        f.debug_struct("Frame")
+            .field("kind", &char::from(self.kind))
+            .field("fields_len", &self.fields.len())
+            .field("place", &self.place)
+            .field("len", &self.len)
+            .finish()
+    }
+}
+
+impl fmt::Debug for Field<'_> {
+    fn fmt(&self, f: &mut fmt::Formatter<'_>) -> fmt::Result {
+        f.debug_struct("Field")
+            .field("tag", &self.tag)
+            .field("value_len", &self.value.len())
+            .field("place", &self.place)
+            .finish()
+    }
+}
+
+impl fmt::Debug for Fields<'_> {
+    fn fmt(&self, f: &mut fmt::Formatter<'_>) -> fmt::Result {
+        f.debug_struct("Fields")
+            .field("fields_len", &self.fields.len())
+            .field("place", &self.place)
+            .finish()
+    }
 }
 
 impl<'a> Iterator for Fields<'a> {

@@ -16,8 +16,8 @@ pub const KEPT: usize = 8_191;
 #[repr(C)]
 pub struct Stream {
     words: [u64; 6],
-    /// The ledger of channel 100. You may make a request or a reply on it between two calls; the
-    /// walk makes neither.
+    /// The ledger of channel 100. You may make a request or a reply on it, or renew it, between two
+    /// calls; the walk does none of these.
     pub ledger: Ledger,
     kept: [u8; KEPT],
 }

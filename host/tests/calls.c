@@ -276,6 +276,10 @@ int main(void) {
                 for (n = t.row.first; n < end; n++) if (RK_IN(t.row.passed, n)) TELL(n);
             }
             ledger_kept(&was, answer);
+        } else if (strcmp(name, "renew") == 0) {
+            answer = rk_ledger_renew(&ledger);
+            printf("%" PRIu32, answer);
+            ledger_kept(&was, answer);
         } else if (strcmp(name, "missing") == 0) {
             uint16_t channel = (uint16_t)number();
             uint64_t a = number(), b = number();

@@ -183,6 +183,10 @@ impl Answers for Library {
         Ok(settled)
     }
 
+    fn renew(&self, words: &mut Words) -> Answer<()> {
+        on(words, Ledger::renew)
+    }
+
     fn told(&self, words: &Words) -> Answer<Told> {
         let status = plain(Ledger::from_words(*words).status())?;
         let asked = status.pending.unwrap_or_default();

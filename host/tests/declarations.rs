@@ -45,7 +45,7 @@ fn run(command: &mut Command, input: &[u8]) -> Vec<u8> {
 /// The crates of which the library is made, and how many functions each has for others.
 const EXPORTS: [(&str, usize); 7] = [
     ("host_frames", 8),
-    ("host_ledger", 7),
+    ("host_ledger", 8),
     ("host_session", 7),
     ("host_captures", 4),
     ("host_stream", 3),
@@ -579,7 +579,7 @@ fn ledgers(s: &mut Script, d: &mut Dice) {
         let (near, edge) = (words[1].wrapping_add(d.below(262)), d.edge());
         let n = d.of(&[near, near, near, edge]);
         let (its, tick) = (ChannelNumber::new(channel), TickNumber::new(n));
-        match d.below(8) {
+        match d.below(9) {
             0 => {
                 let answer = ledger.announce(its, tick).map(|()| (vec![], None));
                 s.ask("announce", &format!("{channel} {n}"), answer, Some(&ledger));
@@ -631,6 +631,10 @@ fn ledgers(s: &mut Script, d: &mut Dice) {
                     answer,
                     Some(&ledger),
                 );
+            }
+            5 => {
+                let answer = ledger.renew().map(|()| (vec![], None));
+                s.ask("renew", "", answer, Some(&ledger));
             }
             _ => {
                 let answer = ledger.tick(its, tick);
@@ -1003,6 +1007,20 @@ fn ten_lines_of_c_scrub_a_frame() {
         host::scrub(&mut f).expect("a frame that reads");
         assert!(said == f, "a scrubbed frame differs");
     }
+}
+
+#[test]
+fn ten_lines_of_c_count_what_is_missing() {
+    let program = compiled("cc", "-std=c11", "host/examples/screen.c");
+    let said = run(&mut Command::new(program), b"");
+    assert_eq!(said, b"4 of 1 to 1000 are missing\n");
+}
+
+#[test]
+fn a_program_in_c_prints_what_a_reply_settles() {
+    let program = compiled("cc", "-std=c11", "host/examples/no_data.c");
+    let said = run(&mut Command::new(program), b"");
+    assert_eq!(said, b"given up: 2 3\ndeliver: 4\n");
 }
 
 /// The next frame that a client sends.

@@ -109,6 +109,25 @@ fn the_five_values_become_spaces_and_nothing_else_moves() {
     assert_eq!(wrong, was);
 }
 
+/// What a failed `unwrap` or a log prints of a frame has lengths and tags, no byte of a value.
+#[test]
+fn no_value_is_in_a_debug_text() {
+    let bytes = framed("A", LOGON);
+    let frame = Frame::read(&bytes, 0).unwrap();
+    let texts = [
+        format!("{frame:?}"),
+        format!("{:?}", frame.fields()),
+        format!("{:?}", frame.fields().collect::<Vec<_>>()),
+    ];
+    for text in &texts {
+        assert!(!text.contains("pass") && !text.contains("joe"), "a value");
+        // as a row of bytes: `p` is 112, `a` 97
+        assert!(!text.contains("112, 97"), "a value's bytes");
+    }
+    let told = "Field { tag: 554, value_len: 4, place: 66 }";
+    assert!(texts[2].contains(told));
+}
+
 #[test]
 fn ten_lines_of_c_scrub_a_logon() {
     let root = Path::new(env!("CARGO_MANIFEST_DIR")).join("..");

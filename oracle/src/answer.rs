@@ -49,8 +49,24 @@ pub enum No {
     /// 73 + k sizes with k below NoMDEntries, or that entry passes the body's
     /// end
     Entries,
+    /// 21: the table of channels is full (CR 3)
+    Full,
+    /// 22: the channel is open already (CR 3)
+    Open,
+    /// 27: a 501st capture (CR 11)
+    Captures,
+    /// 28: a sum that would pass 64 bits (CR 11)
+    Sums,
     /// 29: places would pass 64 bits (CR 1)
     Places,
+    /// 30: anything but logon or logout before the logon answer (CR 12)
+    Early,
+    /// 31: MsgSeqNum not the expected one (CR 12)
+    Sequence,
+    /// 32: session over or a counter at its last 64-bit number (CR 12)
+    Over,
+    /// 33: a second logon (CR 12)
+    Again,
 }
 
 impl No {
@@ -76,7 +92,15 @@ impl No {
             No::Channel => 18,
             No::Closed => 19,
             No::Entries => 20,
+            No::Full => 21,
+            No::Open => 22,
+            No::Captures => 27,
+            No::Sums => 28,
             No::Places => 29,
+            No::Early => 30,
+            No::Sequence => 31,
+            No::Over => 32,
+            No::Again => 33,
         }
     }
 }

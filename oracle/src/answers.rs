@@ -123,6 +123,7 @@ pub trait Answers {
         first: Tick,
         status: u8,
     ) -> Answer<Settled>;
+    fn renew(&self, ledger: &mut Words) -> Answer<()>;
     fn told(&self, ledger: &Words) -> Answer<Told>;
     fn missing(&self, ledger: &Words, channel: Channel, a: Tick, b: Tick) -> Answer<u64>;
 
@@ -280,6 +281,10 @@ impl Answers for Oracle {
     ) -> Answer<Settled> {
         let now = Ledger::of_words(*ledger);
         kept(ledger, now.reply(channel, first, status))
+    }
+
+    fn renew(&self, ledger: &mut Words) -> Answer<()> {
+        kept(ledger, Ledger::of_words(*ledger).renew())
     }
 
     fn told(&self, ledger: &Words) -> Answer<Told> {

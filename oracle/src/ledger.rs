@@ -331,6 +331,16 @@ impl Ledger {
         (next, Settled { given_up, passed })
     }
 
+    /// CR 12: "A new session .. clears a pending resend request, and keeps all
+    /// else in the tick ledgers". It names no channel and checks 13 alone.
+    pub fn renew(self) -> (Ledger, Result<(), No>) {
+        if !self.sound() {
+            return (self, Err(No::State));
+        }
+        let pending = Pending::Nothing;
+        (Ledger { pending, ..self }, Ok(()))
+    }
+
     /// How many numbers up to the top were neither received nor given up. A call
     /// too: it checks 13, with a count of 0 then (0.10).
     pub fn missing(self) -> (Ledger, Result<u64, No>) {

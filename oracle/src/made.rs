@@ -547,6 +547,32 @@ pub fn capture(d: &mut Dice, about: usize, most: usize) -> Vec<u8> {
     c
 }
 
+/// A capture of several channels: ticks, announcements and resends of each, some
+/// damaged, and other frames between them.
+pub fn busy_capture(d: &mut Dice, channels: &[u16], about: usize) -> Vec<u8> {
+    let mut c = Vec::new();
+    let starts = [0, 0, 0, 250, DIGITS_18 - 300];
+    let mut ticks: Vec<Ticks> = channels.iter().map(|_| Ticks(d.of(&starts))).collect();
+    let damaged_in = d.of(&[4, 20, 1_000_000]);
+    while c.len() < about {
+        let of = d.len(channels.len());
+        let name = d.of(&[b"M201", b"M201", b"M201", b"P001", b"P002", b"S003"]);
+        let mut body = body(d, name, &mut ticks[of], 40);
+        let channel = u64::from(channels[of]);
+        match name {
+            b"M201" | b"P001" => set(&mut body[1..3], channel),
+            b"P002" => set(&mut body[0..2], channel),
+            _ => (),
+        }
+        let mut f = frame(d, name, &body);
+        if d.once_in(damaged_in) {
+            damage(d, &mut f);
+        }
+        c.extend(f);
+    }
+    c
+}
+
 /// A type, mostly of the table, and a body for it, often spoilt.
 pub fn any_body(d: &mut Dice) -> ([u8; 4], Vec<u8>) {
     let mut name = *d.of(&TYPES);

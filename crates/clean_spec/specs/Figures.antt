@@ -21,7 +21,7 @@ use Rattle.walk_laws.specs.Frames.{eachOf, f-nil, f-cons, taggedOf, framesIn, r
 use Rattle.reading.specs.declared.Seen.{Seen}
 use Rattle.reading.specs.Seen.{seenOf, saysOf}
 use Rattle.reading.specs.SeenLaws.{says-frame, frame-says}
-use Rattle.walk_spec.specs.Offers.{callsBy, answered, offerOf}
+use Rattle.walk_spec.specs.Offers.{callsBy, offering, offerOf}
 use Rattle.walk_spec.specs.OfferLaws.{calls-refused}
 use Rattle.walk_spec.specs.Walk.{madeOf, recordBy, bookBy, sights, walkOf, accepts, refuses, framesOf, refusedOf, added, callsFrom, callsOf}
 use Rattle.walk_spec.specs.CallLaws.{walk-ledger}
@@ -30,7 +30,7 @@ use Rattle.clean_spec.specs.Laws.{AllFrames, clean-sights, clean-reads, 
 
 -- WHAT IS MADE OF THE ACCEPTED READINGS ALONE
 
-abbrev reads : List (Sight Seen) → List Seen
+abbrev pub reads : List (Sight Seen) → List Seen
 reads xs = readsOf seenOf saysOf xs
 
 not-frame : (x : Seen) (w : Says) → saysOf x ≡ w → (x .answer ≡ 0 → ⊥) → framesIn w x ≡ []
@@ -56,11 +56,11 @@ unfolding foundBy
 found-none before n z = rw z
 
 -- an accepted reading comes first, a refused one falls away
-reads-frame : (x : Sight Seen) (xs : List (Sight Seen)) → x .read .answer ≡ 0 → reads (x ∷ xs) ≡ x .read ∷ reads xs
+pub reads-frame : (x : Sight Seen) (xs : List (Sight Seen)) → x .read .answer ≡ 0 → reads (x ∷ xs) ≡ x .read ∷ reads xs
 unfolding readsOf framesIn
 reads-frame x xs z = rw (says-frame (x .read) z)
 
-reads-refused : (x : Sight Seen) (xs : List (Sight Seen)) → (x .read .answer ≡ 0 → ⊥) → reads (x ∷ xs) ≡ reads xs
+pub reads-refused : (x : Sight Seen) (xs : List (Sight Seen)) → (x .read .answer ≡ 0 → ⊥) → reads (x ∷ xs) ≡ reads xs
 unfolding readsOf
 reads-refused x xs ne = ap (λ (l : List Seen). l ++ reads xs) (not-frame (x .read) _ refl ne)
 
@@ -74,11 +74,11 @@ frames-reads (x ∷ xs) =
     (same (x .read .answer) 0)
 
 -- the calls are those of the accepted readings
-callsMade : Calls → List Seen → Calls
+unfoldable pub callsMade : Calls → List Seen → Calls
 callsMade calls [] = calls
 callsMade calls (x ∷ xs) = callsMade (added calls (callsBy x)) xs
 
-calls-reads : (calls : Calls) (xs : List (Sight Seen)) → callsFrom calls xs ≡ callsMade calls (reads xs)
+pub calls-reads : (calls : Calls) (xs : List (Sight Seen)) → callsFrom calls xs ≡ callsMade calls (reads xs)
 unfolding callsFrom readsOf callsMade
 calls-reads calls [] = refl
 calls-reads calls (x ∷ xs) =
@@ -138,8 +138,8 @@ book-nowhere b x = refl
 
 -- a refused reading leaves the ledger as it is
 book-refused : (b : Book) (x : Sight Seen) → (x .read .answer ≡ 0 → ⊥) → bookBy b x ≡ b
-unfolding bookBy offerOf answered
-book-refused b x ne = ap (λ (calls : List Call). answered b (x .read .answer) calls .book) (calls-refused (x .read) ne)
+unfolding bookBy offerOf offering
+book-refused b x ne = ap (λ (calls : List Call). offering b (x .read .answer) calls .book) (calls-refused (x .read) ne)
 
 records-reads : (b : Book) (xs : List (Sight Seen)) → eachOf unplaced (frameRecords b xs) ≡ recordsMade b (reads xs)
 unfolding frameRecords eachOf readsOf recordsMade

@@ -10,6 +10,7 @@ use lib.ListN.{length}
 use borrow.Author.Tests.{lt-ltb, le-ltb, eq-eqb, ne-eqb}
 use Rattle.terms.specs.Paper.{answer, refusal}
 use Rattle.terms.specs.Cases.{two, less}
+use Rattle.terms.specs.Letters.{spelled}
 use Rattle.octets.specs.Octets.{be}
 use Rattle.rules.specs.declared.Kind.the-variants.{M102}
 use Rattle.rules.specs.Table.{measureOf}
@@ -86,14 +87,14 @@ module _ (b : List ℕ) (p : ℕ) where
   unfolding placeAfter
   after-20 h = simp h
 
-  pub entry-short : be 5 10 b ≡ 0x4D44303031 → entryAt b p ≡ answer 0 (be 2 p b ∷ be 8 (p + 2) b ∷ [])
+  pub entry-short : be 5 10 b ≡ spelled "MD001" → entryAt b p ≡ answer 0 (be 2 p b ∷ be 8 (p + 2) b ∷ [])
   unfolding entryAt
   entry-short e = simp (eq-eqb _ _ e)
 
-  pub entry-long : (be 5 10 b ≡ 0x4D44303031 → ⊥) → entryAt b p ≡ answer 0 (be 2 p b ∷ be 8 (p + 2) b ∷ be 8 (p + 10) b ∷ be 1 (p + 18) b ∷ [])
+  pub entry-long : (be 5 10 b ≡ spelled "MD001" → ⊥) → entryAt b p ≡ answer 0 (be 2 p b ∷ be 8 (p + 2) b ∷ be 8 (p + 10) b ∷ be 1 (p + 18) b ∷ [])
   unfolding entryAt
   entry-long e = simp (ne-eqb _ _ e)
 
   pub entry-number : entryAt b p .number ≡ 0
   unfolding entryAt
-  entry-number = ⊎-elim (λ (t : eqb (be 5 10 b) 0x4D44303031 ≡ true). simp t) (λ (f : eqb (be 5 10 b) 0x4D44303031 ≡ false). simp f) (two (eqb (be 5 10 b) 0x4D44303031))
+  entry-number = ⊎-elim (λ (t : eqb (be 5 10 b) (spelled "MD001") ≡ true). simp t) (λ (f : eqb (be 5 10 b) (spelled "MD001") ≡ false). simp f) (two (eqb (be 5 10 b) (spelled "MD001")))

@@ -14,6 +14,7 @@ use Rattle.octets.specs.Octets.{be}
 use Rattle.rules.specs.Rules.{EntrySize, short, long}
 use Rattle.rules.specs.Fields.{entrySize}
 use Rattle.terms.specs.Says.{Says, says-lt, says-le, says-eq, says-and, says-or, says-as}
+use Rattle.terms.specs.Letters.{spelled}
 use Rattle.rules.specs.Meaning.{size-is, size-one, denied}
 use Rattle.entries.specs.Reader.{sizeIn, placed, stands}
 use Rattle.entries.specs.Given.{Stands}
@@ -23,11 +24,11 @@ some-size : (s w : ℕ) → EntrySize s w → 0 < w
 some-size s w (short e x) = omega arith
 some-size s w (long e x) = omega arith
 
-is-short : (s w : ℕ) → EntrySize s w → w ≡ 10 → s ≡ 0x4D44303031
+is-short : (s w : ℕ) → EntrySize s w → w ≡ 10 → s ≡ spelled "MD001"
 is-short s w (short e x) t = e
 is-short s w (long e x) t = absurd (omega arith)
 
-is-10 : (s w : ℕ) → EntrySize s w → s ≡ 0x4D44303031 → w ≡ 10
+is-10 : (s w : ℕ) → EntrySize s w → s ≡ spelled "MD001" → w ≡ 10
 is-10 s w (short e x) h = x
 is-10 s w (long e x) h = absurd (e h)
 
@@ -39,10 +40,10 @@ pub sized : (b : List ℕ) (w : ℕ) → EntrySize (be 5 10 b) w → w ≡ sizeI
 sized b w z = size-one (be 5 10 b) w (sizeIn b) z (size-is (be 5 10 b))
 
 -- the size tells the stream
-pub size-short : (s w : ℕ) → w ≡ entrySize s → w ≡ 10 → s ≡ 0x4D44303031
+pub size-short : (s w : ℕ) → w ≡ entrySize s → w ≡ 10 → s ≡ spelled "MD001"
 size-short s w e t = is-short s (entrySize s) (size-is s) (sym e ∙ t)
 
-pub size-long : (s w : ℕ) → w ≡ entrySize s → (w ≡ 10 → ⊥) → s ≡ 0x4D44303031 → ⊥
+pub size-long : (s w : ℕ) → w ≡ entrySize s → (w ≡ 10 → ⊥) → s ≡ spelled "MD001" → ⊥
 size-long s w e n h = n (e ∙ is-10 s (entrySize s) (size-is s) h)
 
 -- p is 73 + k times w, for a k below n

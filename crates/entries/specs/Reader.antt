@@ -13,6 +13,7 @@ use Rattle.octets.specs.Octets.{be}
 use Rattle.rules.specs.declared.Kind.the-variants.{M102}
 use Rattle.rules.specs.Fields.{entrySize, fieldsOk}
 use Rattle.terms.specs.Verdicts.{verdictNumber}
+use Rattle.terms.specs.Letters.{spelled}
 use Rattle.entries.specs.declared.Entries.{Entries}
 use Rattle.entries.specs.declared.Opened.{Opened}
 use Rattle.entries.specs.declared.Stop.{Stop}
@@ -61,7 +62,7 @@ stands b p = (leb 73 (length b) && placed (be 2 71 b) (sizeIn b) p) && leb (p + 
 -- (document 01, Frame, paragraph 4)
 unfoldable pub entryAt : List ℕ → ℕ → Paper
 entryAt b p =
-    pick (eqb (be 5 10 b) 0x4D44303031)
+    pick (eqb (be 5 10 b) (spelled "MD001"))
     (answer 0 (be 2 p b ∷ be 8 (p + 2) b ∷ []))
     (answer 0 (be 2 p b ∷ be 8 (p + 2) b ∷ be 8 (p + 10) b ∷ be 1 (p + 18) b ∷ []))
 

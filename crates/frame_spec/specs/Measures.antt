@@ -8,16 +8,16 @@ use Rattle.rules.specs.declared.Kind.{Kind}
 use Rattle.rules.specs.Table.{known, suits, measureOf}
 use Rattle.rules.specs.Outcomes.{Measured, m-type, m-long, m-length, m-fine, measured}
 
-pub record Fits (k : Kind) (n : ℕ) : Type 0 where
+pub record LengthFits (k : Kind) (n : ℕ) : Type 0 where
   pub is : known k ≡ true
   pub small : n ≤ 8164
   pub suit : suits k n ≡ true
 
-fits-of : (k : Kind) (n m : ℕ) → Measured k n m → m ≡ 0 → Fits k n
+fits-of : (k : Kind) (n m : ℕ) → Measured k n m → m ≡ 0 → LengthFits k n
 fits-of k n m (m-type e a) z = absurd (omega arith)
 fits-of k n m (m-long e a b) z = absurd (omega arith)
 fits-of k n m (m-length e a b c) z = absurd (omega arith)
 fits-of k n m (m-fine e a b c) z = record { is = a; small = b; suit = c }
 
-pub fits : (k : Kind) (n : ℕ) → measureOf k n ≡ 0 → Fits k n
+pub fits : (k : Kind) (n : ℕ) → measureOf k n ≡ 0 → LengthFits k n
 fits k n z = fits-of k n (measureOf k n) (measured k n) z

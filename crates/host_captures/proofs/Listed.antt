@@ -24,11 +24,11 @@ use Rattle.ledger_spec.proofs.Numbers.{checked-test}
 use Rattle.ledger_spec.specs.Words.{valueAt}
 use Rattle.ledger.specs.declared.Ledger.{Ledger}
 use Rattle.ledger.specs.State.{ledgerOf}
-use Rattle.walk_spec.specs.Walk.{walkOf, fitsIn, walkAnswer, walkBook, walkLeaves}
+use Rattle.walk_spec.specs.Walk.{walkOf, fitsIn, walkAnswer, walkBook, tableOf, walkLeaves}
 use Rattle.walk_spec.specs.Literal.{Walk, literalWalk}
 use Rattle.walk_spec.specs.LiteralLaws.{literal-walk}
 use Rattle.walk_spec.proofs.Demand3.{walk-demand-3}
-use Rattle.listing_text.specs.Laws.{tableOf, length-table, listing-table}
+use Rattle.listing_text.specs.Laws.{length-table, listing-table}
 use Rattle.listing_text.specs.Whole.{listingOf}
 use Rattle.listing_text.specs.Fit.{walk-fits}
 use Rattle.listing_text.specs.Listed.{listedOf}

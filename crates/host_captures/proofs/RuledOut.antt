@@ -34,7 +34,7 @@ use Rattle.record.specs.Examples.{recordA, recordFF, recordB}
 use Rattle.listing_text.specs.declared.Summary.{Summary}
 use Rattle.listing_text.specs.Text.{column, typeColumn, firstColumns, lastColumns, lineOf, named, summaryOf}
 use Rattle.reading.specs.Seen.{seenOf, saysOf}
-use Rattle.walk_spec.specs.Offers.{callsBy, answered, offerOf}
+use Rattle.walk_spec.specs.Offers.{callsBy, offering, offerOf}
 use Rattle.walk_spec.specs.Walk as Walk
 use Rattle.walk_spec.specs.Walk.{madeOf, recordBy, bookBy, accepts, refuses, framesOf, refusedOf, walkAnswer, walkBook, walkLeaves}
 use Rattle.clean_spec.specs.Clean as Clean
@@ -82,7 +82,7 @@ rk-walk-wrong =
     ∷ []
 
 pub rk-walk-rules-out : RulesOut (Kept _ rk-walk-kinds.ps rk-walk-kinds.r rk-walk.Post) (λ c. (now (c .args .0), (now (c .args .1 .0), (now (c .args .1 .1 .0), now (c .args .1 .1 .1 .0))))) (λ c. shown (c .result) (now (c .exit .1 .1 .1 .0)) (now (c .exit .1 .1 .0) ++ now (c .exit .1 .0))) rk-walk-wrong
-unfolding frameA startOfA frameB checked readOf bodyRead numeral digitsOf laid sum8 sumOf kindOf suits measureOf p001Ok fieldsOk realTime realParts daysIn leap judgeOf viewOf valueOf mapOf rotated rangeRules mapRules soundOf ownNumber checkedOf numberTo raised done nextOf fresh bookOf ledgerOf after next found noted sightsOf joined eachOf Account.accountOf Account.walkOf firstHalf secondHalf recordOf blankOf seenOf saysOf callsBy answered offerOf madeOf recordBy bookBy accepts refuses framesOf refusedOf Walk.fitsIn walkAnswer walkBook walkLeaves wordsOf keptBy walkWords toldBy
+unfolding frameA startOfA frameB checked readOf bodyRead numeral digitsOf laid sum8 sumOf kindOf suits measureOf p001Ok fieldsOk realTime realParts daysIn leap judgeOf viewOf valueOf mapOf rotated rangeRules mapRules soundOf ownNumber checkedOf numberTo raised done nextOf fresh bookOf ledgerOf after next found noted sightsOf joined eachOf Account.accountOf Account.walkOf firstHalf secondHalf recordOf blankOf seenOf saysOf callsBy offering offerOf madeOf recordBy bookBy accepts refuses framesOf refusedOf Walk.fitsIn walkAnswer walkBook walkLeaves wordsOf keptBy walkWords toldBy
 rk-walk-rules-out =
     ruled (beside numbers (beside lists lists)) (λ (i : Input). tells (walkAnswer (i .0) (length (i .1 .0))) (i .1 .1 .1) (walkWords (i .0) (length (i .1 .0)) (i .1 .1 .0) ++ walkLeaves (i .0) (i .1 .0)))
     (λ c p. said (p .0, ap₂ (λ (w d : List ℕ). w ++ d) (p .1 .0) (p .1 .1)))

@@ -8,7 +8,7 @@ use Rattle.octets.specs.Octets.{laid}
 use Rattle.ledger.specs.State.{ledgerOf}
 use Rattle.listing_text.specs.declared.Summary.{Summary}
 use Rattle.walk_spec.specs.Literal.{Walk}
-use Rattle.listing_text.specs.Laws.{tableOf}
+use Rattle.walk_spec.specs.Walk.{tableOf}
 use Rattle.listing_text.specs.Whole.{listingOf}
 use Rattle.listing_text.specs.Listed.{lastAt}
 use Rattle.host_words.specs.Words.{wordsOf}

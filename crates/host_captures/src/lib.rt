@@ -4,55 +4,12 @@
 ghost use mathlib.Core.Path.{_≡_};
 ghost use mathlib.Core.List.{[], _∷_};
 ghost use lib.ListN.{length};
-ghost use Rattle.octets.specs.Papers.{writtenPaper};
-ghost use Rattle.ledger.specs.Papers.{paperOf};
 ghost use Rattle.walk_spec.specs.Walk.{walkAnswer, walkLeaves};
 ghost use Rattle.clean_spec.specs.Clean.{cleanAnswer, cleanLeaves};
 ghost use Rattle.host_words.specs.Told.{Tells};
-ghost use Rattle.host_words.specs.Calls.{keptBy};
 ghost use Rattle.host_captures.specs.Captures.{walkWords, listingTold, listingLeaves, cleanTold};
 use clean::Check;
-use ledger::Answer;
-use ledger::Ledger;
 use listing_text::Summary;
-use octets::Written;
-
-// WHAT AN ANSWER COMES TO: three small functions as `host_ledger` and `host_frames` have them
-// for themselves
-
-fn number_of(a: Answer) -> u32
-    ensures { λ r. ⌜ r ≡ paperOf a .number ⌝ }
-{
-    match a {
-        Answer::Done => 0,
-        Answer::Refused(why) => why.number(),
-    }
-}
-
-// Keeps the ledger that stands beside an answer: 0 and 12 store it, any other refusal leaves the
-// words as they were.
-fn keep(state: &mut [u64; 9], answer: u32, next: Ledger)
-    ensures { λ _. ⌜ now (state .exit) ≡ keptBy answer next (now (state .entry)) ⌝ }
-{
-    if answer == 0 {
-        *state = host_words::state_of(next);
-    } else if answer == 12 {
-        *state = host_words::state_of(next);
-    }
-}
-
-// What a call that writes returns: its number; the result is how many bytes.
-fn told_bytes(w: Written, told: &mut u64) -> u32
-    ensures { λ r. ⌜ Tells (writtenPaper w) (now (told .entry) ∷ []) r (now (told .exit) ∷ []) ⌝ }
-{
-    match w {
-        Written::Refused(why) => why.number(),
-        Written::Bytes(n) => {
-            *told = n as u64;
-            0
-        }
-    }
-}
 
 // Walks a capture: a record of 64 bytes for each reading, and channel 100's ledger. Results: how
 // many records, frames, and readings refused. Where the records have no room, 8, and nothing is
@@ -71,8 +28,8 @@ pub extern "C" fn rk_walk(
     let walked = walk::walk(capture, records);
     let ledger = walked.ledger;
     let given = walked.answer;
-    let answer = number_of(given);
-    keep(state, answer, ledger);
+    let answer = host_words::number_of(given);
+    host_words::keep(state, answer, ledger);
     if answer == 0 {
         *told = [
             walked.records as u64,
@@ -100,7 +57,7 @@ pub extern "C" fn rk_listing(
     let ledger = host_words::ledger_in(state);
     let counted = ledger.missing();
     let given = counted.answer;
-    let answer = number_of(given);
+    let answer = host_words::number_of(given);
     if answer != 0 {
         return answer;
     }
@@ -114,7 +71,7 @@ pub extern "C" fn rk_listing(
         missing: counted.count,
     };
     let laid = listing_text::put_listing(text, records, s);
-    told_bytes(laid, told)
+    host_words::told_bytes(laid, told)
 }
 
 // A capture, scrubbed: its accepted frames at the front of out, stray bytes left out. Results: how
@@ -126,7 +83,7 @@ pub extern "C" fn rk_clean(capture: &[u8], out: &mut [u8], told: &mut [u64; 3]) 
 {
     let cleaned = clean::clean(capture, out);
     let given = cleaned.answer;
-    let answer = number_of(given);
+    let answer = host_words::number_of(given);
     if answer == 0 {
         *told = [
             cleaned.bytes as u64,

@@ -1,5 +1,5 @@
--- rk_private never refuses, and nothing private is told by rk_read: from the promises that the
--- checker makes of the `ensures`. Assumes nothing.
+-- Nothing private is told by rk_read: from the promises that the checker makes of the `ensures`.
+-- Assumes nothing.
 use mathlib.Core.Path.{_≡_, sym, ap, _∙_}
 use contract.Lifetimes.{Lfts}
 use borrow.Fn.Kinds.{Dens, endedOf, resT}

@@ -7,6 +7,7 @@ use mathlib.Core.Path.{_≡_}
 use mathlib.Core.Logic.{_↔_}
 use mathlib.Core.List.{List, [], _∷_}
 use lib.ListN.{length, take}
+use Rattle.terms.specs.Letters.{spelled}
 use Rattle.octets.specs.Octets.{be}
 use Rattle.rules.specs.declared.Kind.{Kind}
 use Rattle.rules.specs.declared.Kind.the-variants.{S001, S002, S003, P001, P002, M101, M102, M201, Unknown}
@@ -98,5 +99,5 @@ pub record HostOpened (b : List ℕ) (x told : ℕ) : Type 0 where
 pub record HostStepped (b : List ℕ) (p x : ℕ) (row : List ℕ) : Type 0 where
   pub given-0 : (x ≡ 0) ↔ Stands b p
   pub given-20 : (x ≡ 20) ↔ Row20 b p
-  pub short : x ≡ 0 → be 5 10 b ≡ 0x4D44303031 → row ≡ 1 ∷ be 2 p b ∷ be 8 (p + 2) b ∷ 0 ∷ 0 ∷ (p + 10) ∷ []
-  pub long : x ≡ 0 → (be 5 10 b ≡ 0x4D44303031 → ⊥) → row ≡ 0 ∷ be 2 p b ∷ be 8 (p + 2) b ∷ be 8 (p + 10) b ∷ be 1 (p + 18) b ∷ (p + 19) ∷ []
+  pub short : x ≡ 0 → be 5 10 b ≡ spelled "MD001" → row ≡ 1 ∷ be 2 p b ∷ be 8 (p + 2) b ∷ 0 ∷ 0 ∷ (p + 10) ∷ []
+  pub long : x ≡ 0 → (be 5 10 b ≡ spelled "MD001" → ⊥) → row ≡ 0 ∷ be 2 p b ∷ be 8 (p + 2) b ∷ be 8 (p + 10) b ∷ be 1 (p + 18) b ∷ (p + 19) ∷ []

@@ -4,7 +4,6 @@
 ghost use mathlib.Core.Path.{_≡_};
 ghost use mathlib.Core.List.{[], _∷_, _++_};
 ghost use lib.ListN.{length, drop};
-ghost use Rattle.octets.specs.Papers.{writtenPaper};
 ghost use Rattle.frame_spec.specs.Write.{message, writeOf, leftOf};
 ghost use Rattle.private.specs.Scrub.{scrubAnswer, scrubbed};
 ghost use Rattle.entries.specs.Papers.{entryPaper};
@@ -13,7 +12,6 @@ ghost use Rattle.host_frames.specs.Frames.{readTold, searchTold, private
 use entries::Entry;
 use frame::Found;
 use frame::Read;
-use octets::Written;
 use rules::Kind;
 use terms::SessionNumber;
 use terms::Verdict;
@@ -56,19 +54,6 @@ pub extern "C" fn rk_read(bytes: &[u8], place: usize, told: &mut [u64; 9]) -> u3
     }
 }
 
-// What a call that writes returns: its number; the result is how many bytes.
-fn told_bytes(w: Written, told: &mut u64) -> u32
-    ensures { λ r. ⌜ Tells (writtenPaper w) (now (told .entry) ∷ []) r (now (told .exit) ∷ []) ⌝ }
-{
-    match w {
-        Written::Refused(why) => why.number(),
-        Written::Bytes(n) => {
-            *told = n as u64;
-            0
-        }
-    }
-}
-
 // Writes a frame at the front of out. Result: how many bytes.
 #[no_mangle]
 pub extern "C" fn rk_write(
@@ -83,7 +68,7 @@ pub extern "C" fn rk_write(
         × (now (out .exit) ≡ leftOf (message «msg_type» «sending_time» seq (now (body .entry))) (now (out .entry))) ⌝ }
 {
     let written = frame::write(msg_type, sending_time, SessionNumber::new(seq), body, out);
-    told_bytes(written, told)
+    host_words::told_bytes(written, told)
 }
 
 // Finds the lowest place from `from` on at which a frame reads. Results: 1 and the place, or 0 and
@@ -112,7 +97,7 @@ pub extern "C" fn rk_scrub(frame: &mut [u8], told: &mut u64) -> u32
         × (now (frame .exit) ≡ scrubbed (now (frame .entry))) ⌝ }
 {
     let scrubbed = scrub::scrub(frame);
-    told_bytes(scrubbed, told)
+    host_words::told_bytes(scrubbed, told)
 }
 
 // Private span number i of a body of that type, counted from 0. Results: where it starts in the

@@ -8,8 +8,8 @@ use native.Mathlib.Omega.{arith}
 use lib.Dec.{ltb}
 use borrow.Author.Tests.{eqb-false}
 use Rattle.terms.specs.Cases.{two}
-use Rattle.ledger_spec.specs.Calls.{Call, Announce, Request, Reply, answerTo, openNumber}
-use Rattle.ledger.proofs.Seam.{announce-not-12, request-not-12, reply-not-12}
+use Rattle.ledger_spec.specs.Calls.{Call, Announce, Request, Reply, Renew, answerTo, openNumber}
+use Rattle.ledger.proofs.Seam.{announce-not-12, request-not-12, reply-not-12, renew-not-12}
 use Rattle.host_words.specs.Words.{bookIn}
 use Rattle.host_words.specs.Calls.{callTold, wordsAfter, kept-by}
 use Rattle.host_ledger.specs.Words.{openWords}
@@ -30,6 +30,10 @@ request-kept w channel z = call-kept w (Request channel) z (eqb-false _ 12 (requ
 pub reply-kept : (w : List ℕ) (channel first status : ℕ) → (callTold w (Reply channel first status) .number ≡ 0 → ⊥) → wordsAfter w (Reply channel first status) ≡ w
 unfolding answerTo
 reply-kept w channel first status z = call-kept w (Reply channel first status) z (eqb-false _ 12 (reply-not-12 (bookIn w) channel first status))
+
+pub renew-kept : (w : List ℕ) → (callTold w Renew .number ≡ 0 → ⊥) → wordsAfter w Renew ≡ w
+unfolding answerTo
+renew-kept w z = call-kept w Renew z (eqb-false _ 12 (renew-not-12 (bookIn w)))
 
 open-not-12 : (channel : ℕ) → openNumber channel ≡ 12 → ⊥
 open-not-12 channel e = ⊎-elim (λ (t : ltb 9999 channel ≡ true). omega (arith, rw t at e)) (λ (f : ltb 9999 channel ≡ false). omega (arith, rw f at e)) (two (ltb 9999 channel))

@@ -7,7 +7,7 @@ use denote.Ref.{now}
 use Rattle.terms.specs.OneAnswer.{OneAnswer}
 use Rattle.terms.specs.OneBuffer.{OneBuffer, RefusedKeeps}
 use Rattle.host_words.specs.Told.{both, Refuses, tells-kept}
-use Rattle.host_ledger.proofs.Kept.{call-kept, announce-kept, request-kept, reply-kept, open-kept}
+use Rattle.host_ledger.proofs.Kept.{call-kept, announce-kept, request-kept, reply-kept, renew-kept, open-kept}
 use Rattle.host_ledger.proofs.rk_ledger_open.Reads as rk-ledger-open
 use Rattle.host_ledger.proofs.rk_ledger_open.Kinds as rk-ledger-open-kinds
 use Rattle.host_ledger.proofs.rk_ledger_tick.Reads as rk-ledger-tick
@@ -18,6 +18,8 @@ use Rattle.host_ledger.proofs.rk_ledger_request.Reads as rk-ledger-requ
 use Rattle.host_ledger.proofs.rk_ledger_request.Kinds as rk-ledger-request-kinds
 use Rattle.host_ledger.proofs.rk_ledger_reply.Reads as rk-ledger-reply
 use Rattle.host_ledger.proofs.rk_ledger_reply.Kinds as rk-ledger-reply-kinds
+use Rattle.host_ledger.proofs.rk_ledger_renew.Reads as rk-ledger-renew
+use Rattle.host_ledger.proofs.rk_ledger_renew.Kinds as rk-ledger-renew-kinds
 use Rattle.host_ledger.proofs.rk_ledger_missing.Reads as rk-ledger-missing
 use Rattle.host_ledger.proofs.rk_ledger_missing.Kinds as rk-ledger-missing-kinds
 use Rattle.host_ledger.proofs.rk_ledger_told.Reads as rk-ledger-told
@@ -70,6 +72,15 @@ rk-ledger-reply-one-buffer κs a x y s t p q = ap₂ both (p .0 .told ∙ sym (q
 
 pub rk-ledger-reply-refused-keeps : RefusedKeeps _ rk-ledger-reply-kinds.ps rk-ledger-reply-kinds.r rk-ledger-reply.Post (λ κs x. Refuses x) (λ κs a. both (now (a .1 .1 .1 .1 .0)) (now (a .0))) (λ κs s. both (now (s .1 .1 .1 .1 .0)) (now (s .0)))
 rk-ledger-reply-refused-keeps κs a x s p w = ap₂ both (tells-kept (p .0) w) (p .1 ∙ reply-kept _ _ _ _ (λ z. w (p .0 .answered ∙ z)))
+
+pub rk-ledger-renew-one-answer : OneAnswer _ rk-ledger-renew-kinds.ps rk-ledger-renew-kinds.r rk-ledger-renew.Post
+rk-ledger-renew-one-answer κs a x y s t p q = p .0 ∙ sym (q .0)
+
+pub rk-ledger-renew-one-buffer : OneBuffer _ rk-ledger-renew-kinds.ps rk-ledger-renew-kinds.r rk-ledger-renew.Post (λ κs s. now (s .0))
+rk-ledger-renew-one-buffer κs a x y s t p q = p .1 ∙ sym (q .1)
+
+pub rk-ledger-renew-refused-keeps : RefusedKeeps _ rk-ledger-renew-kinds.ps rk-ledger-renew-kinds.r rk-ledger-renew.Post (λ κs x. Refuses x) (λ κs a. now (a .0)) (λ κs s. now (s .0))
+rk-ledger-renew-refused-keeps κs a x s p w = p .1 ∙ renew-kept _ (λ z. w (p .0 ∙ z))
 
 pub rk-ledger-missing-one-answer : OneAnswer _ rk-ledger-missing-kinds.ps rk-ledger-missing-kinds.r rk-ledger-missing.Post
 rk-ledger-missing-one-answer κs a x y s t p q = p .answered ∙ sym (q .answered)

@@ -22,16 +22,16 @@ use Rattle.tick_map.specs.Bits.{bitsIn, mapOf}
 use Rattle.tick_map.specs.Ring.{rotated, laid}
 use Rattle.tick_map.proofs.Ring.{rotated-laid}
 use Rattle.ledger_spec.specs.State.{Book, soundOf, StateRules}
-use Rattle.ledger_spec.specs.Calls.{Call, Tick, Announce, Request, Reply, Question, Ask, Missing, Held, Between, betweenCount, countOf, offered, elsewhere, ownNumber, checkedOf, reach, leaps, gaveUp, handed, raised, done, valuesOf, beside, numberTo, answerTo, nextOf, openOf, missingCount, heldCount}
+use Rattle.ledger_spec.specs.Calls.{Call, Tick, Announce, Request, Reply, Question, Ask, Missing, Held, Between, Renew, betweenCount, countOf, offered, elsewhere, ownNumber, checkedOf, reach, leaps, gaveUp, handed, raised, done, valuesOf, beside, numberTo, answerTo, nextOf, openOf, missingCount, heldCount}
 use Rattle.ledger_spec.specs.Trace.{Calls, none, _▸_, after, History, start, _▸_⇒_, trace}
 use Rattle.ledger_spec.specs.Words.{valueAt, answered, givesUp, givenUp}
-use Rattle.ledger_spec.specs.Answers.{TickAnswers, AnnounceAnswers, ReplyAnswers}
+use Rattle.ledger_spec.specs.Answers.{TickAnswers, AnnounceAnswers, ReplyAnswers, NewSession, OnlyCleared}
 use Rattle.ledger_spec.specs.Between.{BetweenAnswers}
 use Rattle.ledger_spec.specs.GivenUp.{InRange, NamesApart}
 use Rattle.ledger_spec.specs.Demand3.{Demand3, Requests}
-use Rattle.ledger_spec.proofs.Answers.{keeps}
+use Rattle.ledger_spec.proofs.Answers.{keeps, new-session, new-session-told}
 use Rattle.ledger_spec.proofs.Demand3.{demand-3}
-use Rattle.ledger_spec.proofs.Told.{told-tick, told-announce, told-request, told-reply, told-between, told-late, told-gives-up, told-names-apart}
+use Rattle.ledger_spec.proofs.Told.{told-tick, told-announce, told-request, told-reply, told-renewal, told-between, told-late, told-gives-up, told-names-apart}
 use Rattle.ledger_spec.proofs.Given.{given-13}
 use Rattle.ledger_spec.proofs.Numbers.{checked-facts, checked-test}
 use Rattle.ledger_spec.proofs.Rules.{rules-facts, rules-test}
@@ -59,6 +59,8 @@ use Rattle.host_ledger.proofs.rk_ledger_request.Reads as request
 use Rattle.host_ledger.proofs.rk_ledger_request.Kinds as request-kinds
 use Rattle.host_ledger.proofs.rk_ledger_reply.Reads as reply
 use Rattle.host_ledger.proofs.rk_ledger_reply.Kinds as reply-kinds
+use Rattle.host_ledger.proofs.rk_ledger_renew.Reads as renew
+use Rattle.host_ledger.proofs.rk_ledger_renew.Kinds as renew-kinds
 use Rattle.host_ledger.proofs.rk_ledger_missing.Reads as missing
 use Rattle.host_ledger.proofs.rk_ledger_missing.Kinds as missing-kinds
 use Rattle.host_ledger.proofs.rk_ledger_told.Reads as told
@@ -216,6 +218,19 @@ pub reply-is-call : (κs : Lfts 2) (a : Dens κs reply-kinds.ps) (x : resT reply
     → Called (now (a .0)) (Reply (a .1 .0) (a .1 .1 .0) (a .1 .1 .1 .0)) (now (s .0)) (settledBy x (now (s .1 .1 .1 .1 .0)))
 reply-is-call κs a x s p = tells-sets (now (a .0)) (a .1 .0) (a .1 .1 .0) (a .1 .1 .1 .0) p
 
+pub renew-is-call : (κs : Lfts 1) (a : Dens κs renew-kinds.ps) (x : resT renew-kinds.r κs .Denot) (s : AtExit (endedOf 1 renew-kinds.ps renew-kinds.r) κs) → renew.Post κs a x s
+    → Called (now (a .0)) Renew (now (s .0)) (answer x [])
+unfolding valuesOf
+renew-is-call κs a x s p = silent _ Renew refl refl p
+
+-- on words that keep the state rules: 0, and the ledger that they stand for is the same but for its
+-- pending request, which is nothing
+pub renew-new-session : (κs : Lfts 1) (a : Dens κs renew-kinds.ps) (x : resT renew-kinds.r κs .Denot) (s : AtExit (endedOf 1 renew-kinds.ps renew-kinds.r) κs) → renew.Post κs a x s
+    → StateRules (bookIn (now (a .0))) → NewSession (bookIn (now (a .0))) (answer x []) (bookIn (now (s .0)))
+renew-new-session κs a x s p r =
+    let c = renew-is-call κs a x s p in
+    rw (c .answer-is, c .next-is) (new-session (bookIn (now (a .0))) r)
+
 -- ======== What a ledger has to tell
 
 asked-numbers : (p : Pending) → firstAsked p ∷ lastAsked p ∷ [] ≡ askedNumbers (askedOf p)
@@ -356,6 +371,14 @@ module _ (channel : ℕ) (small : channel ≤ 9999) where
 
     pub host-between : (x z : ℕ) (w′ : List ℕ) (a : Paper) → Called w (Ask (Between channel x z)) w′ a → BetweenAnswers h x z a
     host-between x z w′ a c = told-between channel small calls (host-ran-is-trace r .1) x z (host-answers _ w′ a c)
+
+    -- a new session is answered 0, and of what the history tells the pending request alone changes
+    pub host-renewal : (w′ : List ℕ) (a : Paper) → Called w Renew w′ a → (a ≡ answer 0 []) × OnlyCleared h (h ▸ Renew ⇒ a)
+    unfolding trace
+    host-renewal w′ a c =
+        let e = host-answers Renew w′ a c in
+        let is = host-ran-is-trace r .1 in
+        (told-renewal channel small calls is e, rw (is, e) (new-session-told channel small calls))
 
     -- and request 7's sentences
     pub host-gives-up : (first : ℕ) (w′ : List ℕ) (a : Paper) → Called w (Reply channel first 4) w′ a → answered a 0 ≡ true

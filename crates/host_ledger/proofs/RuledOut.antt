@@ -12,7 +12,7 @@ use Rattle.terms.specs.RuledOut.{Row, _never_, _only_, Kept, RulesOut, ruled, n
 use Rattle.tick_map.specs.Bits.{valueOf, mapOf, run}
 use Rattle.tick_map.specs.Ring.{rotated}
 use Rattle.ledger_spec.specs.State.{has, rangeRules, mapRules, soundOf}
-use Rattle.ledger_spec.specs.Calls.{Call, Tick, Announce, Request, Reply, Ask, Between, openNumber, ownNumber, checkedOf, numberTo, passes, taken, reach, leaps, gaveUp, handed, replied, raised, waiting, asked, done, missingCount, heldCount, betweenCount, valuesOf, answerTo, fresh, openOf}
+use Rattle.ledger_spec.specs.Calls.{Call, Tick, Announce, Request, Reply, Ask, Between, Renew, openNumber, ownNumber, checkedOf, numberTo, passes, taken, reach, leaps, gaveUp, handed, replied, raised, waiting, asked, done, missingCount, heldCount, betweenCount, valuesOf, answerTo, fresh, openOf}
 use Rattle.ledger.specs.State.{bookOf, ledgerOf, nextBy}
 use Rattle.host_words.specs.Words.{wordsOf, pendingIn, ledgerIn}
 use Rattle.host_words.specs.Calls.{keptBy, callTold, wordsAfter}
@@ -28,6 +28,8 @@ use Rattle.host_ledger.proofs.rk_ledger_request.Reads as rk-request
 use Rattle.host_ledger.proofs.rk_ledger_request.Kinds as rk-request-kinds
 use Rattle.host_ledger.proofs.rk_ledger_reply.Reads as rk-reply
 use Rattle.host_ledger.proofs.rk_ledger_reply.Kinds as rk-reply-kinds
+use Rattle.host_ledger.proofs.rk_ledger_renew.Reads as rk-renew
+use Rattle.host_ledger.proofs.rk_ledger_renew.Kinds as rk-renew-kinds
 use Rattle.host_ledger.proofs.rk_ledger_missing.Reads as rk-missing
 use Rattle.host_ledger.proofs.rk_ledger_missing.Kinds as rk-missing-kinds
 use Rattle.host_ledger.proofs.rk_ledger_told.Reads as rk-told
@@ -129,6 +131,23 @@ rk-ledger-reply-wrong =
 pub rk-ledger-reply-rules-out : RulesOut (Kept _ rk-reply-kinds.ps rk-reply-kinds.r rk-reply.Post) (λ c. (now (c .args .0), (Reply (c .args .1 .0) (c .args .1 .1 .0) (c .args .1 .1 .1 .0), now (c .args .1 .1 .1 .1 .0)))) (λ c. shown (c .result) (now (c .exit .1 .1 .1 .1 .0)) (now (c .exit .0))) rk-ledger-reply-wrong
 unfolding bookOf ledgerOf nextBy rotated mapOf valueOf numberTo ownNumber checkedOf soundOf mapRules rangeRules has passes taken reach leaps gaveUp handed replied raised waiting asked done missingCount heldCount valuesOf answerTo fresh openOf run trailingZeros ones wordsOf pendingIn ledgerIn keptBy wordsAfter toldBy openWords ledgerTold settledRow
 rk-ledger-reply-rules-out = ruled (beside numbers (beside lists lists)) (λ (i : Input). tells (replyTold (i .0) (i .1 .0)) (i .1 .1) (wordsAfter (i .0) (i .1 .0))) (λ c p. said p) _ refl
+
+-- A NEW SESSION: the words
+abbrev pub rk-ledger-renew-wrong : List (Row (List ℕ) Outcome)
+rk-ledger-renew-wrong =
+    waits 1 6 never shown 0 [] (waits 1 6)  -- the pending request is kept
+    ∷ waits 1 6 never shown 0 [] (words 0 12 (2 ^ 4 + 2 ^ 7 + 2 ^ 10) 0 0)  -- the floor is forgotten
+    ∷ waits 1 6 never shown 0 [] (words 2 10 (2 ^ 4 + 2 ^ 7 + 2 ^ 10) 0 0)  -- the top is lowered
+    ∷ waits 1 6 never shown 14 [] (waits 1 6)  -- a sound ledger is refused
+    ∷ waits 1 6 only shown 0 [] (waits 0 0)
+    ∷ waits 0 0 only shown 0 [] (waits 0 0)
+    ∷ words 0 3 (2 ^ 1) 1 3 never shown 13 [] (words 0 3 (2 ^ 1) 0 0)  -- cleared beside 13
+    ∷ words 0 3 (2 ^ 1) 1 3 only shown 13 [] (words 0 3 (2 ^ 1) 1 3)
+    ∷ []
+
+pub rk-ledger-renew-rules-out : RulesOut (Kept _ rk-renew-kinds.ps rk-renew-kinds.r rk-renew.Post) (λ c. now (c .args .0)) (λ c. shown (c .result) [] (now (c .exit .0))) rk-ledger-renew-wrong
+unfolding bookOf ledgerOf nextBy rotated mapOf valueOf numberTo ownNumber checkedOf soundOf mapRules rangeRules has passes taken reach leaps gaveUp handed replied raised waiting asked done missingCount heldCount valuesOf answerTo fresh openOf run trailingZeros ones wordsOf pendingIn ledgerIn keptBy wordsAfter toldBy openWords ledgerTold settledRow
+rk-ledger-renew-rules-out = ruled (beside numbers (beside lists lists)) (λ (w : List ℕ). shown (callTold w Renew .number) [] (wordsAfter w Renew)) (λ c p. plain p) _ refl
 
 -- TOLD: the words, and the told row before
 abbrev pub rk-ledger-told-wrong : List (Row (List ℕ × List ℕ) (ℕ × List ℕ))

@@ -3,7 +3,7 @@
 // only its top.
 ghost use mathlib.Core.Path.{_≡_};
 ghost use mathlib.Core.List.{[], _∷_};
-ghost use Rattle.ledger_spec.specs.Calls.{Tick, Announce, Request, Reply, Ask, Between, openNumber};
+ghost use Rattle.ledger_spec.specs.Calls.{Tick, Announce, Request, Reply, Ask, Between, Renew, openNumber};
 ghost use Rattle.ledger.specs.Papers.{paperOf};
 ghost use Rattle.host_words.specs.Told.{Tells};
 ghost use Rattle.host_words.specs.Calls.{keptBy, callTold, wordsAfter};
@@ -178,6 +178,20 @@ pub extern "C" fn rk_ledger_reply(
             0
         }
     }
+}
+
+// A new session of the line begins: the pending request is cleared, and all else is kept.
+#[no_mangle]
+pub extern "C" fn rk_ledger_renew(state: &mut [u64; 9]) -> u32
+    ensures { λ r. ⌜ (r ≡ callTold (now (state .entry)) Renew .number)
+        × (now (state .exit) ≡ wordsAfter (now (state .entry)) Renew) ⌝ }
+{
+    let noted = host_words::ledger_in(state).renewed();
+    let next = noted.next;
+    let given = noted.answer;
+    let answer = number_of(given);
+    keep(state, answer, next);
+    answer
 }
 
 // What a ledger holds. Results: channel, floor, top, how many numbers are missing and how many are

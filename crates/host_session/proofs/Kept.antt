@@ -1,5 +1,5 @@
--- What a call on eight words leaves: a refusal the words as they were, 0 those of the next session. Words that are no session's are refused.
--- Assumes nothing.
+-- What a call on eight words leaves: a refusal the words as they were, 0 those of the next session.
+-- Words that are no session's are refused. Assumes nothing.
 use Prim.Native.Nat.{ℕ}
 use mathlib.Core.Path.{_≡_, sym, ap, ap₂, _∙_}
 use mathlib.Core.List.{List, [], _∷_}
@@ -34,7 +34,8 @@ called a t q d z te qe de = rw (z, te, qe, de)
 arrived : (a : Answer) (t q d n : ℕ) → a .number ≡ 0 → t ≡ typeNumber (a .kind) → q ≡ a .seq → d ≡ one (a .dead) → answer 0 (t ∷ q ∷ d ∷ n ∷ []) ≡ arrivalPaper a n
 arrived a t q d n z te qe de = rw (z, te, qe, de)
 
--- A CALL as the code makes it: on the session l that the words stand for, answered a, with the next session m
+-- A CALL as the code makes it: on the session l that the words stand for, answered a, with the next
+-- session m
 module _ (w : List ℕ) (time : ℕ) (e : Event) {l m : Line} {a : Answer} (le : l ≡ lineIn w) (ae : a ≡ answerTo l time e) (me : m ≡ nextOf l time e) where
   answer-is : a ≡ answerTo (lineIn w) time e
   answer-is = ae ∙ ap (λ (x : Line). answerTo x time e) le

@@ -1,5 +1,6 @@
--- For each function: two answers that its promise allows are equal; so are two later contents of all that it is lent, and a refusal leaves
--- them as they were. What a function is lent is put in one list, told row first, then words. Assumes nothing.
+-- For each function: two answers that its promise allows are equal; so are two later contents of
+-- all that it is lent, and a refusal leaves them as they were. What a function is lent is put in
+-- one list, told row first, then words. Assumes nothing.
 use mathlib.Core.Path.{sym, ap₂, _∙_}
 use denote.Ref.{now}
 use Rattle.terms.specs.OneAnswer.{OneAnswer}

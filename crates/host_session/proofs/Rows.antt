@@ -1,5 +1,5 @@
--- The words of a session stand for it, words that are no session's are refused, and every row of a host's calls is a row of the table's.
--- Assumes nothing.
+-- The words of a session stand for it, words that are no session's are refused, and every row of a
+-- host's calls is a row of the table's. Assumes nothing.
 use Prim.Native.Nat.{ℕ}
 use mathlib.Core.Path.{_≡_, refl, sym, ap, _∙_}
 use mathlib.Core.Bool.{Bool, true, false, _&&_}
@@ -86,7 +86,8 @@ words-next l time e =
 abbrev pub at : ℕ → Event → Call
 at time e = record { now = time; event = e }
 
--- THE WORDS w COME OF THESE CALLS of a host, each meeting its promise, on what rk_session_open wrote
+-- THE WORDS w COME OF THESE CALLS of a host, each meeting its promise, on what rk_session_open
+-- wrote
 pub data HostRan : Calls → List ℕ → Type 0 where
   opens : (c : promise.Call _ opening-kinds.ps opening-kinds.r) → promise.Kept _ opening-kinds.ps opening-kinds.r opening.Post c → HostRan no-call (now (c .exit .0))
   begins : {calls : Calls} (c : promise.Call _ begin-kinds.ps begin-kinds.r) → HostRan calls (now (c .args .0)) → promise.Kept _ begin-kinds.ps begin-kinds.r begin.Post c

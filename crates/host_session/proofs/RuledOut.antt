@@ -1,6 +1,6 @@
--- For each function that a host may call on a session: wrong answers that its promise rules out, as tables of what is given and what is then
--- wrong. A session is eight words: state, our next number, the next frame's, the last time, when we sent, when we heard, the interval, 0.
--- Assumes nothing.
+-- For each function that a host may call on a session: wrong answers that its promise rules out, as
+-- tables of what is given and what is then wrong. A session is eight words: state, our next number,
+-- the next frame's, the last time, when we sent, when we heard, the interval, 0. Assumes nothing.
 use Prim.Native.Nat.{ℕ}
 use mathlib.Core.Path.{_≡_, refl, ap₂}
 use mathlib.Core.List.{List, [], _∷_, _++_}

@@ -1,4 +1,5 @@
--- A session as a host keeps it: eight words. What a call on them answers and tells, and the words after it.
+-- A session as a host keeps it: eight words. What a call on them answers and tells, and the words
+-- after it.
 use Prim.Native.Nat.{ℕ}
 use mathlib.Core.Bool.{Bool, _&&_}
 use mathlib.Core.List.{List, [], _∷_}
@@ -12,7 +13,8 @@ use Rattle.session_spec.specs.Table.{State, new, waiting, active, leaving, over
 use Rattle.session_spec.specs.Calls.{Line, Answer, one, answerTo, nextOf}
 use Rattle.session.specs.Arrivals.{eventIn, lengthIn}
 
--- THE WORDS: state, our next number, the next frame's, the last time, when we last sent, when a frame was last taken, the interval; and 0
+-- THE WORDS: state, our next number, the next frame's, the last time, when we last sent, when a
+-- frame was last taken, the interval; and 0
 
 abbrev pub stateNumber : State → ℕ
 stateNumber new = 0
@@ -31,8 +33,8 @@ stateNumbered n = pick (eqb n 0) new (pick (eqb n 1) waiting (pick (eqb n 2) act
 abbrev pub formed : List ℕ → Bool
 formed w = leb (getD w 0 0) 4 && eqb (getD w 7 0) 0
 
--- the session that eight words stand for, sound or not; other words stand for one whose next number is 0, which no state allows: 13
--- (`unformed` in proofs/)
+-- the session that eight words stand for, sound or not; other words stand for one whose next number
+-- is 0, which no state allows: 13 (`unformed` in proofs/)
 unfoldable pub lineIn : List ℕ → Line
 lineIn w =
     record {
@@ -45,7 +47,8 @@ lineIn w =
       interval = getD w 6 0;
     }
 
--- WHAT IS TOLD: the MsgType to send as document 01's table has its letters, 0 for nothing; its MsgSeqNum; 1 where the line was called dead
+-- WHAT IS TOLD: the MsgType to send as document 01's table has its letters, 0 for nothing; its
+-- MsgSeqNum; 1 where the line was called dead
 
 abbrev pub letters : Row → ℕ
 letters k = getD (kindPaper k .values) 0 0
@@ -63,7 +66,8 @@ paperOf a = answer (a .number) (typeNumber (a .kind) ∷ a .seq ∷ one (a .dead
 abbrev pub arrivalPaper : Answer → ℕ → Paper
 arrivalPaper a length = answer (a .number) (typeNumber (a .kind) ∷ a .seq ∷ one (a .dead) ∷ length ∷ [])
 
--- A CALL on the words w: what it answers and tells, and the words after it, which a refusal leaves as they were
+-- A CALL on the words w: what it answers and tells, and the words after it, which a refusal leaves
+-- as they were
 
 unfoldable pub callTold : List ℕ → ℕ → Event → Paper
 callTold w time e = paperOf (answerTo (lineIn w) time e)

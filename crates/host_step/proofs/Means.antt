@@ -1,5 +1,5 @@
--- What a call on STEP frames comes to, from the promises that the checker makes of the `ensures`: the
--- number that it answers, and with it the condition of that number. Assumes nothing.
+-- What a call on STEP frames comes to, from the promises that the checker makes of the `ensures`:
+-- the number that it answers, and with it the condition of that number. Assumes nothing.
 use Prim.Native.Nat.{ℕ}
 use mathlib.Core.Path.{_≡_, refl, sym, _∙_}
 use mathlib.Core.List.{List}

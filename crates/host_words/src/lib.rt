@@ -2,11 +2,18 @@
 // request's first and last number, 0 and 0 where nothing is pending. They are the host's to keep
 // and not to read: the calls return all there is to know.
 ghost use mathlib.Core.Path.{_≡_};
+ghost use mathlib.Core.List.{[], _∷_};
 ghost use Prim.Native.Nat.{min};
 ghost use Rattle.terms.specs.Counters.{channelOf};
+ghost use Rattle.octets.specs.Papers.{writtenPaper};
+ghost use Rattle.ledger.specs.Papers.{paperOf};
 ghost use Rattle.host_words.specs.Words.{firstAsked, lastAsked, wordsOf, pendingIn, ledgerIn};
+ghost use Rattle.host_words.specs.Told.{Tells};
+ghost use Rattle.host_words.specs.Calls.{keptBy};
+use ledger::Answer;
 use ledger::Ledger;
 use ledger::Pending;
+use octets::Written;
 use terms::ChannelNumber;
 use terms::TickNumber;
 use tick_map::Map;
@@ -91,4 +98,41 @@ pub fn state_of(ledger: Ledger) -> [u64; 9]
         first_asked(pending),
         last_asked(pending),
     ]
+}
+
+// WHAT AN ANSWER COMES TO, for the crates that C and Rust call
+
+// The number of an answer.
+pub fn number_of(a: Answer) -> u32
+    ensures { λ r. ⌜ r ≡ paperOf a .number ⌝ }
+{
+    match a {
+        Answer::Done => 0,
+        Answer::Refused(why) => why.number(),
+    }
+}
+
+// Keeps the ledger that stands beside an answer: 0 and 12 store it, any other refusal leaves the
+// words as they were.
+pub fn keep(state: &mut [u64; 9], answer: u32, next: Ledger)
+    ensures { λ _. ⌜ now (state .exit) ≡ keptBy answer next (now (state .entry)) ⌝ }
+{
+    if answer == 0 {
+        *state = state_of(next);
+    } else if answer == 12 {
+        *state = state_of(next);
+    }
+}
+
+// What a call that writes returns: its number; the result is how many bytes.
+pub fn told_bytes(w: Written, told: &mut u64) -> u32
+    ensures { λ r. ⌜ Tells (writtenPaper w) (now (told .entry) ∷ []) r (now (told .exit) ∷ []) ⌝ }
+{
+    match w {
+        Written::Refused(why) => why.number(),
+        Written::Bytes(n) => {
+            *told = n as u64;
+            0
+        }
+    }
 }

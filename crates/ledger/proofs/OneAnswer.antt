@@ -24,6 +24,8 @@ use Rattle.ledger.proofs.Ledger.request.Reads as request
 use Rattle.ledger.proofs.Ledger.request.Kinds as request-kinds
 use Rattle.ledger.proofs.Ledger.reply.Reads as reply
 use Rattle.ledger.proofs.Ledger.reply.Kinds as reply-kinds
+use Rattle.ledger.proofs.Ledger.renewed.Reads as renewed
+use Rattle.ledger.proofs.Ledger.renewed.Kinds as renewed-kinds
 use Rattle.ledger.proofs.Ledger.missing.Reads as missing
 use Rattle.ledger.proofs.Ledger.missing.Kinds as missing-kinds
 use Rattle.ledger.proofs.Ledger.held.Reads as held
@@ -61,6 +63,9 @@ Ledger-reply-one-answer κs a x y s t p q =
     ap₂ (λ (n : Ledger) (b : ReplyAnswer). record { next = n; answer = b; first = x .first; «given_up» = x .«given_up»; passed = x .passed }) (p .1 ∙ sym (q .1)) (e .answer-same)
     ∙ ap₂ (λ (f : TickNumber) (m : Map). record { next = y .next; answer = y .answer; first = f; «given_up» = m; passed = x .passed }) (e .first-same) (e .given-same)
     ∙ ap (λ (m : Map). record { next = y .next; answer = y .answer; first = y .first; «given_up» = y .«given_up»; passed = m }) (e .passed-same)
+
+pub Ledger-renewed-one-answer : OneAnswer _ renewed-kinds.ps renewed-kinds.r renewed.Post
+Ledger-renewed-one-answer κs a x y s t p q = noted-one x y p q
 
 pub Ledger-missing-one-answer : OneAnswer _ missing-kinds.ps missing-kinds.r missing.Post
 Ledger-missing-one-answer κs a x y s t p q = counted-one x y p q

@@ -10,17 +10,20 @@ use borrow.Author.Tests.{eqb-true, le-ltb, lt-ltb}
 use contract.Lifetimes.{Lfts}
 use denote.Triple.Clauses.{AtExit}
 use Rattle.terms.specs.Paper.{Paper, answer}
-use Rattle.ledger_spec.specs.State.{Book}
-use Rattle.ledger.specs.State.{bookOf, ledgerOf, topped, nextBy}
-use Rattle.ledger_spec.specs.Calls.{Call, Tick, Announce, Request, Reply, Ask, Missing, Held, Between, raised, answerTo, nextOf, fresh, openOf}
+use Rattle.tick_map.specs.Bits.{Words}
+use Rattle.ledger_spec.specs.State.{Book, StateRules}
+use Rattle.ledger.specs.State.{bookOf, ledgerOf, topped, cleared, nextBy}
+use Rattle.ledger_spec.specs.Calls.{Call, Tick, Announce, Request, Reply, Ask, Missing, Held, Between, Renew, raised, answerTo, nextOf, fresh, openOf}
 use Rattle.ledger.specs.Papers.{tickPaper, requestPaper, replyPaper, paperOf, countPaper}
 use Rattle.ledger_spec.specs.Trace.{Calls, _▸_, after, History, _▸_⇒_, trace}
 use Rattle.ledger.specs.Trace.{Promise, RanBy, Ran, opening, one-more}
 use Rattle.ledger_spec.specs.Words.{answered}
 use Rattle.ledger_spec.specs.Demand3.{Demand3}
 use Rattle.ledger.specs.declared.Ledger.{Ledger}
-use Rattle.ledger.proofs.Seam.{book-of, topped-of, far-by, same-by, next-keeps}
+use Rattle.ledger.specs.declared.Pending.the-variants.{Nothing}
+use Rattle.ledger.proofs.Seam.{book-of, topped-of, waiting-of, far-by, same-by, next-of, next-keeps}
 use Rattle.ledger_spec.proofs.Agree.{agrees}
+use Rattle.ledger_spec.proofs.Answers.{renew-answer, renew-next}
 use Rattle.ledger_spec.proofs.Demand3.{demand-3}
 use Rattle.ledger.proofs.Ledger.opened.Reads as opened
 use Rattle.ledger.proofs.Ledger.opened.Kinds as opened-kinds
@@ -32,6 +35,8 @@ use Rattle.ledger.proofs.Ledger.missing.Reads as missing
 use Rattle.ledger.proofs.Ledger.missing.Kinds as missing-kinds
 use Rattle.ledger.proofs.Ledger.missing_between.Reads as missing-between
 use Rattle.ledger.proofs.Ledger.missing_between.Kinds as missing-between-kinds
+use Rattle.ledger.proofs.Ledger.renewed.Reads as renewed
+use Rattle.ledger.proofs.Ledger.renewed.Kinds as renewed-kinds
 use Rattle.ledger.proofs.Ledger.reply.Reads as reply
 use Rattle.ledger.proofs.Ledger.reply.Kinds as reply-kinds
 use Rattle.ledger.proofs.Ledger.request.Reads as request
@@ -54,6 +59,10 @@ request-is-step κs a x s p = record { paper-is = p .0; next-is = p .1 }
 pub reply-is-step : (κs : Lfts 0) (a : Dens κs reply-kinds.ps) (x : resT reply-kinds.r κs .Denot) (s : AtExit (endedOf 0 reply-kinds.ps reply-kinds.r) κs)
     → reply.Post κs a x s → Promise (a .0) (Reply (a .1 .0 .0) (a .1 .1 .0 .0) (a .1 .1 .1 .0)) (x .next) (replyPaper (x .answer) (x .first) (x .«given_up») (x .passed))
 reply-is-step κs a x s p = record { paper-is = p .0; next-is = p .1 }
+
+pub renewed-is-step : (κs : Lfts 0) (a : Dens κs renewed-kinds.ps) (x : resT renewed-kinds.r κs .Denot) (s : AtExit (endedOf 0 renewed-kinds.ps renewed-kinds.r) κs)
+    → renewed.Post κs a x s → Promise (a .0) Renew (x .next) (paperOf (x .answer))
+renewed-is-step κs a x s p = record { paper-is = p .0; next-is = p .1 }
 
 pub missing-is-step : (κs : Lfts 0) (a : Dens κs missing-kinds.ps) (x : resT missing-kinds.r κs .Denot) (s : AtExit (endedOf 0 missing-kinds.ps missing-kinds.r) κs)
     → missing.Post κs a x s → Promise (a .0) (Ask Missing) (x .next) (countPaper (x .answer) (x .count))
@@ -92,6 +101,14 @@ pub far-raises-top : (l next : Ledger) (channel n : ℕ) (paper : Paper) → Pro
     → answered paper 12 ≡ true → next ≡ topped l (max (l .top .0) n)
 unfolding answerTo
 far-raises-top l next channel n paper p e = p .next-is ∙ far-by bookOf ledgerOf l (Tick channel n) (eqb-true _ 12 (ap (λ (a : Paper). answered a 12) (sym (p .paper-is)) ∙ e))
+
+-- a new session on a sound ledger: 0, and the very ledger that was passed in with nothing pending
+pub new-session : (l next : Ledger) (paper : Paper) → Words (l .map .words) → Promise l Renew next paper → StateRules (bookOf l)
+    → (paper ≡ answer 0 []) × (next ≡ cleared l)
+new-session l next paper w p r = (
+  p .paper-is ∙ renew-answer (bookOf l) r,
+  p .next-is ∙ next-of l w Renew ∙ ap ledgerOf (renew-next (bookOf l) r) ∙ sym (waiting-of l w Nothing),
+)
 
 -- ---- a whole row of calls
 

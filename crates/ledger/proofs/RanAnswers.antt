@@ -8,16 +8,17 @@ use mathlib.Core.List.{[], _∷_}
 use Prim.Native.Nat.{ℕ, _≤_}
 use Rattle.terms.specs.Paper.{Paper, answer, refusal}
 use Rattle.ledger_spec.specs.State.{Book}
-use Rattle.ledger_spec.specs.Calls.{Call, Tick, Announce, Request, Reply, Ask, Missing, Held, Between, answerTo}
+use Rattle.ledger_spec.specs.Calls.{Call, Tick, Announce, Request, Reply, Ask, Missing, Held, Between, Renew, answerTo}
 use Rattle.ledger_spec.specs.Trace.{Calls, after, History, _▸_⇒_, trace}
 use Rattle.ledger_spec.specs.Words.{answered, givesUp, givenUp, knownTop, held, missing, count}
-use Rattle.ledger_spec.specs.Answers.{TickAnswers, AnnounceAnswers, ReplyAnswers}
+use Rattle.ledger_spec.specs.Answers.{TickAnswers, AnnounceAnswers, ReplyAnswers, OnlyCleared}
 use Rattle.ledger_spec.specs.Demand3.{Requests}
 use Rattle.ledger_spec.specs.Between.{BetweenAnswers}
 use Rattle.ledger_spec.specs.GivenUp.{InRange, NamesApart, FloorStands}
 use Rattle.ledger_spec.proofs.Agree.{agrees}
+use Rattle.ledger_spec.proofs.Answers.{new-session-told}
 use Rattle.ledger_spec.proofs.GivenUp.{floor-stands}
-use Rattle.ledger_spec.proofs.Told.{told-tick, told-announce, told-request, told-reply, told-missing, told-held, told-between, told-late, told-gives-up, told-names-apart}
+use Rattle.ledger_spec.proofs.Told.{told-tick, told-announce, told-request, told-reply, told-renewal, told-missing, told-held, told-between, told-late, told-gives-up, told-names-apart}
 use Rattle.ledger.specs.State.{bookOf}
 use Rattle.ledger.specs.Trace.{Promise, Ran}
 use Rattle.ledger.specs.declared.Ledger.{Ledger}
@@ -46,6 +47,13 @@ module _ (channel : ℕ) (small : channel ≤ 9999) {calls : Calls} {l : Ledger}
 
   pub ran-reply : (first status : ℕ) (next : Ledger) (paper : Paper) → Promise l (Reply channel first status) next paper → ReplyAnswers h first status paper
   ran-reply first status next paper p = told-reply channel small calls history-is first status (ran-paper _ next paper p)
+
+  -- a new session is answered 0, and of what the history tells the pending request alone changes
+  pub ran-renewal : (next : Ledger) (paper : Paper) → Promise l Renew next paper → (paper ≡ answer 0 []) × OnlyCleared h (h ▸ Renew ⇒ paper)
+  unfolding trace
+  ran-renewal next paper p =
+      let e = ran-paper Renew next paper p in
+      (told-renewal channel small calls history-is e, rw (history-is, e) (new-session-told channel small calls))
 
   pub ran-missing : (next : Ledger) (paper : Paper) → Promise l (Ask Missing) next paper → paper ≡ answer 0 (count (missing h) (knownTop h) ∷ [])
   ran-missing next paper p = told-missing channel small calls history-is (ran-paper _ next paper p)

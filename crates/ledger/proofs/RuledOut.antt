@@ -10,7 +10,7 @@ use Rattle.terms.specs.Counters.{tickOf, channelOf}
 use Rattle.tick_map.specs.Bits.{valueOf, bitsIn, mapOf, run}
 use Rattle.tick_map.specs.Ring.{rotated}
 use Rattle.ledger_spec.specs.State.{Asked, nothing, range, has, rangeRules, mapRules, soundOf}
-use Rattle.ledger_spec.specs.Calls.{Call, Tick, Announce, Request, Reply, Ask, Missing, Held, Between, ownNumber, checkedOf, numberTo, passes, taken, reach, leaps, gaveUp, handed, replied, raised, waiting, asked, done, missingCount, heldCount, betweenCount, valuesOf, answerTo, fresh, openNumber, openOf}
+use Rattle.ledger_spec.specs.Calls.{Call, Tick, Announce, Request, Reply, Ask, Missing, Held, Between, Renew, ownNumber, checkedOf, numberTo, passes, taken, reach, leaps, gaveUp, handed, replied, raised, waiting, asked, done, missingCount, heldCount, betweenCount, valuesOf, answerTo, fresh, openNumber, openOf}
 use Rattle.ledger.specs.State.{bookOf, pendingOf, ledgerOf, nextBy, nextIn}
 use Rattle.ledger.specs.Papers.{tickPaper, requestPaper, replyPaper, paperOf, countPaper, pendingPaper, askedPaper}
 use Rattle.ledger.specs.declared.Ledger.{Ledger}
@@ -26,6 +26,8 @@ use Rattle.ledger.proofs.Ledger.request.Reads as request
 use Rattle.ledger.proofs.Ledger.request.Kinds as request-kinds
 use Rattle.ledger.proofs.Ledger.reply.Reads as reply
 use Rattle.ledger.proofs.Ledger.reply.Kinds as reply-kinds
+use Rattle.ledger.proofs.Ledger.renewed.Reads as renewed
+use Rattle.ledger.proofs.Ledger.renewed.Kinds as renewed-kinds
 use Rattle.ledger.proofs.Ledger.missing.Reads as missing
 use Rattle.ledger.proofs.Ledger.missing.Kinds as missing-kinds
 use Rattle.ledger.proofs.Ledger.held.Reads as held
@@ -146,6 +148,26 @@ Ledger-reply-wrong =
 pub Ledger-reply-rules-out : RulesOut (Kept _ reply-kinds.ps reply-kinds.r reply.Post) (λ c. (c .args .0, Reply (c .args .1 .0 .0) (c .args .1 .1 .0 .0) (c .args .1 .1 .1 .0))) (λ c. shown (replyPaper (c .result .answer) (c .result .first) (c .result .«given_up») (c .result .passed)) (c .result .next)) Ledger-reply-wrong
 unfolding bookOf ledgerOf nextBy rotated mapOf valueOf numberTo ownNumber checkedOf soundOf mapRules rangeRules reach leaps gaveUp handed replied run done valuesOf answerTo
 Ledger-reply-rules-out = ruled (beside papers lists) answered (λ c p. both (p .0, p .1)) _ refl
+
+-- A NEW SESSION
+abbrev pub Ledger-renewed-wrong : List (Row Input Outcome)
+Ledger-renewed-wrong =
+    (waits (range 1 6), Renew) never (answer 0 [], seen (waits (range 1 6)))  -- the pending request is kept
+    ∷ (waits (range 1 6), Renew) never (answer 0 [], seen (ledger 0 12 (2 ^ 4 + 2 ^ 7 + 2 ^ 10) nothing))  -- the floor is forgotten
+    ∷ (waits (range 1 6), Renew) never (answer 0 [], seen (ledger 0 0 0 nothing))  -- a fresh ledger
+    ∷ (waits (range 1 6), Renew) never (answer 0 [], seen (ledger 2 10 (2 ^ 4 + 2 ^ 7 + 2 ^ 10) nothing))  -- the top is lowered to the last one held
+    ∷ (waits (range 1 6), Renew) never (answer 0 [], seen (ledger 2 12 0 nothing))  -- what is held is dropped
+    ∷ (waits (range 1 6), Renew) never (answer 0 [], seen (ledger 7 12 (2 ^ 10) nothing))  -- what was asked for is given up
+    ∷ (waits (range 1 6), Renew) never (refusal 14, seen (waits (range 1 6)))  -- refused because a request is pending
+    ∷ (waits (range 1 6), Renew) only (answer 0 [], seen (waits nothing))
+    ∷ (waits nothing, Renew) never (refusal 16, seen (waits nothing))  -- refused because none is
+    ∷ (waits nothing, Renew) only (answer 0 [], seen (waits nothing))
+    ∷ (ledger 0 3 (2 ^ 1) (range 1 3), Renew) only (refusal 13, seen (ledger 0 3 (2 ^ 1) (range 1 3)))  -- a broken state is refused, and given back as it is
+    ∷ []
+
+pub Ledger-renewed-rules-out : RulesOut (Kept _ renewed-kinds.ps renewed-kinds.r renewed.Post) (λ c. (c .args .0, Renew)) (λ c. shown (paperOf (c .result .answer)) (c .result .next)) Ledger-renewed-wrong
+unfolding bookOf ledgerOf nextBy rotated mapOf valueOf numberTo ownNumber checkedOf soundOf mapRules rangeRules waiting done valuesOf answerTo
+Ledger-renewed-rules-out = ruled (beside papers lists) answered (λ c p. both p) _ refl
 
 abbrev pub Ledger-missing-wrong : List (Row Input Outcome)
 Ledger-missing-wrong =

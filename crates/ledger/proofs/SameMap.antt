@@ -23,7 +23,7 @@ use Rattle.tick_map.proofs.Digits.{bit-lt, bit-shr, bit-above, bit-ext}
 use Rattle.tick_map.proofs.Words.{list-lt, list-bit, value-of, map-of, map-words}
 use Rattle.tick_map.proofs.Ring.{rotated-lt}
 use Rattle.ledger_spec.specs.State.{Asked, Book, has}
-use Rattle.ledger_spec.specs.Calls.{Call, Tick, Announce, Request, Reply, Ask, offered, marked, passes, taken, reach, covered, leaps, replied, raised, waiting, done, numberTo, answerTo, nextOf, fresh}
+use Rattle.ledger_spec.specs.Calls.{Call, Tick, Announce, Request, Reply, Ask, Renew, offered, marked, passes, taken, reach, covered, leaps, replied, raised, waiting, done, numberTo, answerTo, nextOf, fresh}
 use Rattle.ledger_spec.specs.Trace.{Calls, none, _▸_, after, History, start, _▸_⇒_}
 use Rattle.ledger_spec.specs.Words.{one, answered}
 use Rattle.ledger_spec.proofs.Tests.{pick-cases, one-of}
@@ -86,6 +86,7 @@ done-places b (Reply channel first status) h e =
     let near = reach-near b status r in
     lt-of-le-of-lt (shr-le (covered b (reach b status)) (leaps b (reach b status))) (covered-lt b r (reach b status) (near .0) (near .1))
 done-places b (Ask q) h e = h
+done-places b Renew h e = h
 
 raised-places : (b : Book) (n : ℕ) → b .bits < 2 ^ 256 → raised b n .bits < 2 ^ 256
 unfolding raised
@@ -135,6 +136,7 @@ freed b (Reply channel first status) h e n lo hi =
       not-held = simp (lt-leb _ _ up) (ap (λ (x : ℕ). eqb x 1) (bit-shr (covered b w) k i ∙ bit-above 256 (k + i) (covered-lt b r w (near .0) (near .1)) far));
     }
 freed b (Ask q) h e n lo hi = absurd (never-passed _ _ lo hi)
+freed b Renew h e n lo hi = absurd (never-passed _ _ lo hi)
 
 book-floor : (l : Ledger) → bookOf l .floor ≡ l .floor .0
 unfolding bookOf

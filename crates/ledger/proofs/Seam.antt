@@ -29,7 +29,7 @@ use Rattle.tick_map.proofs.Ring.{bit-mod, rotated-round, rotated-none, none-out
 use Rattle.tick_map.proofs.Stretch.{without-down, only-lt, only-read}
 use Rattle.ledger_spec.specs.State.{Asked, nothing, range, Book, largest, mapRules, soundOf, StateRules}
 use Rattle.ledger.specs.State.{askedOf, pendingOf, bookOf, ledgerOf, topped, nextBy, nextIn, laidFrom}
-use Rattle.ledger_spec.specs.Calls.{Call, Announce, Request, Reply, Question, Ask, Missing, Held, Between, tickNumber, replyStatus, isPending, startsAt, elsewhere, ownNumber, checkedOf, marked, passes, taken, covered, leaps, gaveUp, handed, replied, betweenCount, waiting, fresh, done, raised, offered, valuesOf, beside, numberTo, answerTo, nextOf}
+use Rattle.ledger_spec.specs.Calls.{Call, Announce, Request, Reply, Question, Ask, Missing, Held, Between, Renew, tickNumber, replyStatus, isPending, startsAt, elsewhere, ownNumber, checkedOf, marked, passes, taken, covered, leaps, gaveUp, handed, replied, betweenCount, waiting, fresh, done, raised, offered, valuesOf, beside, numberTo, answerTo, nextOf}
 use Rattle.ledger.specs.Papers.{verdictNumber}
 use Rattle.ledger.specs.declared.Ledger.{Ledger}
 use Rattle.ledger.specs.declared.Verdict.{Verdict}
@@ -497,6 +497,10 @@ pub question-next : (b : Book) (q : Question) → nextOf b (Ask q) ≡ b
 unfolding nextOf done
 question-next b q =
     ⊎-elim (λ (t : eqb (numberTo b (Ask q)) 0 ≡ true). rw t) (λ (f : eqb (numberTo b (Ask q)) 0 ≡ false). rw (f, question-not-12 b q)) (two (eqb (numberTo b (Ask q)) 0))
+
+pub renew-not-12 : (b : Book) → eqb (numberTo b Renew) 12 ≡ false
+unfolding ownNumber
+renew-not-12 b = checked-not-12 b Renew refl
 
 pub reply-not-12 : (b : Book) (channel first status : ℕ) → eqb (numberTo b (Reply channel first status)) 12 ≡ false
 unfolding ownNumber

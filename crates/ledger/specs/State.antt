@@ -50,6 +50,10 @@ ledgerOf b =
 abbrev pub topped : Ledger → ℕ → Ledger
 topped l n = record { channel = l .channel; floor = l .floor; top = tickOf n; map = l .map; pending = l .pending }
 
+-- and the ledger with nothing pending
+abbrev pub cleared : Ledger → Ledger
+cleared l = record { channel = l .channel; floor = l .floor; top = l .top; map = l .map; pending = Nothing }
+
 -- however a ledger keeps a book: a call that is done gives the ledger of its book. A refused one
 -- gives back the very ledger, sound or not, save that 12 gives it with its top raised.
 unfoldable pub nextBy : (Ledger → Book) → (Book → Ledger) → Ledger → Call → Ledger

@@ -12,14 +12,14 @@ ghost use Rattle.tick_map.specs.Bits.{bitsIn};
 ghost use Rattle.tick_map.specs.Ring.{rotated};
 ghost use Rattle.ledger_spec.specs.State.{range, largest, rangeRules, mapRules, soundOf};
 ghost use Rattle.ledger.specs.State.{askedOf, bookOf, ledgerOf, topped, nextIn, laidFrom};
-ghost use Rattle.ledger_spec.specs.Calls.{Tick, Announce, Request, Reply, Ask, Missing, Held, Between, tickNumber, replyStatus, startsAt, ownNumber, checkedOf, passes, taken, lastOf, reach, gaveUp, handed, replied, waiting, asked, betweenCount, answerTo, openNumber, openOf, fresh};
+ghost use Rattle.ledger_spec.specs.Calls.{Tick, Announce, Request, Reply, Ask, Missing, Held, Between, Renew, tickNumber, replyStatus, startsAt, ownNumber, checkedOf, passes, taken, lastOf, reach, gaveUp, handed, replied, waiting, asked, betweenCount, answerTo, openNumber, openOf, fresh};
 ghost use Rattle.ledger.specs.Papers.{tickPaper, requestPaper, replyPaper, paperOf, countPaper, verdictNumber};
 use terms::ChannelNumber;
 use terms::Refusal;
 use terms::TickNumber;
 use tick_map::Map;
 
-// The request that is pending: from its grant until a reply answered 0.
+// The request that is pending: from its grant until a reply answered 0, or a new session.
 pub enum Pending {
     Nothing,
     Range { first: TickNumber, last: TickNumber },
@@ -82,7 +82,7 @@ pub enum Answer {
     Refused(Refusal),
 }
 
-// What opening and announcing answer.
+// What opening, announcing and a new session answer.
 pub struct Noted {
     pub next: Ledger,
     pub answer: Answer,
@@ -572,6 +572,24 @@ impl Ledger {
         match verdict {
             Verdict::Bad(why) => self.reply_refused(why),
             Verdict::Fine => self.replied(self.reach(status)),
+        }
+    }
+
+    // A new session of the line begins: the pending request is cleared, and all else is kept.
+    // Refusal 13.
+    pub fn renewed(self) -> Noted
+        ensures { λ r. ⌜ (paperOf (r .answer) ≡ answerTo (bookOf self) Renew)
+            × (r .next ≡ nextIn self Renew) ⌝ }
+    {
+        if !self.sound() {
+            return Noted {
+                next: self,
+                answer: Answer::Refused(Refusal::State),
+            };
+        }
+        Noted {
+            next: self.waiting(Pending::Nothing),
+            answer: Answer::Done,
         }
     }
 

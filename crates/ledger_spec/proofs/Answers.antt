@@ -5,20 +5,22 @@ use mathlib.Core.Logic.{_⊎_, inl, inr}
 use mathlib.Core.Bool.{Bool, true, false, _&&_, not}
 use mathlib.Core.List.{[], _∷_}
 use Prim.Native.Nat.{ℕ, zero, suc, _+_, _-_, _≤_, _<_}
+use native.Mathlib.Nat.{max-zero}
 use native.Mathlib.Decide.{decLe}
 use native.Mathlib.Omega.{arith}
 use borrow.Author.Tests.{lt-ltb, le-ltb, le-leb, lt-leb, eqb-true}
 use lib.Dec.{eqb, leb, ltb}
 use Rattle.terms.specs.Cases.{clash}
-use Rattle.terms.specs.Paper.{answer, pick}
-use Rattle.ledger_spec.specs.State.{Asked, range, Book, largest, has, StateRules}
-use Rattle.ledger_spec.specs.Calls.{Call, Tick, Announce, Request, Reply, Ask, Missing, Held, Between, offered, ownNumber, numberTo, passes, lastOf, reach, gaveUp, handed, beside, raised, done, valuesOf, nextAt, answerAt, answerTo, nextOf}
+use Rattle.terms.specs.Paper.{Paper, answer, pick}
+use Rattle.ledger_spec.specs.State.{Asked, nothing, range, Book, largest, has, StateRules}
+use Rattle.ledger_spec.specs.Calls.{Call, Tick, Announce, Request, Reply, Ask, Missing, Held, Between, Renew, offered, ownNumber, numberTo, passes, lastOf, reach, gaveUp, handed, beside, raised, waiting, done, valuesOf, nextAt, answerAt, answerTo, nextOf}
 use Rattle.ledger_spec.specs.Given.{Own}
-use Rattle.ledger_spec.specs.Trace.{Calls, after, History, trace}
-use Rattle.ledger_spec.specs.Words.{answered, received, inSet, settled, pending, floorOf}
-use Rattle.ledger_spec.specs.Answers.{Elsewhere, Hands, TickAnswers, AnnounceAnswers, Names, ReplyAnswers, Answers, Broken, OnlyTop, Keeps}
+use Rattle.ledger_spec.specs.Trace.{Calls, _▸_, after, History, _▸_⇒_, trace}
+use Rattle.ledger_spec.specs.Words.{answered, received, inSet, givenUp, settled, namedBy, handedOut, offers, knownTop, stillPending, pending, floorOf}
+use Rattle.ledger_spec.specs.Answers.{Elsewhere, Hands, TickAnswers, AnnounceAnswers, Names, ReplyAnswers, Answers, Broken, OnlyTop, NewSession, OnlyCleared, Keeps}
 use Rattle.ledger_spec.proofs.Tests.{and-false, pick-true, pick-false}
 use Rattle.ledger_spec.proofs.Numbers.{checked-test}
+use Rattle.ledger_spec.proofs.Rows.{append-nil}
 use Rattle.ledger_spec.proofs.Steps.{reach-near, gives-low, gives-in, gives-out}
 use Rattle.ledger_spec.proofs.Agree.{Agrees, high-has, agrees}
 use Rattle.ledger_spec.proofs.Demand3.{settled-is, floor-of}
@@ -51,6 +53,7 @@ module _ (h : History) (channel : ℕ) (b : Book) (a : Agrees h channel b) where
       not-own (Ask Missing) f o = f
       not-own (Ask Held) f o = f
       not-own (Ask (Between c x y)) f o = f (o ∙ a .channel-is)
+      not-own Renew f o = f
 
   -- a tick that is done
   tick-number-0 : (n : ℕ) → 1 ≤ n → n ≤ largest → has b n ≡ false → n ≤ b .floor + 256 → numberTo b (Tick channel n) ≡ 0
@@ -131,6 +134,43 @@ module _ (h : History) (channel : ℕ) (b : Book) (a : Agrees h channel b) where
             ∙ simp (status-test status s, starts-test (b .pending) first last (a .pending-is ∙ e)));
       }
 
+-- ---- a new session
+
+renew-number : (b : Book) → StateRules b → numberTo b Renew ≡ 0
+unfolding ownNumber
+renew-number b r = checked-test b Renew r refl
+
+pub renew-answer : (b : Book) → StateRules b → answerTo b Renew ≡ answer 0 []
+unfolding valuesOf
+renew-answer b r = answer-at b Renew 0 (renew-number b r)
+
+pub renew-next : (b : Book) → StateRules b → nextOf b Renew ≡ waiting b nothing
+unfolding nextOf done
+renew-next b r = ap (nextAt b Renew) (renew-number b r)
+
+renewed-only : (b : Book) {a : Paper} → a ≡ answer 0 [] → NewSession b a (waiting b nothing)
+unfolding waiting
+renewed-only b e = record { answer-is = e; cleared = refl; channel-same = refl; floor-same = refl; top-same = refl; bits-same = refl }
+
+-- the ledger is the same but for its pending request, which is nothing
+pub new-session : (b : Book) → StateRules b → NewSession b (answerTo b Renew) (nextOf b Renew)
+new-session b r = rw (renew-next b r) (renewed-only b (renew-answer b r))
+
+told-cleared : (h : History) (a : Paper) → a ≡ answer 0 [] → OnlyCleared h (h ▸ Renew ⇒ a)
+unfolding received givenUp handedOut namedBy knownTop offers pending stillPending
+told-cleared h a e =
+    record {
+      cleared = rw e;
+      received-same = λ n. refl;
+      given-up-same = λ n. refl;
+      handed-out-same = append-nil (handedOut h);
+      top-same = max-zero (knownTop h);
+    }
+
+pub new-session-told : (channel : ℕ) → channel ≤ 9999 → (calls : Calls) → OnlyCleared (trace channel calls) (trace channel (calls ▸ Renew))
+unfolding trace
+new-session-told channel small calls = told-cleared (trace channel calls) _ (renew-answer (after channel calls) (agrees channel small calls .rules))
+
 pub answers : (channel : ℕ) → channel ≤ 9999 → (calls : Calls) → Answers channel calls
 answers channel small calls =
     let a = agrees channel small calls in
@@ -139,6 +179,7 @@ answers channel small calls =
       tick = tick-answers (trace channel calls) channel (after channel calls) a;
       announcement = announce-answers (trace channel calls) channel (after channel calls) a;
       reply = reply-answers (trace channel calls) channel (after channel calls) a;
+      renewal-0 = renew-answer (after channel calls) (a .rules);
     }
 
 -- a broken state
@@ -152,6 +193,7 @@ broken-13 b f =
       between-0 = λ channel x y. at (Ask (Between channel x y));
       missing-0 = at (Ask Missing);
       held-0 = at (Ask Held);
+      renewal = at Renew;
     }
   where
     at : (call : Call) → answerTo b call ≡ answerAt b call 13

@@ -12,7 +12,7 @@ use lib.Dec.{eqb, leb, ltb}
 use Rattle.terms.specs.Cases.{two, clash}
 use Rattle.terms.specs.Paper.{pick}
 use Rattle.ledger_spec.specs.State.{Asked, nothing, range, Book, orElse, largest, has, soundOf, StateRules}
-use Rattle.ledger_spec.specs.Calls.{Call, Tick, Announce, Request, Reply, Ask, Missing, Held, Between, tickNumber, replyStatus, isPending, startsAt, elsewhere, ownNumber, checkedOf, numberTo, openNumber}
+use Rattle.ledger_spec.specs.Calls.{Call, Tick, Announce, Request, Reply, Ask, Missing, Held, Between, Renew, tickNumber, replyStatus, isPending, startsAt, elsewhere, ownNumber, checkedOf, numberTo, openNumber}
 use Rattle.ledger_spec.specs.Given.{Own, HeldAt, SettledAt, MissingAt, StatusRight, Given18, Given10Tick, Given10Announcement, Given10Between, Given11, Given12, Given14, Given15, Given17, Given16, FineBetween, Fine, Given0}
 use Rattle.ledger_spec.proofs.Tests.{true-of, false-of, both, and-false, pick-cases, skip, hit}
 use Rattle.ledger_spec.proofs.Rules.{has-below, has-above, rules-facts, rules-test, broken-test}
@@ -34,6 +34,7 @@ own-test b (Reply channel first status) e = ap not (eq-eqb channel (b .channel) 
 own-test b (Ask Missing) e = refl
 own-test b (Ask Held) e = refl
 own-test b (Ask (Between channel a z)) e = ap not (eq-eqb channel (b .channel) e)
+own-test b Renew e = refl
 
 own-fact : (b : Book) (call : Call) → elsewhere b call ≡ false → Own b call
 own-fact b (Tick channel n) e = eqb-true channel (b .channel) (not-false _ e)
@@ -43,6 +44,7 @@ own-fact b (Reply channel first status) e = eqb-true channel (b .channel) (not-f
 own-fact b (Ask Missing) e = tt
 own-fact b (Ask Held) e = tt
 own-fact b (Ask (Between channel a z)) e = eqb-true channel (b .channel) (not-false _ e)
+own-fact b Renew e = tt
 
 pub tick-test : (n : ℕ) → 1 ≤ n → n ≤ largest → tickNumber n ≡ true
 tick-test n p q = simp (le-leb _ _ p, le-leb _ _ q)
@@ -133,6 +135,7 @@ own-proper b (Reply channel first status) =
 own-proper b (Ask Missing) = refl
 own-proper b (Ask Held) = refl
 own-proper b (Ask (Between channel a z)) = pick-cases (λ k. proper k ≡ true) (not (tickNumber a && tickNumber z)) 10 0 (λ e. refl) (λ e. refl)
+own-proper b Renew = refl
 
 own-not : (b : Book) (call : Call) (m : ℕ) → proper m ≡ false → ownNumber b call ≡ m → ⊥
 own-not b call m p e = clash (ap proper (sym e) ∙ own-proper b call) p
@@ -373,6 +376,7 @@ fine-fact b (Ask Held) r e = tt
 fine-fact b (Ask (Between channel a z)) r e =
     let s = skip (not (tickNumber a && tickNumber z)) 10 0 e (λ q. omega arith) in
     span-right a z (not-false _ (s .0))
+fine-fact b Renew r e = tt
 
 fine-test : (b : Book) (call : Call) → Fine b call → ownNumber b call ≡ 0
 unfolding ownNumber
@@ -384,6 +388,7 @@ fine-test b (Reply channel first status) f = simp (status-test status (f .right)
 fine-test b (Ask Missing) f = refl
 fine-test b (Ask Held) f = refl
 fine-test b (Ask (Between channel a z)) f = simp (tick-test a (f .from-above) (f .from-digits), tick-test z (f .to-above) (f .to-digits))
+fine-test b Renew f = refl
 
 pub given-0 : (b : Book) (call : Call) → (numberTo b call ≡ 0) ↔ Given0 b call
 given-0 b call = (λ e. to e, λ g. checked-test b call (g .rules) (own-test b call (g .own)) ∙ fine-test b call (g .fine))

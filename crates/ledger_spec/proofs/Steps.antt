@@ -22,7 +22,7 @@ use Rattle.tick_map.proofs.Laws.{run-le}
 use Rattle.tick_map.proofs.Ring.{bit-mod}
 use Rattle.tick_map.proofs.Digits.{bit-lt, bit-or, bit-shr, bit-zero, bit-above, bit-set-same, bit-set-other, run-passed, run-stopped, trailing-stopped}
 use Rattle.ledger_spec.specs.State.{Asked, nothing, range, Book, orElse, largest, has, soundOf, RangeRules, StateRules}
-use Rattle.ledger_spec.specs.Calls.{Call, Tick, Announce, Request, Reply, Question, Missing, Held, Between, Ask, tickNumber, replyStatus, isPending, startsAt, elsewhere, ownNumber, checkedOf, numberTo, marked, passes, moved, taken, lastOf, reach, covered, leaps, gaveUp, handed, replied, raised, waiting, asked, done, nextAt, valuesOf, beside, answerAt, answerTo, nextOf, fresh, openOf}
+use Rattle.ledger_spec.specs.Calls.{Call, Tick, Announce, Request, Reply, Question, Missing, Held, Between, Ask, Renew, tickNumber, replyStatus, isPending, startsAt, elsewhere, ownNumber, checkedOf, numberTo, marked, passes, moved, taken, lastOf, reach, covered, leaps, gaveUp, handed, replied, raised, waiting, asked, done, nextAt, valuesOf, beside, answerAt, answerTo, nextOf, fresh, openOf}
 use Rattle.ledger_spec.specs.Words.{receives, inSet, givesUp, numbers, chosen, namedBy, offers, stillPending, one, ticks, count}
 use Rattle.ledger_spec.proofs.Tests.{pick-cases}
 use Rattle.ledger_spec.proofs.Rows.{or-true, or-false, or-not, append-nil, numbers-join, chosen-ext, chosen-all, chosen-none, chosen-append, count-one, count-ext}
@@ -82,6 +82,7 @@ module _ (k : ℕ) (refused : eqb k 0 ≡ false) where
   refused-receives (Request c) n = refl
   refused-receives (Reply c f s) n = refl
   refused-receives (Ask q) n = refl
+  refused-receives Renew n = refl
 
   refused-gives : (call : Call) (n : ℕ) → givesUp call (answer k (beside call)) n ≡ false
   refused-gives (Tick c m) n = refl
@@ -89,6 +90,7 @@ module _ (k : ℕ) (refused : eqb k 0 ≡ false) where
   refused-gives (Request c) n = refl
   refused-gives (Reply c f s) n = simp refused
   refused-gives (Ask q) n = refl
+  refused-gives Renew n = refl
 
   refused-names : (call : Call) → namedBy call (answer k (beside call)) ≡ []
   unfolding namedBy
@@ -97,6 +99,7 @@ module _ (k : ℕ) (refused : eqb k 0 ≡ false) where
   refused-names (Request c) = refl
   refused-names (Reply c f s) = simp refused
   refused-names (Ask q) = refl
+  refused-names Renew = refl
 
   refused-pending : (call : Call) (was : Asked) → was ≡ stillPending call (answer k (beside call)) was
   unfolding stillPending
@@ -105,6 +108,7 @@ module _ (k : ℕ) (refused : eqb k 0 ≡ false) where
   refused-pending (Request c) was = simp refused
   refused-pending (Reply c f s) was = simp refused
   refused-pending (Ask q) was = refl
+  refused-pending Renew was = simp refused
 
   refused-ticks : (call : Call) → ticks call (answer k (beside call)) ≡ 0
   unfolding ticks
@@ -113,6 +117,7 @@ module _ (k : ℕ) (refused : eqb k 0 ≡ false) where
   refused-ticks (Request c) = refl
   refused-ticks (Reply c f s) = refl
   refused-ticks (Ask q) = refl
+  refused-ticks Renew = refl
 
   -- a refusal that leaves the book as it was
   stays : (b : Book) (call : Call) → StateRules b → offers call (answer k (beside call)) ≤ b .top → Step b call b (answer k (beside call))
@@ -126,6 +131,7 @@ other-channel b (Announce c n) = omega arith
 other-channel b (Request c) = omega arith
 other-channel b (Reply c f s) = omega arith
 other-channel b (Ask q) = omega arith
+other-channel b Renew = omega arith
 
 -- ======== The rules of the next book
 
@@ -587,12 +593,20 @@ question-step b (Between channel a z) r =
     pick-cases (λ k. At b (Ask (Between channel a z)) k) (not (tickNumber a && tickNumber z)) 10 0
     (λ e. stays 10 refl b (Ask (Between channel a z)) r (question-low b (Between channel a z) 10)) (λ e. asked-step b (Between channel a z) r)
 
+-- a new session clears the pending request alone
+renew-step : (b : Book) → StateRules b → At b Renew (ownNumber b Renew)
+unfolding ownNumber valuesOf done waiting offers namedBy stillPending ticks
+renew-step b r =
+    quiet b Renew (waiting b nothing) (answer 0 []) (waiting-rules b nothing r (λ x y e. absurd (never-range x y e))) refl refl refl (λ x. refl) (λ x. refl) (sym (max-zero _)) refl refl
+    (λ x y e. absurd (never-range x y e)) refl
+
 own-step : (b : Book) (call : Call) → StateRules b → At b call (ownNumber b call)
 own-step b (Tick channel n) r = tick-step b channel n r
 own-step b (Announce channel n) r = announcement-step b channel n r
 own-step b (Request channel) r = request-step b channel r
 own-step b (Reply channel first status) r = reply-step b channel first status r
 own-step b (Ask q) r = question-step b q r
+own-step b Renew r = renew-step b r
 
 -- 13 never shows on a sound book, and 18 leaves all as it was
 pub step : (b : Book) (call : Call) → StateRules b → Step b call (nextOf b call) (answerTo b call)

@@ -7,7 +7,7 @@ use mathlib.Core.Bool.{true}
 use mathlib.Core.List.{[], _∷_}
 use Prim.Native.Nat.{ℕ, _≤_}
 use Rattle.terms.specs.Paper.{Paper, answer, refusal}
-use Rattle.ledger_spec.specs.Calls.{Tick, Announce, Request, Reply, Ask, Missing, Held, Between, answerTo}
+use Rattle.ledger_spec.specs.Calls.{Tick, Announce, Request, Reply, Ask, Missing, Held, Between, Renew, answerTo}
 use Rattle.ledger_spec.specs.Trace.{Calls, _▸_, after, History, _▸_⇒_, trace}
 use Rattle.ledger_spec.specs.Words.{answered, givesUp, givenUp, knownTop, held, missing, count}
 use Rattle.ledger_spec.specs.Answers.{TickAnswers, AnnounceAnswers, ReplyAnswers}
@@ -40,6 +40,10 @@ module _ (channel : ℕ) (small : channel ≤ 9999) (calls : Calls) {h : History
 
   pub told-between : (x z : ℕ) → a ≡ answerTo (after channel calls) (Ask (Between channel x z)) → BetweenAnswers h x z a
   told-between x z e = rw (is, e) (between-answers channel small calls x z)
+
+  -- a new session
+  pub told-renewal : a ≡ answerTo (after channel calls) Renew → a ≡ answer 0 []
+  told-renewal e = e ∙ answers channel small calls .renewal-0
 
   -- a number given up that arrives late
   pub told-late : (n : ℕ) → a ≡ answerTo (after channel calls) (Tick channel n) → givenUp h n ≡ true → a ≡ refusal 11

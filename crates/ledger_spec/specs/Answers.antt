@@ -8,13 +8,13 @@ use mathlib.Core.List.{[], _∷_}
 use Prim.Native.Nat.{ℕ, _+_, _≤_, _<_, max}
 use lib.Dec.{eqb, leb, ltb}
 use Rattle.terms.specs.Paper.{Paper, answer, refusal}
-use Rattle.ledger_spec.specs.State.{range, Book, largest}
-use Rattle.ledger_spec.specs.Calls.{Call, Tick, Announce, Request, Reply, Ask, Missing, Held, Between, offered, beside, answerTo}
+use Rattle.ledger_spec.specs.State.{nothing, range, Book, largest}
+use Rattle.ledger_spec.specs.Calls.{Call, Tick, Announce, Request, Reply, Ask, Missing, Held, Between, Renew, offered, beside, answerTo}
 use Rattle.ledger_spec.specs.Given.{StatusRight}
 use Rattle.ledger_spec.specs.Trace.{Calls, after, History, trace}
-use Rattle.ledger_spec.specs.Words.{answered, received, inSet, settled, pending, floorOf}
+use Rattle.ledger_spec.specs.Words.{answered, received, inSet, givenUp, settled, handedOut, knownTop, pending, floorOf}
 
--- the call names another channel than this one; the first two counts name none
+-- the call names another channel than this one; the first two counts and a new session name none
 abbrev pub Elsewhere : ℕ → Call → Type 0
 Elsewhere own (Tick channel n) = channel ≡ own → ⊥
 Elsewhere own (Announce channel n) = channel ≡ own → ⊥
@@ -23,6 +23,7 @@ Elsewhere own (Reply channel first status) = channel ≡ own → ⊥
 Elsewhere own (Ask Missing) = ⊥
 Elsewhere own (Ask Held) = ⊥
 Elsewhere own (Ask (Between channel a z)) = channel ≡ own → ⊥
+Elsewhere own Renew = ⊥
 
 -- the next numbers from the floor on, perhaps none
 pub record Hands (h : History) (a : Paper) : Type 0 where
@@ -62,6 +63,7 @@ pub record Answers (channel : ℕ) (calls : Calls) : Type 0 where
   pub tick : (n : ℕ) → TickAnswers (trace channel calls) n (answerTo (after channel calls) (Tick channel n))
   pub announcement : (n : ℕ) → AnnounceAnswers n (answerTo (after channel calls) (Announce channel n))
   pub reply : (first status : ℕ) → ReplyAnswers (trace channel calls) first status (answerTo (after channel calls) (Reply channel first status))
+  pub renewal-0 : answerTo (after channel calls) Renew ≡ answer 0 []
 
 -- What a call on a broken state is answered: 13, with nothing but 0 beside it: a count's 0, a
 -- reply's 0, 0, 0. For every call, whatever channel and number it names.
@@ -73,6 +75,7 @@ pub record Broken (b : Book) : Type 0 where
   pub between-0 : (channel a z : ℕ) → answerTo b (Ask (Between channel a z)) ≡ answer 13 (0 ∷ [])
   pub missing-0 : answerTo b (Ask Missing) ≡ answer 13 (0 ∷ [])
   pub held-0 : answerTo b (Ask Held) ≡ answer 13 (0 ∷ [])
+  pub renewal : answerTo b Renew ≡ refusal 13
 
 -- a refusal changes nothing, but 12 may raise the top (document 01, Numbers, paragraph 2); for
 -- every state, sound or not
@@ -82,6 +85,24 @@ pub record OnlyTop (b next : Book) (n : ℕ) : Type 0 where
   pub floor-same : next .floor ≡ b .floor
   pub bits-same : next .bits ≡ b .bits
   pub pending-same : next .pending ≡ b .pending
+
+-- request 12: a new session is answered 0, clears the pending request, and keeps all else
+pub record NewSession (b : Book) (a : Paper) (next : Book) : Type 0 where
+  pub answer-is : a ≡ answer 0 []
+  pub cleared : next .pending ≡ nothing
+  pub channel-same : next .channel ≡ b .channel
+  pub floor-same : next .floor ≡ b .floor
+  pub top-same : next .top ≡ b .top
+  pub bits-same : next .bits ≡ b .bits
+
+-- and the same told from the calls and answers: of the words of demand 3 the pending request alone
+-- changes
+pub record OnlyCleared (h next : History) : Type 0 where
+  pub cleared : pending next ≡ nothing
+  pub received-same : (n : ℕ) → received next n ≡ received h n
+  pub given-up-same : (n : ℕ) → givenUp next n ≡ givenUp h n
+  pub handed-out-same : handedOut next ≡ handedOut h
+  pub top-same : knownTop next ≡ knownTop h
 
 pub record Keeps (b : Book) (call : Call) (next : Book) (a : Paper) : Type 0 where
   pub same : answered a 0 ≡ false → answered a 12 ≡ false → next ≡ b

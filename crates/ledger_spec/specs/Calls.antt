@@ -17,13 +17,14 @@ pub data Question : Type 0 where
   Held : Question
   Between : (channel a z : ℕ) → Question
 
--- a call; each but the first two questions names its channel
+-- a call; each names its channel, but the first two questions and a new session (request 12)
 pub data Call : Type 0 where
   Tick : (channel n : ℕ) → Call
   Announce : (channel n : ℕ) → Call
   Request : (channel : ℕ) → Call
   Reply : (channel first status : ℕ) → Call
   Ask : Question → Call
+  Renew : Call
 
 -- the number that a tick or an announcement offers
 abbrev pub offered : Call → ℕ
@@ -32,6 +33,7 @@ offered (Announce channel n) = n
 offered (Request channel) = 0
 offered (Reply channel first status) = 0
 offered (Ask q) = 0
+offered Renew = 0
 
 -- ======== The number answered
 
@@ -60,6 +62,7 @@ elsewhere b (Reply channel first status) = not (eqb channel (b .channel))
 elsewhere b (Ask Missing) = false
 elsewhere b (Ask Held) = false
 elsewhere b (Ask (Between channel a z)) = not (eqb channel (b .channel))
+elsewhere b Renew = false
 
 -- the checks of each call after 13 and 18, in their order (document 01, Numbers, paragraph 2); of
 -- request 8's question 10, for either end
@@ -73,6 +76,7 @@ ownNumber b (Reply channel first status) = pick (not (replyStatus status)) 17 (p
 ownNumber b (Ask Missing) = 0
 ownNumber b (Ask Held) = 0
 ownNumber b (Ask (Between channel a z)) = pick (not (tickNumber a && tickNumber z)) 10 0
+ownNumber b Renew = 0
 
 -- 13, then 18, then the call's own checks (document 01, Numbers, paragraph 2)
 unfoldable pub checkedOf : Book → Bool → ℕ → ℕ
@@ -140,13 +144,14 @@ waiting b p = record { channel = b .channel; floor = b .floor; top = b .top; bit
 unfoldable pub asked : Book → ℕ
 asked b = min (min (b .top - b .floor) (trailingZeros 256 (b .bits))) 200
 
--- where the call is answered 0
+-- where the call is answered 0; a new session clears the pending request and keeps all else
 unfoldable pub done : Book → Call → Book
 done b (Tick channel n) = taken b n
 done b (Announce channel n) = raised b n
 done b (Request channel) = waiting b (range (b .floor + 1) (b .floor + asked b))
 done b (Reply channel first status) = replied b (reach b status)
 done b (Ask q) = b
+done b Renew = waiting b nothing
 
 -- a refusal changes nothing, but 12 may raise the top (document 01, Numbers, paragraph 2)
 abbrev pub nextAt : Book → Call → ℕ → Book
@@ -187,6 +192,7 @@ valuesOf b (Announce channel n) = []
 valuesOf b (Request channel) = (b .floor + 1) ∷ (b .floor + asked b) ∷ []
 valuesOf b (Reply channel first status) = (b .floor + 1) ∷ gaveUp b (reach b status) ∷ handed b (reach b status) ∷ []
 valuesOf b (Ask q) = countOf b q ∷ []
+valuesOf b Renew = []
 
 -- beside a refusal: nothing; beside a refused count, 0, and beside a refused reply 0 and
 -- two empty sets
@@ -196,6 +202,7 @@ beside (Announce channel n) = []
 beside (Request channel) = []
 beside (Reply channel first status) = 0 ∷ 0 ∷ 0 ∷ []
 beside (Ask q) = 0 ∷ []
+beside Renew = []
 
 abbrev pub answerAt : Book → Call → ℕ → Paper
 answerAt b call number = answer number (pick (eqb number 0) (valuesOf b call) (beside call))

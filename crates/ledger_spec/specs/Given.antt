@@ -6,9 +6,9 @@ use mathlib.Core.Logic.{_⊎_}
 use Prim.Native.Nat.{ℕ, _+_, _-_, _≤_, _<_}
 use Rattle.tick_map.specs.Bits.{bit}
 use Rattle.ledger_spec.specs.State.{nothing, range, Book, largest, StateRules}
-use Rattle.ledger_spec.specs.Calls.{Call, Tick, Announce, Request, Reply, Ask, Missing, Held, Between}
+use Rattle.ledger_spec.specs.Calls.{Call, Tick, Announce, Request, Reply, Ask, Missing, Held, Between, Renew}
 
--- the call names the ledger's own channel; the first two counts name none
+-- the call names the ledger's own channel; the first two counts and a new session name none
 abbrev pub Own : Book → Call → Type 0
 Own b (Tick channel n) = channel ≡ b .channel
 Own b (Announce channel n) = channel ≡ b .channel
@@ -17,6 +17,7 @@ Own b (Reply channel first status) = channel ≡ b .channel
 Own b (Ask Missing) = Unit
 Own b (Ask Held) = Unit
 Own b (Ask (Between channel a z)) = channel ≡ b .channel
+Own b Renew = Unit
 
 -- settled (received, or given up): up to the floor, or held above it
 pub record HeldAt (b : Book) (n : ℕ) : Type 0 where
@@ -133,6 +134,7 @@ Fine b (Reply channel first status) = FineReply b first status
 Fine b (Ask Missing) = Unit
 Fine b (Ask Held) = Unit
 Fine b (Ask (Between channel a z)) = FineBetween a z
+Fine b Renew = Unit
 
 pub record Given0 (b : Book) (call : Call) : Type 0 where
   pub rules : StateRules b

@@ -8,7 +8,7 @@ use lib.ListN.{getD, length}
 use Rattle.terms.specs.Paper.{Paper, pick}
 use Rattle.tick_map.specs.Bits.{isSet, tally}
 use Rattle.ledger_spec.specs.State.{Asked, nothing, range, orElse}
-use Rattle.ledger_spec.specs.Calls.{Call, Tick, Announce, Request, Reply, Ask}
+use Rattle.ledger_spec.specs.Calls.{Call, Tick, Announce, Request, Reply, Ask, Renew}
 use Rattle.ledger_spec.specs.Trace.{History, start, _▸_⇒_}
 
 -- value number i of an answer
@@ -26,6 +26,7 @@ receives (Announce channel m) a n = false
 receives (Request channel) a n = false
 receives (Reply channel first status) a n = false
 receives (Ask q) a n = false
+receives Renew a n = false
 
 unfoldable pub received : History → ℕ → Bool
 received start n = false
@@ -43,6 +44,7 @@ givesUp (Announce channel m) a n = false
 givesUp (Request channel) a n = false
 givesUp (Reply channel first status) a n = answered a 0 && inSet (valueAt a 0) (valueAt a 1) n
 givesUp (Ask q) a n = false
+givesUp Renew a n = false
 
 unfoldable pub givenUp : History → ℕ → Bool
 givenUp start n = false
@@ -70,6 +72,7 @@ namedBy (Announce channel n) a = []
 namedBy (Request channel) a = []
 namedBy (Reply channel first status) a = pick (answered a 0) (chosen (inSet (valueAt a 0) (valueAt a 2)) (numbers (valueAt a 0) 256)) []
 namedBy (Ask q) a = []
+namedBy Renew a = []
 
 -- handed out: all that the answers named, in their order
 unfoldable pub handedOut : History → List ℕ
@@ -84,18 +87,21 @@ offers (Announce channel n) a = pick (answered a 0) n 0
 offers (Request channel) a = 0
 offers (Reply channel first status) a = 0
 offers (Ask q) a = 0
+offers Renew a = 0
 
 unfoldable pub knownTop : History → ℕ
 knownTop start = 0
 knownTop (before ▸ call ⇒ a) = max (knownTop before) (offers call a)
 
--- the pending request: "from its grant until a reply answered 0"
+-- the pending request: "from its grant until a reply answered 0", or until a new session begins:
+-- granted, no reply answered 0 since, no new session since
 unfoldable pub stillPending : Call → Paper → Asked → Asked
 stillPending (Tick channel n) a was = was
 stillPending (Announce channel n) a was = was
 stillPending (Request channel) a was = pick (answered a 0) (range (valueAt a 0) (valueAt a 1)) was
 stillPending (Reply channel first status) a was = pick (answered a 0) nothing was
 stillPending (Ask q) a was = was
+stillPending Renew a was = pick (answered a 0) nothing was
 
 unfoldable pub pending : History → Asked
 pending start = nothing
@@ -128,6 +134,7 @@ ticks (Announce channel n) a = 0
 ticks (Request channel) a = 0
 ticks (Reply channel first status) a = 0
 ticks (Ask q) a = 0
+ticks Renew a = 0
 
 unfoldable pub ticksTaken : History → ℕ
 ticksTaken start = 0

@@ -1,8 +1,11 @@
--- Document 01's 69 bytes A, FF, B, from the bytes to "the whole output"; and no bytes.
-use Prim.Native.Nat.{ℕ}
+-- Document 01's 69 bytes A, FF, B, from the bytes to "the whole output"; no bytes; and too many.
+use Prim.Native.Nat.{ℕ, _≤_, _<_}
+use native.Mathlib.Omega.{arith}
 use mathlib.Core.Path.{_≡_, refl}
 use mathlib.Core.List.{List, [], _∷_, _++_}
 use lib.Count.{ones}
+use lib.ListN.{length, replicate, length-replicate}
+use borrow.Author.Tests.{le-leb, lt-leb}
 use Rattle.octets.specs.Octets.{numeral, digitsOf, sum8, sumOf}
 use Rattle.calendar.specs.Calendar.{leap, daysIn, realParts, realTime}
 use Rattle.rules.specs.Table.{kindOf, suits, measureOf}
@@ -20,7 +23,7 @@ use Rattle.listing_text.specs.Text.{column, named, summaryOf}
 use Rattle.walk_spec.specs.Literal.{walkFrom, literalWalk}
 use Rattle.listing_text.specs.Whole.{linesOf}
 use Rattle.listing_text.specs.Listed.{listedOf}
-use Rattle.listing.specs.Output.{outputOf}
+use Rattle.listing_text.specs.Output.{over, outputOf}
 
 unfoldable pub capture : List ℕ
 capture = frameA (0 ∷ 0 ∷ 0 ∷ 0 ∷ []) (0 ∷ 0 ∷ 0 ∷ 0x8E ∷ []) ++ (0xFF ∷ frameB)
@@ -49,3 +52,16 @@ pub no-input : outputOf []
     ≡ 0x66 ∷ 0x72 ∷ 0x61 ∷ 0x6D ∷ 0x65 ∷ 0x73 ∷ 0x20 ∷ 0x30 ∷ 0x20 ∷ 0x72 ∷ 0x65 ∷ 0x66 ∷ 0x75 ∷ 0x73 ∷ 0x65 ∷ 0x64 ∷ 0x20 ∷ 0x30 ∷ 0x20 ∷ 0x66 ∷ 0x6C ∷ 0x6F ∷ 0x6F ∷ 0x72 ∷ 0x20 ∷ 0x30 ∷ 0x20 ∷ 0x74 ∷ 0x6F ∷ 0x70 ∷ 0x20 ∷ 0x30 ∷ 0x20 ∷ 0x6D ∷ 0x69 ∷ 0x73 ∷ 0x73 ∷ 0x69 ∷ 0x6E ∷ 0x67 ∷ 0x20 ∷ 0x30 ∷ 0x0A ∷ []
 unfolding outputOf listedOf linesOf literalWalk walkFrom fresh answerTo numberTo checkedOf ownNumber soundOf mapRules rangeRules valuesOf missingCount ones summaryOf named column decimalOf digitsOf widthIn
 no-input = refl
+
+-- "at most 65,536 bytes": so many are listed, and of one more or of any other number above it the
+-- one line is printed
+pub all-listed : (s : List ℕ) → length s ≤ 65536 → outputOf s ≡ listedOf s
+unfolding outputOf
+all-listed s l = simp (le-leb (length s) 65536 l)
+
+pub none-listed : (s : List ℕ) → 65536 < length s → outputOf s ≡ over
+unfolding outputOf
+none-listed s l = simp (lt-leb (length s) 65536 l)
+
+pub one-too-many : (b : ℕ) → outputOf (replicate 65537 b) ≡ over
+one-too-many b = none-listed (replicate 65537 b) (omega (arith, length-replicate 65537 b))

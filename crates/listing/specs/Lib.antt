@@ -1,3 +1,3 @@
-pub mod Output
+pub mod LastLine
 pub mod Listed
 pub mod Example

@@ -14,10 +14,11 @@ use Rattle.walk_spec.specs.Literal.{Walk, literalWalk}
 use Rattle.walk_spec.specs.LiteralLaws.{literal-walk}
 use Rattle.walk.specs.Promises.{Listed}
 use Rattle.listing_text.specs.Whole.{listingOf}
-use Rattle.listing_text.specs.Laws.{tableOf, length-table, listing-table, LastFits, lines-most}
+use Rattle.walk_spec.specs.Walk.{tableOf}
+use Rattle.listing_text.specs.Laws.{length-table, listing-table, LastFits, lines-most}
 use Rattle.listing_text.specs.Fit.{walk-fits}
 use Rattle.listing_text.specs.Listed.{lastAt, listedOf, walked-book}
-use Rattle.listing.specs.Output.{lastBy}
+use Rattle.listing.specs.LastLine.{lastBy}
 
 module _ (s : List ℕ) where
   pub walked-few : length (literalWalk s .records) ≤ 2 * (length s / 29) + 2

@@ -19,6 +19,7 @@ use Rattle.record.specs.Record.{recordOf, recordAt, blankOf}
 use Rattle.record.specs.RecordLaws.{length-record}
 use Rattle.record.specs.Fields.{Fits}
 use Rattle.record.specs.Back.{back}
+use Rattle.walk_spec.specs.Walk.{tableOf}
 use Rattle.listing_text.specs.Lengths.{line-most, summary-most}
 use Rattle.record.specs.Examples.{recordA, recordFF, recordB}
 use Rattle.listing_text.specs.Listing.{summary, listing}
@@ -31,10 +32,6 @@ pub data AllFit : List Record → Type 0 where
   all-more : {r : Record} {rs : List Record} → Fits r → AllFit rs → AllFit (r ∷ rs)
 
 -- RECORDS ONE BEHIND THE OTHER
-
--- their bytes, as the walk leaves them
-abbrev pub tableOf : List Record → List ℕ
-tableOf rs = joined (eachOf recordOf rs)
 
 pub length-table : (rs : List Record) → length (tableOf rs) ≡ 64 * length rs
 length-table = each-long recordOf 64 length-record

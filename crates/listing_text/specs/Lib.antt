@@ -8,3 +8,4 @@ pub mod Rest
 pub mod Answered
 pub mod Fit
 pub mod Listed
+pub mod Output

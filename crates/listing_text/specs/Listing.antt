@@ -4,6 +4,7 @@ use mathlib.Core.Path.{_≡_, refl}
 use mathlib.Core.List.{List, [], _∷_, _++_}
 use borrow.Author.Tests.{ne-eqb}
 use Rattle.terms.specs.Counters.{sessionOf, tickOf, channelOf}
+use Rattle.terms.specs.Letters.{spelled}
 use Rattle.octets.specs.Octets.{digitsOf, bytesOf}
 use Rattle.digits.specs.Digits.{decimalOf, widthIn}
 use Rattle.record.specs.declared.Record.{Record}
@@ -50,7 +51,7 @@ abbrev pub recordC : Record
 recordC =
     record {
       place = 1;
-      «msg_type» = 0x4D323031;
+      «msg_type» = spelled "M201";
       answer = 2;
       seq = sessionOf 3;
       tick = tickOf 5;

@@ -3,6 +3,7 @@ use Prim.Native.Nat.{ℕ}
 use mathlib.Core.List.{List, [], _∷_, _++_}
 use lib.Dec.{eqb}
 use Rattle.terms.specs.Paper.{pick}
+use Rattle.terms.specs.Letters.{spelled}
 use Rattle.octets.specs.Octets.{bytesOf}
 use Rattle.digits.specs.Digits.{shownOf}
 use Rattle.record.specs.declared.Record.{Record}
@@ -21,7 +22,7 @@ column v behind = shownOf v ++ (behind ∷ [])
 
 -- `----` where the type is blank, else its four bytes as they stand
 abbrev pub dashes : ℕ
-dashes = 0x2D2D2D2D
+dashes = spelled "----"
 
 abbrev pub typeShown : ℕ → ℕ
 typeShown t = pick (eqb t blank) dashes t

@@ -36,39 +36,39 @@ abbrev pub Promises : (n : ℕ) (ps : List (PK n)) (r : RK n) → Out n ps r →
 Promises n ps r post what = (κs : Lfts n) (a : Dens κs ps) (x : resT r κs .Denot) (s : AtExit (endedOf n ps r) κs) → post κs a x s → what κs a x s
 
 -- `read_at` of bytes at a place answers x
-pub record Reading (bytes : List ℕ) (at : ℕ) (x : Read) : Type 0 where
+pub record ReadCall (bytes : List ℕ) (at : ℕ) (x : Read) : Type 0 where
   pub paper : readPaper x ≡ readOf (drop at bytes)
 
-pub read-at-promises : Promises _ read-at-kinds.ps read-at-kinds.r read-at.Post (λ κs a x s. Reading (now (a .0)) (a .1 .0) x)
+pub read-at-promises : Promises _ read-at-kinds.ps read-at-kinds.r read-at.Post (λ κs a x s. ReadCall (now (a .0)) (a .1 .0) x)
 read-at-promises κs a x s p = record { paper = p }
 
 -- `body_at` of bytes at a place gives b
-pub record Body (bytes : List ℕ) (at : ℕ) (b : List ℕ) : Type 0 where
+pub record BodyCall (bytes : List ℕ) (at : ℕ) (b : List ℕ) : Type 0 where
   pub part : b ≡ bodyRead (drop at bytes)
 
-pub body-at-promises : Promises _ body-at-kinds.ps body-at-kinds.r body-at.Post (λ κs a x s. Body (now (a .0)) (a .1 .0) (now x))
+pub body-at-promises : Promises _ body-at-kinds.ps body-at-kinds.r body-at.Post (λ κs a x s. BodyCall (now (a .0)) (a .1 .0) (now x))
 body-at-promises κs a x s p = record { part = p }
 
 -- `write` of a message into a buffer answers x and leaves `left` there
-pub record Writing (m : Message) (out : List ℕ) (x : Written) (left : List ℕ) : Type 0 where
+pub record WriteCall (m : Message) (out : List ℕ) (x : Written) (left : List ℕ) : Type 0 where
   pub paper : writtenPaper x ≡ writeOf m (length out)
   pub buffer : left ≡ leftOf m out
 
 pub write-promises : Promises _ write-kinds.ps write-kinds.r write.Post (λ κs a x s.
-    Writing (message (a .0) (a .1 .0) (a .1 .1 .0 .0) (now (a .1 .1 .1 .0))) (now (a .1 .1 .1 .1 .0)) x (now (s .1 .1 .1 .1 .0)))
+    WriteCall (message (a .0) (a .1 .0) (a .1 .1 .0 .0) (now (a .1 .1 .1 .0))) (now (a .1 .1 .1 .1 .0)) x (now (s .1 .1 .1 .1 .0)))
 write-promises κs a x s p = record { paper = p .0; buffer = p .1 }
 
 -- `search` in bytes from a place on answers x
-pub record Searching (bytes : List ℕ) (from : ℕ) (x : Found) : Type 0 where
+pub record SearchCall (bytes : List ℕ) (from : ℕ) (x : Found) : Type 0 where
   pub paper : foundPaper x ≡ searchOf bytes from
 
-pub search-promises : Promises _ search-kinds.ps search-kinds.r search-reads.Post (λ κs a x s. Searching (now (a .0)) (a .1 .0) x)
+pub search-promises : Promises _ search-kinds.ps search-kinds.r search-reads.Post (λ κs a x s. SearchCall (now (a .0)) (a .1 .0) x)
 search-promises κs a x s p = record { paper = p }
 
 -- `scrub` of a buffer answers x and leaves `left` there
-pub record Scrubbing (buf : List ℕ) (x : Written) (left : List ℕ) : Type 0 where
+pub record ScrubCall (buf : List ℕ) (x : Written) (left : List ℕ) : Type 0 where
   pub paper : writtenPaper x ≡ scrubAnswer buf
   pub buffer : left ≡ scrubbed buf
 
-pub scrub-promises : Promises _ scrub-kinds.ps scrub-kinds.r scrub.Post (λ κs a x s. Scrubbing (now (a .0)) x (now (s .0)))
+pub scrub-promises : Promises _ scrub-kinds.ps scrub-kinds.r scrub.Post (λ κs a x s. ScrubCall (now (a .0)) x (now (s .0)))
 scrub-promises κs a x s p = record { paper = p .0; buffer = p .1 }

@@ -77,6 +77,8 @@ use Rattle.clean.proofs.OneAnswer as clean
 use Rattle.host_words.proofs.OneAnswer as host_words
 use Rattle.host_frames.proofs.OneAnswer as host_frames
 use Rattle.host_ledger.proofs.OneAnswer as host_ledger
+use Rattle.channels.proofs.OneAnswer as channels
+use Rattle.host_channels.proofs.OneAnswer as host_channels
 use Rattle.host_captures.proofs.OneAnswer as host_captures
 use Rattle.host_stream.proofs.OneAnswer as host_stream
 use Rattle.host_step.proofs.OneAnswer as host_step
@@ -215,6 +217,7 @@ ledger-answers =
     let Ledger-announce-one-answer = ledger.Ledger-announce-one-answer in
     let Ledger-request-one-answer = ledger.Ledger-request-one-answer in
     let Ledger-reply-one-answer = ledger.Ledger-reply-one-answer in
+    let Ledger-renewed-one-answer = ledger.Ledger-renewed-one-answer in
     let Ledger-missing-one-answer = ledger.Ledger-missing-one-answer in
     let Ledger-held-one-answer = ledger.Ledger-held-one-answer in
     let Ledger-missing-between-one-answer = ledger.Ledger-missing-between-one-answer in
@@ -298,6 +301,9 @@ words-answers =
     let state-of-one-answer = host_words.state-of-one-answer in
     let first-asked-one-answer = host_words.first-asked-one-answer in
     let last-asked-one-answer = host_words.last-asked-one-answer in
+    let number-of-one-answer = host_words.number-of-one-answer in
+    let keep-one-answer = host_words.keep-one-answer in
+    let told-bytes-one-answer = host_words.told-bytes-one-answer in
     named
 
 -- host_frames
@@ -320,8 +326,18 @@ host-ledger-answers =
     let rk-ledger-announce-one-answer = host_ledger.rk-ledger-announce-one-answer in
     let rk-ledger-request-one-answer = host_ledger.rk-ledger-request-one-answer in
     let rk-ledger-reply-one-answer = host_ledger.rk-ledger-reply-one-answer in
+    let rk-ledger-renew-one-answer = host_ledger.rk-ledger-renew-one-answer in
     let rk-ledger-missing-one-answer = host_ledger.rk-ledger-missing-one-answer in
     let rk-ledger-told-one-answer = host_ledger.rk-ledger-told-one-answer in
+    named
+
+-- channels, host_channels
+channels-answers : Named
+channels-answers =
+    let Index-turn-to-one-answer = channels.Index-turn-to-one-answer in
+    let Row-answered-one-answer = channels.Row-answered-one-answer in
+    let Channels-none-one-answer = channels.Channels-none-one-answer in
+    let rk-channels-one-answer = host_channels.rk-channels-one-answer in
     named
 
 -- host_captures
@@ -627,6 +643,13 @@ clean-buffers =
     let clean-refused-keeps = clean.clean-refused-keeps in
     named
 
+words-buffers : Named
+words-buffers =
+    let keep-one-buffer = host_words.keep-one-buffer in
+    let told-bytes-one-buffer = host_words.told-bytes-one-buffer in
+    let told-bytes-refused-keeps = host_words.told-bytes-refused-keeps in
+    named
+
 -- of all that a function of host_frames, host_ledger and host_captures is lent: told row,
 -- words and buffer
 host-buffers : Named
@@ -659,10 +682,19 @@ host-ledger-buffers =
     let rk-ledger-request-refused-keeps = host_ledger.rk-ledger-request-refused-keeps in
     let rk-ledger-reply-one-buffer = host_ledger.rk-ledger-reply-one-buffer in
     let rk-ledger-reply-refused-keeps = host_ledger.rk-ledger-reply-refused-keeps in
+    let rk-ledger-renew-one-buffer = host_ledger.rk-ledger-renew-one-buffer in
+    let rk-ledger-renew-refused-keeps = host_ledger.rk-ledger-renew-refused-keeps in
     let rk-ledger-missing-one-buffer = host_ledger.rk-ledger-missing-one-buffer in
     let rk-ledger-missing-refused-keeps = host_ledger.rk-ledger-missing-refused-keeps in
     let rk-ledger-told-one-buffer = host_ledger.rk-ledger-told-one-buffer in
     let rk-ledger-told-refused-keeps = host_ledger.rk-ledger-told-refused-keeps in
+    named
+
+-- of the table that is lent to host_channels
+host-channels-buffers : Named
+host-channels-buffers =
+    let rk-channels-one-buffer = host_channels.rk-channels-one-buffer in
+    let rk-channels-refused-keeps = host_channels.rk-channels-refused-keeps in
     named
 
 host-captures-buffers : Named

@@ -30,7 +30,7 @@ use Rattle.private.specs.PrivateLaws.{PrivateByte, private-is}
 use Rattle.frame.specs.declared.Found.{Found}
 use Rattle.frame.specs.Papers.{foundPaper}
 use Rattle.frame_spec.specs.Lowest.{ReadsAt, LowestPlace, search-given-place, search-given-none, search-given-9}
-use Rattle.promises.specs.Calls.{Reading, Body, Writing, Searching, Scrubbing}
+use Rattle.promises.specs.Calls.{ReadCall, BodyCall, WriteCall, SearchCall, ScrubCall}
 
 -- the bytes from a place on are bytes
 small-drop : (at : ℕ) (s : List ℕ) → Bytes s → Bytes (drop at s)
@@ -42,7 +42,7 @@ pub record ReadsExactly (bytes : List ℕ) (at : ℕ) (x : Read) : Type 0 where
   pub meets : (readPaper x .number ≡ 0) ↔ Reads0 (drop at bytes)
   pub each-number : (n : ℕ) → (readPaper x .number ≡ n) ↔ Reads n (drop at bytes)
 
-pub reads-exactly : (bytes : List ℕ) (at : ℕ) (x : Read) → Reading bytes at x → ReadsExactly bytes at x
+pub reads-exactly : (bytes : List ℕ) (at : ℕ) (x : Read) → ReadCall bytes at x → ReadsExactly bytes at x
 reads-exactly bytes at x r =
     record {
       meets = rw (r .paper) (read-given-0 (drop at bytes));
@@ -55,7 +55,7 @@ pub record SameBytes (bytes : List ℕ) (at n : ℕ) (x : Written) (left : List 
   pub bytes-same : take (28 + n) left ≡ take (28 + n) (drop at bytes)
 
 -- what the values of a frame that was read are: the message at its place
-module _ (bytes : List ℕ) (at t time : ℕ) (q : SessionNumber) (n : ℕ) (r : Reading bytes at (Frame t time q n)) where
+module _ (bytes : List ℕ) (at t time : ℕ) (q : SessionNumber) (n : ℕ) (r : ReadCall bytes at (Frame t time q n)) where
   abbrev here : List ℕ
   here = drop at bytes
 
@@ -68,12 +68,12 @@ module _ (bytes : List ℕ) (at t time : ℕ) (q : SessionNumber) (n : ℕ) (r :
   value : (i : ℕ) → getD (t ∷ time ∷ q .0 ∷ n ∷ []) i 0 ≡ getD (msgType here ∷ sendingTime here ∷ msgSeqNum here ∷ bodyLength here ∷ []) i 0
   value i = ap (λ (p : Paper). getD (p .values) i 0) values
 
-  as-read : (b : List ℕ) → Body bytes at b → message t time (q .0) b ≡ messageOf here
+  as-read : (b : List ℕ) → BodyCall bytes at b → message t time (q .0) b ≡ messageOf here
   as-read b p =
       let e : b ≡ body here = p .part ∙ body-of here reads-0 in
       rw (value 0, value 1, value 2, e)
 
-  pub same-bytes : Bytes bytes → (b out left : List ℕ) (x : Written) → Body bytes at b → Writing (message t time (q .0) b) out x left → 28 + n ≤ length out
+  pub same-bytes : Bytes bytes → (b out left : List ℕ) (x : Written) → BodyCall bytes at b → WriteCall (message t time (q .0) b) out x left → 28 + n ≤ length out
       → SameBytes bytes at n x left
   same-bytes small b out left x p w room =
       let m = as-read b p in
@@ -90,7 +90,7 @@ pub record SameMessage (t time : ℕ) (q : SessionNumber) (b : List ℕ) (y : Re
   pub body-same : c ≡ b
 
 pub same-message : (t time : ℕ) (q : SessionNumber) (b out left : List ℕ) (x : Written) → Widths (message t time (q .0) b)
-    → Writing (message t time (q .0) b) out x left → writtenPaper x .number ≡ 0 → (y : Read) (c : List ℕ) → Reading left 0 y → Body left 0 c
+    → WriteCall (message t time (q .0) b) out x left → writtenPaper x .number ≡ 0 → (y : Read) (c : List ℕ) → ReadCall left 0 y → BodyCall left 0 c
     → SameMessage t time q b y c
 same-message t time q b out left x widths w z y c r p =
     let m = message t time (q .0) b in
@@ -111,7 +111,7 @@ pub record ScrubbedFrame (buf left : List ℕ) (x : Written) : Type 0 where
   pub others : (i : ℕ) → ((24 ≤ i) → PrivateByte (kindOf (msgType buf)) (body buf) (i - 24) → ⊥) → ((24 + bodyLength buf ≤ i) → i < 28 + bodyLength buf → ⊥) → getD left i 0 ≡ getD buf i 0
   pub long : length left ≡ length buf
 
-pub scrubbed-frame : (buf left : List ℕ) (x : Written) → Scrubbing buf x left → readOf buf .number ≡ 0 → ScrubbedFrame buf left x
+pub scrubbed-frame : (buf left : List ℕ) (x : Written) → ScrubCall buf x left → readOf buf .number ≡ 0 → ScrubbedFrame buf left x
 scrubbed-frame buf left x c z =
     let k = kindOf (msgType buf) in
     record {
@@ -129,7 +129,7 @@ pub record PassedOn (buf left : List ℕ) (x : Written) : Type 0 where
   pub number : writtenPaper x .number ≡ readOf buf .number
   pub same : left ≡ buf
 
-pub passed-on : (buf left : List ℕ) (x : Written) → Scrubbing buf x left → (readOf buf .number ≡ 0 → ⊥) → PassedOn buf left x
+pub passed-on : (buf left : List ℕ) (x : Written) → ScrubCall buf x left → (readOf buf .number ≡ 0 → ⊥) → PassedOn buf left x
 passed-on buf left x c n = record { number = one-number (c .paper) ∙ scrub-number buf; same = c .buffer ∙ refused-same buf n }
 
 -- The search rule (document 01, Search): the lowest place from the start on where a frame reads, or
@@ -139,7 +139,7 @@ pub record FindsLowest (bytes : List ℕ) (from : ℕ) (x : Found) : Type 0 wher
   pub none : from ≤ length bytes → (foundPaper x ≡ answer 0 []) ↔ ((j : ℕ) → from ≤ j → ReadsAt bytes j → ⊥)
   pub beyond : (foundPaper x .number ≡ 9) ↔ (length bytes < from)
 
-pub finds-lowest : (bytes : List ℕ) (from : ℕ) (x : Found) → Searching bytes from x → FindsLowest bytes from x
+pub finds-lowest : (bytes : List ℕ) (from : ℕ) (x : Found) → SearchCall bytes from x → FindsLowest bytes from x
 finds-lowest bytes from x r =
     record {
       place = λ h p. rw (r .paper) (search-given-place bytes from p h);

@@ -3,18 +3,19 @@
 -- calls and their answers alone. Words.antt of `ledger_spec` tells each word from h.
 use Prim.Native.Nat.{ℕ, _≤_}
 use mathlib.Core.List.{List, [], _∷_}
-use mathlib.Core.Path.{_≡_}
+use mathlib.Core.Path.{_≡_, _∙_}
 use Rattle.ledger_spec.specs.State.{StateRules}
 use Rattle.ledger.specs.State.{bookOf}
 use Rattle.terms.specs.Paper.{Paper, answer}
-use Rattle.ledger_spec.specs.Calls.{Call, Tick, Announce, Request, Reply, Ask, Missing, Held, answerTo}
-use Rattle.ledger_spec.specs.Words.{knownTop, held, missing, count}
-use Rattle.ledger_spec.specs.Trace.{Calls, after, History}
+use Rattle.ledger_spec.specs.Calls.{Call, Tick, Announce, Request, Reply, Ask, Missing, Held, Renew, answerTo}
+use Rattle.ledger_spec.specs.Words.{settled, knownTop, held, missing, count}
+use Rattle.ledger_spec.specs.Trace.{Calls, _▸_, after, History, _▸_⇒_, trace}
 use Rattle.ledger.specs.Trace.{Promise, Ran}
-use Rattle.ledger_spec.specs.Answers.{TickAnswers, AnnounceAnswers, ReplyAnswers, Answers}
-use Rattle.ledger_spec.specs.Demand3.{Demand3, Deliveries, MissingNumbers, Requests, Counts, Shown}
+use Rattle.ledger_spec.specs.Answers.{TickAnswers, AnnounceAnswers, ReplyAnswers, OnlyCleared, Answers}
+use Rattle.ledger_spec.specs.Demand3.{Demand3, Deliveries, MissingNumbers, SomeMissing, Gives, Requests, Counts, Shown}
 use Rattle.ledger.specs.declared.Ledger.{Ledger}
 use Rattle.ledger_spec.proofs.Answers as Answered
+use Rattle.ledger_spec.proofs.Demand3.{demand-3}
 use Rattle.ledger.proofs.Promised as Promised
 use Rattle.ledger.proofs.Promised.{ran-demand-3}
 use Rattle.ledger.proofs.RanAnswers as Ran
@@ -71,6 +72,11 @@ module _ (channel : ℕ) (opens : channel ≤ 9999) {calls : Calls} {l : Ledger}
   pub held-answer : (next : Ledger) (paper : Paper) → Promise l (Ask Held) next paper → paper ≡ answer 0 (count (held h) (knownTop h) ∷ [])
   held-answer = Ran.ran-held channel opens ran
 
+  -- CR 12: a new session is answered 0, and of what the calls and answers tell the pending request
+  -- alone changes
+  pub renewal-answer : (next : Ledger) (paper : Paper) → Promise l Renew next paper → (paper ≡ answer 0 []) × OnlyCleared h (h ▸ Renew ⇒ paper)
+  renewal-answer = Ran.ran-renewal channel opens ran
+
   -- whatever a further call of the code is answered is what the ledger after the calls
   -- before it answers
   pub code-answers : (call : Call) (next : Ledger) (paper : Paper) → Promise l call next paper → paper ≡ answerTo (after channel calls) call
@@ -79,6 +85,17 @@ module _ (channel : ℕ) (opens : channel ≤ 9999) {calls : Calls} {l : Ledger}
 -- and of the definitions, a call on another channel among them
 pub each-answer : (channel : ℕ) → channel ≤ 9999 → (calls : Calls) → Answers channel calls
 each-answer = Answered.answers
+
+-- CR 12: after a new session what is missing is asked for again, whatever was pending before it
+same-missing : (h next : History) → OnlyCleared h next → (n : ℕ) → missing next n ≡ missing h n
+unfolding missing settled
+same-missing h next o n = rw (o .top-same, o .received-same n, o .given-up-same n)
+
+pub asked-again : (channel : ℕ) → channel ≤ 9999 → (calls : Calls) → SomeMissing (trace channel calls)
+    → Gives (trace channel (calls ▸ Renew)) (answerTo (after channel (calls ▸ Renew)) (Request channel))
+asked-again channel opens calls m =
+    let o = Answered.new-session-told channel opens calls in
+    demand-3 channel opens (calls ▸ Renew) .requests .when-due (record { number = m .number; is-missing = same-missing _ _ o (m .number) ∙ m .is-missing }) (o .cleared)
 
 -- The same through the host, on the nine words that rk_ledger_open wrote: `HostRan channel calls w
 -- h` says that the words w and the history h come of such calls. What rk_ledger_told then tells are
@@ -105,6 +122,9 @@ module _ (channel : ℕ) (opens : channel ≤ 9999) {calls : Calls} {w : List �
   pub host-reply : (first status : ℕ) (w′ : List ℕ) (a : Paper) → Called w (Reply channel first status) w′ a → ReplyAnswers h first status a
   host-reply = Hosted.host-reply channel opens ran
 
+  pub host-renewal : (w′ : List ℕ) (a : Paper) → Called w Renew w′ a → (a ≡ answer 0 []) × OnlyCleared h (h ▸ Renew ⇒ a)
+  host-renewal = Hosted.host-renewal channel opens ran
+
 -- that opening and each call of the code, by the checker's promise of its `ensures`, are the start
 -- and the steps that `Ran` and `HostRan` are made of
 data Named : Type 0 where
@@ -117,6 +137,7 @@ ties =
     let announce-is-step = Promised.announce-is-step in
     let request-is-step = Promised.request-is-step in
     let reply-is-step = Promised.reply-is-step in
+    let renewed-is-step = Promised.renewed-is-step in
     let missing-is-step = Promised.missing-is-step in
     let held-is-step = Promised.held-is-step in
     let between-is-step = Promised.between-is-step in
@@ -125,6 +146,7 @@ ties =
     let announce-is-call = Hosted.announce-is-call in
     let request-is-call = Hosted.request-is-call in
     let reply-is-call = Hosted.reply-is-call in
+    let renew-is-call = Hosted.renew-is-call in
     let told-is-missing = Hosted.told-is-missing in
     let told-is-held = Hosted.told-is-held in
     let between-is-call = Hosted.between-is-call in

@@ -11,6 +11,7 @@ use lib.Dec.{eqb, ltb, leb}
 use lib.ListN.{length}
 use Rattle.terms.specs.Paper.{Paper, answer, refusal, pick}
 use Rattle.terms.specs.Cases.{less}
+use Rattle.terms.specs.Letters.{spelled}
 use Rattle.octets.specs.Octets.{be}
 use Rattle.octets.specs.Papers.{roomFor}
 use Rattle.rules.specs.declared.Kind.{Kind}
@@ -26,7 +27,7 @@ use Rattle.frame_spec.specs.Lowest.{search-given-9, search-given-0}
 use Rattle.entries.specs.Reader.{openOf, stands, entryAt, stepOf}
 use Rattle.private.specs.Scrub.{scrubAnswer}
 use Rattle.ledger_spec.specs.State.{Book, largest, has, soundOf}
-use Rattle.ledger_spec.specs.Calls.{Call, Tick, Announce, Request, Reply, Ask, Missing, Held, Between, tickNumber, replyStatus, isPending, startsAt, elsewhere, ownNumber, checkedOf, numberTo, answerTo, openNumber}
+use Rattle.ledger_spec.specs.Calls.{Call, Tick, Announce, Request, Reply, Ask, Missing, Held, Between, Renew, tickNumber, replyStatus, isPending, startsAt, elsewhere, ownNumber, checkedOf, numberTo, answerTo, openNumber}
 use Rattle.walk_spec.specs.Walk as walk
 use Rattle.clean_spec.specs.Clean as clean
 use Rattle.stream_spec.specs.declared.Stream.{Stream}
@@ -67,6 +68,8 @@ use Rattle.host_ledger.proofs.rk_ledger_request.Reads as rk-ledger-request
 use Rattle.host_ledger.proofs.rk_ledger_request.Kinds as rk-ledger-request-kinds
 use Rattle.host_ledger.proofs.rk_ledger_reply.Reads as rk-ledger-reply
 use Rattle.host_ledger.proofs.rk_ledger_reply.Kinds as rk-ledger-reply-kinds
+use Rattle.host_ledger.proofs.rk_ledger_renew.Reads as rk-ledger-renew
+use Rattle.host_ledger.proofs.rk_ledger_renew.Kinds as rk-ledger-renew-kinds
 use Rattle.host_ledger.proofs.rk_ledger_missing.Reads as rk-ledger-missing
 use Rattle.host_ledger.proofs.rk_ledger_missing.Kinds as rk-ledger-missing-kinds
 use Rattle.host_ledger.proofs.rk_ledger_told.Reads as rk-ledger-told
@@ -146,7 +149,7 @@ opening-entries b =
 
 stepping : (b : List ℕ) (p : ℕ) → Numbered (stepOf b p .number)
 unfolding stepOf entryAt inTable
-stepping b p = chosen (stands b p) (entryAt b p) (refusal 20) (chosen (eqb (be 5 10 b) 0x4D44303031) _ _ (done refl) (done refl)) (refused refl)
+stepping b p = chosen (stands b p) (entryAt b p) (refusal 20) (chosen (eqb (be 5 10 b) (spelled "MD001")) _ _ (done refl) (done refl)) (refused refl)
 
 -- the ledger
 
@@ -163,6 +166,7 @@ own b (Reply channel first status) =
 own b (Ask Missing) = done refl
 own b (Ask Held) = done refl
 own b (Ask (Between channel a z)) = picked (not (tickNumber a && tickNumber z)) 10 0 (refused refl) (done refl)
+own b Renew = done refl
 
 calling : (b : Book) (call : Call) → Numbered (answerTo b call .number)
 unfolding answerTo numberTo checkedOf inTable
@@ -254,6 +258,9 @@ rk-ledger-request-numbered κs a x s p = tells-numbered (p .0) (host-numbered .c
 
 pub rk-ledger-reply-numbered : Promises _ rk-ledger-reply-kinds.ps rk-ledger-reply-kinds.r rk-ledger-reply.Post (λ κs a x s. Numbered x)
 rk-ledger-reply-numbered κs a x s p = rw (p .0 .answered) (host-numbered .calling (now (a .0)) (Reply (a .1 .0) (a .1 .1 .0) (a .1 .1 .1 .0)))
+
+pub rk-ledger-renew-numbered : Promises _ rk-ledger-renew-kinds.ps rk-ledger-renew-kinds.r rk-ledger-renew.Post (λ κs a x s. Numbered x)
+rk-ledger-renew-numbered κs a x s p = rw (p .0) (host-numbered .calling (now (a .0)) Renew)
 
 pub rk-ledger-missing-numbered : Promises _ rk-ledger-missing-kinds.ps rk-ledger-missing-kinds.r rk-ledger-missing.Post (λ κs a x s. Numbered x)
 rk-ledger-missing-numbered κs a x s p = tells-numbered p (host-numbered .calling _ _)

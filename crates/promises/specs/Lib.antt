@@ -4,8 +4,11 @@ pub mod HostNumbers
 pub mod Demand2
 pub mod HostFrames
 pub mod RealTimes
+pub mod MovedSum
 pub mod Tails
 pub mod OneSum
+pub mod Step
+pub mod Market
 pub mod Demand3
 pub mod Cuttings
 pub mod Marked
@@ -16,3 +19,7 @@ pub mod SameMap
 pub mod GivenUp
 pub mod Session
 pub mod Between
+pub mod TwoCaptures
+pub mod TwoCapturesHold
+pub mod TwoCapturesCalls
+pub mod Witness

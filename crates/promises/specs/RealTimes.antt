@@ -1,10 +1,12 @@
 -- Document 02, CR 6, sentence by sentence, over reading, writing and the walk.
-use Prim.Native.Nat.{ℕ, _+_}
+use Prim.Native.Nat.{ℕ, _+_, _≤_}
 use mathlib.Core.Path.{_≡_, refl, sym, ap, _∙_}
 use mathlib.Core.Bool.{true, false}
-use mathlib.Core.List.{List}
+use mathlib.Core.List.{List, [], _∷_}
 use native.Mathlib.Omega.{arith}
+use lib.ListN.{length, drop}
 use Rattle.terms.specs.Cases.{clash}
+use Rattle.terms.specs.Paper.{answer}
 use Rattle.octets.specs.Octets.{be}
 use Rattle.calendar.specs.Calendar.{RealTime, leap, daysIn, realParts, realTime}
 use Rattle.calendar.specs.Times.{time-says}
@@ -12,6 +14,10 @@ use Rattle.frame_spec.specs.Frame.{readOf}
 use Rattle.frame_spec.specs.Write.{Message, writeOf}
 use Rattle.frame_spec.specs.GivenRead.{read-given-0}
 use Rattle.frame_spec.specs.GivenWrite.{write-given-0}
+use Rattle.frame_spec.specs.Search.{searchOf}
+use Rattle.frame_spec.specs.Lowest.{search-given-place}
+use Rattle.private.specs.Scrub.{scrubAnswer, scrubbed}
+use Rattle.private.specs.Laws.{refused-same, scrub-number}
 use Rattle.ledger_spec.specs.State.{Book}
 use Rattle.record.specs.Record.{blankOf}
 use Rattle.reading.specs.Seen.{seenOf}
@@ -25,6 +31,13 @@ read-is-real s z = read-given-0 s .0 z .1 .before .time
 
 pub written-is-real : (m : Message) (room : ℕ) → writeOf m room .number ≡ 0 → RealTime (m .time)
 written-is-real m room z = write-given-0 m room .0 z .1 .0 .before .time
+
+-- so of every one that a search finds; and one that is refused by 7 is not scrubbed
+pub found-is-real : (s : List ℕ) (from p : ℕ) → from ≤ length s → searchOf s from ≡ answer 0 (p ∷ []) → RealTime (be 8 4 (drop p s))
+found-is-real s from p h e = read-is-real (drop p s) (search-given-place s from p h .0 e .reads)
+
+pub unreal-unscrubbed : (s : List ℕ) → readOf s .number ≡ 7 → (scrubAnswer s .number ≡ 7) × (scrubbed s ≡ s)
+unreal-unscrubbed s e = (scrub-number s ∙ e, refused-same s (λ z. omega arith))
 
 -- "A test gateway sent month 13": 1 of month 13, 2026, 09:30, is never read and never written
 not-real : realTime 20261301093000000 ≡ false

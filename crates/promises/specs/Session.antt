@@ -4,14 +4,14 @@ use Prim.Native.Nat.{ℕ}
 use mathlib.Core.Path.{_≡_, refl, sym, ap, _∙_}
 use mathlib.Core.Bool.{Bool, true, false, _||_}
 use mathlib.Core.Logic.{⊎-elim}
-use mathlib.Core.List.{List}
+use mathlib.Core.List.{List, []}
 use lib.Dec.{eqb}
 use denote.Ref.{now}
-use Rattle.terms.specs.Paper.{pick}
+use Rattle.terms.specs.Paper.{Paper, answer, pick}
 use Rattle.terms.specs.Cases.{same}
 use Rattle.session_spec.specs.Faults as fault
 use Rattle.session_spec.specs.Table.{State, new, waiting, active, leaving, over, Event, Begin, Time, Leave, Ask, Logon, Logout, Other, Faulty, rowOf}
-use Rattle.session_spec.specs.Calls.{Line, Answer, soundOf, clockOf, deadAt, dueAt, resolved, cellOf, numberIn, kindIn, misnumbered, gone, spent, ownNumber, numberTo, answerTo}
+use Rattle.session_spec.specs.Calls.{Line, Answer, soundOf, clockOf, deadAt, dueAt, resolved, cellOf, numberIn, kindIn, misnumbered, gone, spent, ownNumber, numberTo, answerTo, opened}
 use Rattle.session_spec.proofs.Outcome.{answer-zero, answer-not-zero}
 use Rattle.session_spec.proofs.Simple as simple
 use Rattle.session_spec.proofs.Theorems as theorems
@@ -22,6 +22,22 @@ use Rattle.session.proofs.AsTheTable as code
 use Rattle.session.proofs.Arrived as arrived
 use Rattle.session.specs.Arrivals.{eventIn, lengthIn}
 use Rattle.session.specs.declared.Session.{Session}
+use Rattle.session.specs.Papers.{lineOf}
+use Rattle.session.proofs.Session.opened.Reads as session-opened
+use Rattle.session.proofs.Session.opened.Kinds as session-opened-kinds
+use Rattle.tick_map.specs.Bits.{Words}
+use Rattle.ledger_spec.specs.State.{StateRules}
+use Rattle.ledger_spec.specs.Calls.{Renew}
+use Rattle.ledger_spec.specs.Answers.{NewSession}
+use Rattle.ledger_spec.proofs.Answers as answers
+use Rattle.ledger.specs.declared.Ledger.{Ledger}
+use Rattle.ledger.specs.State.{bookOf, cleared}
+use Rattle.ledger.specs.Trace.{Promise}
+use Rattle.ledger.proofs.Promised as ledgers
+use Rattle.host_words.specs.Words.{bookIn}
+use Rattle.host_ledger.proofs.Promised as host-ledgers
+use Rattle.host_ledger.proofs.rk_ledger_renew.Reads as rk-ledger-renew
+use Rattle.host_ledger.proofs.rk_ledger_renew.Kinds as rk-ledger-renew-kinds
 use Rattle.session_spec.specs.Trace.{Call, Calls, after, answerAfter, History}
 use Rattle.host_session.specs.Words.{wordsOf, lineIn, paperOf, arrivalPaper, callTold, arrivalTold}
 use Rattle.host_session.proofs.Rows as rows
@@ -93,6 +109,35 @@ cr-12 =
     let given-33 = given.given-33 in
     let refused-moves-nothing = simple.refused-moves-nothing in
     let rules-kept = simple.rules-kept in
+    named
+
+-- "A NEW SESSION STARTS BOTH COUNTERS AT 1": what opening one gives, of the code
+pub new-session-counters : Promises _ session-opened-kinds.ps session-opened-kinds.r session-opened.Post (λ κs a x s. (lineOf x .sending ≡ 1) × (lineOf x .expecting ≡ 1))
+unfolding opened
+new-session-counters κs a x s p = (ap (λ (l : Line). l .sending) p, ap (λ (l : Line). l .expecting) p)
+
+-- and of the words that a host keeps
+pub host-new-session-counters : Promises _ rk-session-open-kinds.ps rk-session-open-kinds.r rk-session-open.Post (λ κs a x s. (lineIn (now (s .0)) .sending ≡ 1) × (lineIn (now (s .0)) .expecting ≡ 1))
+unfolding opened
+host-new-session-counters κs a x s p =
+    let e : lineIn (now (s .0)) ≡ opened = ap lineIn (p .1) ∙ rows.words-back opened in
+    (ap (λ (l : Line). l .sending) e, ap (λ (l : Line). l .expecting) e)
+
+-- ".. CLEARS A PENDING RESEND REQUEST AND KEEPS ALL ELSE IN THE TICK LEDGERS": the very ledger with nothing pending, of the code
+pub new-session : (l next : Ledger) (paper : Paper) → Words (l .map .words) → Promise l Renew next paper → StateRules (bookOf l)
+    → (paper ≡ answer 0 []) × (next ≡ cleared l)
+new-session = ledgers.new-session
+
+-- of the nine words that a host keeps: the ledger that they stand for is the same but for its pending request, which is nothing
+pub host-new-session : Promises _ rk-ledger-renew-kinds.ps rk-ledger-renew-kinds.r rk-ledger-renew.Post
+    (λ κs a x s. StateRules (bookIn (now (a .0))) → NewSession (bookIn (now (a .0))) (answer x []) (bookIn (now (s .0))))
+host-new-session κs a x s p r = host-ledgers.renew-new-session κs a x s p r
+
+-- "DEMAND 3 THEN COUNTS THAT REQUEST AS NO LONGER PENDING": `handed-out` to `counted` of Demand3.antt are over rows of calls with `Renew` among
+-- them, and `pending` is told from the calls alone: granted, no reply answered 0 since, no new session since (`stillPending` of `ledger_spec`)
+no-longer-pending : Named
+no-longer-pending =
+    let new-session-told = answers.new-session-told in
     named
 
 -- EACH ANSWER IS A NUMBER OF THE TABLE

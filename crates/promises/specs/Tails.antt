@@ -6,6 +6,7 @@ use mathlib.Core.Logic.{_⊎_, inl, inr, ⊎-elim}
 use mathlib.Core.List.{List}
 use native.Mathlib.Omega.{arith}
 use lib.ListN.{length, getD}
+use Rattle.terms.specs.Letters.{spelled}
 use Rattle.octets.specs.Octets.{be}
 use Rattle.rules.specs.declared.Kind.{Kind}
 use Rattle.rules.specs.declared.Kind.the-variants.{M201}
@@ -27,7 +28,7 @@ use Rattle.private.specs.Laws.{scrub-keeps, scrub-fills}
 
 -- A TICK THAT READS, of a layout: "Read the extension by 2.5.4.1 and 2.5.4.2 of source document
 -- 000"
-module _ (s : List ℕ) (z : readOf s .number ≡ 0) (t : msgType s ≡ 0x4D323031) (l : Layout) (r : LayoutRule (be 5 11 (body s)) (be 1 28 (body s)) l) where
+module _ (s : List ℕ) (z : readOf s .number ≡ 0) (t : msgType s ≡ spelled "M201") (l : Layout) (r : LayoutRule (be 5 11 (body s)) (be 1 28 (body s)) l) where
   long : length (body s) ≡ bodyLength s
   long = body-length s (good s z .whole .there)
 
@@ -62,7 +63,7 @@ module _ (s : List ℕ) (z : readOf s .number ≡ 0) (t : msgType s ≡ 0x4D3230
   private-gone i h p = scrub-fills s z i h (so-private i p)
 
 -- AN ORDER: Side is body byte 45, QuoteID 46 to 63; in the frame 69 and 70 to 87
-module _ (s : List ℕ) (z : readOf s .number ≡ 0) (t : msgType s ≡ 0x4D323031) (r : LayoutRule (be 5 11 (body s)) (be 1 28 (body s)) Order) where
+module _ (s : List ℕ) (z : readOf s .number ≡ 0) (t : msgType s ≡ spelled "M201") (r : LayoutRule (be 5 11 (body s)) (be 1 28 (body s)) Order) where
   -- "the support desk can't see side or order number": now it can
   pub side-and-order-number-stay : (i : ℕ) → 45 ≤ i → i < 64 → getD (scrubbed s) (24 + i) 0 ≡ getD s (24 + i) 0
   side-and-order-number-stay i a b = rest-stays s z t Order r i (omega (arith, tail-suits s z t Order r)) (not-private i b)
@@ -82,11 +83,11 @@ module _ (s : List ℕ) (z : readOf s .number ≡ 0) (t : msgType s ≡ 0x4D3230
       inside i (inr (inr h)) = omega (arith, tail-suits s z t Order r)
 
 -- A TRADE has nothing private: all of its body stays, both order numbers among it
-pub trade-stays : (s : List ℕ) → readOf s .number ≡ 0 → msgType s ≡ 0x4D323031 → LayoutRule (be 5 11 (body s)) (be 1 28 (body s)) Trade
+pub trade-stays : (s : List ℕ) → readOf s .number ≡ 0 → msgType s ≡ spelled "M201" → LayoutRule (be 5 11 (body s)) (be 1 28 (body s)) Trade
     → (i : ℕ) → i < bodyLength s → getD (scrubbed s) (24 + i) 0 ≡ getD s (24 + i) 0
 trade-stays s z t r i h = rest-stays s z t Trade r i h (λ p. p)
 
 -- "AN EXTENSION OF A STREAM NOT NAMED THERE IS WHOLLY PRIVATE and still painted with spaces"
-pub not-named-all-gone : (s : List ℕ) → readOf s .number ≡ 0 → msgType s ≡ 0x4D323031 → LayoutRule (be 5 11 (body s)) (be 1 28 (body s)) Other
+pub not-named-all-gone : (s : List ℕ) → readOf s .number ≡ 0 → msgType s ≡ spelled "M201" → LayoutRule (be 5 11 (body s)) (be 1 28 (body s)) Other
     → (i : ℕ) → 45 ≤ i → i < bodyLength s → getD (scrubbed s) (24 + i) 0 ≡ 0x20
 not-named-all-gone s z t r i a h = private-gone s z t Other r i h (a, h)

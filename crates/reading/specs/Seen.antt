@@ -5,6 +5,7 @@ use mathlib.Core.List.{List}
 use lib.Dec.{eqb}
 use Rattle.terms.specs.Paper.{pick}
 use Rattle.terms.specs.Counters.{sessionOf, tickOf, channelOf}
+use Rattle.terms.specs.Letters.{spelled}
 use Rattle.rules.specs.Table.{kindOf}
 use Rattle.frame_view.specs.declared.View.{View}
 use Rattle.frame_spec.specs.Frame.{msgType, msgSeqNum, bodyLength, readOf, reads, bodyRead}
@@ -32,7 +33,7 @@ abbrev pub blank : ℕ → Seen
 blank number =
     record {
       answer = number;
-      «msg_type» = 0x20202020;
+      «msg_type» = spelled "    ";
       seq = sessionOf 0;
       channel = channelOf 0;
       tick = tickOf 0;

@@ -5,6 +5,7 @@ use mathlib.Core.List.{List, [], _++_}
 use native.Mathlib.Nat.{add-zero}
 use lib.Dec.{lit<}
 use lib.ListN.{drop}
+use Rattle.terms.specs.Letters.{spelled}
 use Rattle.octets.specs.Octets.{digitsOf, be, bytesOf}
 use Rattle.octets.specs.Numerals.{numeral-drop, be-front}
 use Rattle.record.specs.declared.Record.{Record}
@@ -64,7 +65,7 @@ fields-stand r f =
 -- the record where reading answered 1 to 7: blank but for four numbers, whatever those are
 -- (document 01, Records, paragraph 1; 7 by CR 6)
 pub record Blank (s : List ℕ) : Type 0 where
-  pub msg-type : be 4 8 s ≡ 0x20202020
+  pub msg-type : be 4 8 s ≡ spelled "    "
   pub seq : be 8 16 s ≡ 0
   pub tick : be 8 24 s ≡ 0
   pub channel : be 2 32 s ≡ 0

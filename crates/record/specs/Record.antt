@@ -3,6 +3,7 @@
 use Prim.Native.Nat.{ℕ, _+_}
 use mathlib.Core.List.{List, _++_}
 use Rattle.terms.specs.Counters.{sessionOf, tickOf, channelOf}
+use Rattle.terms.specs.Letters.{spelled}
 use Rattle.octets.specs.Octets.{be, bytesOf}
 use Rattle.record.specs.declared.Record.{Record}
 
@@ -46,7 +47,7 @@ recordAt at s =
 
 -- four spaces: the type where a reading was refused
 abbrev pub blank : ℕ
-blank = 0x20202020
+blank = spelled "    "
 
 -- the record where reading answered 1 to 7: blank but for four numbers
 -- (document 01, Records, paragraph 1; 7 by CR 6)

@@ -80,10 +80,16 @@ abbrev pub layout-of-wrong : List (Row (ℕ × ℕ) ℕ)
 layout-of-wrong =
     (0x4D44323131, 0x30) only 1  -- MD211 with 0 not named
     ∷ (0x4D44323131, 0x34) only 1  -- ExecType 4 not taken for an order
+    ∷ (0x4D44323132, 0x30) only 1  -- MD212 left out
+    ∷ (0x4D44323133, 0x34) only 1  -- MD213 left out
+    ∷ (0x4D44323134, 0x30) only 1  -- MD214 left out
+    ∷ (0x4D44323135, 0x34) only 1  -- MD215 left out
     ∷ (0x4D44323136, 0x30) only 1  -- MD216 left out
     ∷ (0x4D44323137, 0x46) only 2  -- MD217 with F not named
     ∷ (0x4D44323137, 0x30) never 1  -- MD217 with 0 taken as an order
+    ∷ (0x4D44323137, 0x34) never 1  -- MD217 with 4 taken as an order
     ∷ (0x4D44323131, 0x46) only 0  -- MD211 with F taken as a trade
+    ∷ (0x4D44323136, 0x46) only 0  -- MD216 with F taken as a trade
     ∷ (0x4D44323130, 0x30) only 0  -- MD210 taken as named
     ∷ (0x4D44323138, 0x46) only 0  -- MD218 taken as named
     ∷ (0x6D64323131, 0x30) only 0  -- md211 taken as named

@@ -34,7 +34,7 @@ scrub-wrong =
     logon 0x41 0x42 30 never frame 102 (logon 0x41 0x42 30)  -- a scrubber that paints nothing
     ∷ logon 0x41 0x42 30 never frame 102 (logon 0x20 0x42 30)  -- one of the two CompIDs left
     ∷ logon 0x41 0x42 30 never frame 102 (logon 0 0 30)  -- zeros for spaces
-    ∷ logon 0x41 0x42 30 never frame 102 (take 98 (logon 0x20 0x20 30) ++ drop 98 (logon 0x41 0x42 30))  -- the old checksum kept
+    ∷ logon 0x41 0x42 30 never frame 102 (take 98 (logon 0x20 0x20 30) ++ drop 98 (logon 0x41 0x42 30))  -- the old checksum kept, or worked out after the part was filled, so that fills are taken off
     ∷ logon 0x41 0x42 30 never frame 102 (take 98 (logon 0x20 0x20 30) ++ drop 98 (logon 0x20 0x42 30))  -- the sum moved for the first span alone
     ∷ logon 0x41 0x42 30 never frame 102 (take 94 (logon 0x20 0x20 30) ++ (drop 98 (logon 0x20 0x20 30) ++ drop 98 (logon 0x41 0x42 30)))  -- stored four bytes early
     ∷ logon 0x41 0x42 30 never frame 102 (logon 0x20 0x20 0x20)  -- a public byte painted: HeartBtInt

@@ -1,4 +1,5 @@
--- What reading the bytes finds tells their event and their length; a number that reading gives is the session's answer. Assumes nothing.
+-- What reading the bytes finds tells their event and their length; a number that reading gives is
+-- the session's answer. Assumes nothing.
 use mathlib.Core.Path.{_≡_, refl, sym, ap, _∙_}
 use mathlib.Core.Bool.{true}
 use mathlib.Core.List.{List, [], _∷_}

@@ -1,4 +1,5 @@
--- What the code runs is the table, followed from new on: over the promises of `turn` and `received` themselves. Assumes nothing.
+-- What the code runs is the table, followed from new on: over the promises of `turn` and `received`
+-- themselves. Assumes nothing.
 use mathlib.Core.Path.{_≡_, refl}
 use denote.Ref.{now}
 use Rattle.terms.specs.RuledOut as promise
@@ -26,7 +27,8 @@ Received = promise.Call _ received-kinds.ps received-kinds.r
 abbrev pub arrived : Received → Call
 arrived c = record { now = c .args .1 .0; event = eventIn (now (c .args .1 .1 .0)) }
 
--- the session s and the history h come of calls of the code on an opened session, each meeting its promise
+-- the session s and the history h come of calls of the code on an opened session, each meeting its
+-- promise
 pub data Ran : Calls → Session → History → Type 0 where
   opening : {s : Session} → lineOf s ≡ opened → Ran no-call s start
   one-more : {calls : Calls} {h : History} (c : Turned) → Ran calls (c .args .0) h → promise.Kept _ turn-kinds.ps turn-kinds.r turn.Post c

@@ -1,4 +1,5 @@
--- For each public function: two answers that its promise allows are equal. A turn is told from its words, case by case. Assumes nothing.
+-- For each public function: two answers that its promise allows are equal. A turn is told from its
+-- words, case by case. Assumes nothing.
 use mathlib.Core.Path.{_≡_, refl, sym, ap, ap₂, _∙_}
 use Prim.Native.Nat.{ℕ}
 use Rattle.terms.specs.OneAnswer.{OneAnswer}

@@ -45,7 +45,8 @@ kindNumber P002 = 4
 abbrev lineNumbers : Line → List ℕ
 lineNumbers l = stateNumber (l .state) ∷ l .sending ∷ l .expecting ∷ l .last ∷ l .sent ∷ l .heard ∷ l .interval ∷ []
 
--- a turn as numbers: the answer's number, what is sent and under which number, dead or not; then the next session
+-- a turn as numbers: the answer's number, what is sent and under which number, dead or not; then
+-- the next session
 abbrev listed : Answer → Line → List ℕ
 listed a l = a .number ∷ kindNumber (a .kind) ∷ a .seq ∷ one (a .dead) ∷ lineNumbers l
 
@@ -67,7 +68,8 @@ Given = Line × (ℕ × Event)
 abbrev given : Line → ℕ → Event → Given
 given l now e = (l, (now, e))
 
--- lines for rows: a logon is awaited; active since 1,000 with an interval of 1,000; our logout sent; over
+-- lines for rows: a logon is awaited; active since 1,000 with an interval of 1,000; our logout
+-- sent; over
 abbrev awaiting : Line
 awaiting = line waiting 2 1 1000 1000 0 0
 

@@ -1,5 +1,5 @@
--- What the bytes at the front are to a session: of a frame that reads, its type, MsgSeqNum and, of a logon, HeartBtInt; else reading's own
--- refusal.
+-- What the bytes at the front are to a session: of a frame that reads, its type, MsgSeqNum and, of
+-- a logon, HeartBtInt; else reading's own refusal.
 use Prim.Native.Nat.{ℕ, _+_}
 use mathlib.Core.List.{List}
 use Rattle.terms.specs.Paper.{pick}

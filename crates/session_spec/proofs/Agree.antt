@@ -1,4 +1,5 @@
--- What a session is, told from its history alone, for every row of calls: the invariant. Assumes nothing.
+-- What a session is, told from its history alone, for every row of calls: the invariant. Assumes
+-- nothing.
 use mathlib.Core.Path.{_≡_, refl, sym, ap, ap₂, _∙_}
 use mathlib.Core.Bool.{Bool, true, false}
 use mathlib.Core.List.{List, [], _∷_, _++_, append-nil}

@@ -1,4 +1,5 @@
--- What is known of a call that is answered 0: each test passed. Its counters can step. Assumes nothing.
+-- What is known of a call that is answered 0: each test passed. Its counters can step. Assumes
+-- nothing.
 use mathlib.Core.Path.{_≡_, refl, sym, ap, _∙_}
 use mathlib.Core.Bool.{Bool, true, false, _&&_, _||_}
 use Prim.Native.Nat.{ℕ, _+_, _≤_, _<_}

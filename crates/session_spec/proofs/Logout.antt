@@ -32,7 +32,8 @@ replied l now n s h =
     (λ (g : Goes l now (Logout n)). kind-goes g ∙ reply-cell l (clockOf l now) n)
     (outcome l now (Logout n) s)
 
--- a logout taken on an active line is answered by S002; one in place of the logon answer, or behind our own, by nothing; the session is over
+-- a logout taken on an active line is answered by S002; one in place of the logon answer, or behind
+-- our own, by nothing; the session is over
 pub logout-answered : (calls : Calls) (now n : ℕ) → accepted (answerTo (after calls) now (Logout n)) ≡ true
     → answerTo (after calls) now (Logout n) .kind ≡ reply (stage (trace calls))
 logout-answered calls now n h = let g = agrees calls in replied (after calls) now n (g .sound) h ∙ ap reply (g .state-is)

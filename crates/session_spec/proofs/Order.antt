@@ -1,4 +1,5 @@
--- CR 12's sentences on what comes before what: our logon first, nothing behind our logout, dead once. Assumes nothing.
+-- CR 12's sentences on what comes before what: our logon first, nothing behind our logout, dead
+-- once. Assumes nothing.
 use mathlib.Core.Path.{_≡_, refl, sym, ap, ap₂, _∙_}
 use mathlib.Core.Bool.{Bool, true, false, _&&_, _||_}
 use mathlib.Core.Logic.{_⊎_, inl, inr, ⊎-elim}

@@ -1,4 +1,5 @@
--- CR 12's sentences that follow at once: the numbers, the rules, refusals, and times that go back. Assumes nothing.
+-- CR 12's sentences that follow at once: the numbers, the rules, refusals, and times that go back.
+-- Assumes nothing.
 use mathlib.Core.Path.{_≡_, ap, _∙_}
 use mathlib.Core.Bool.{true}
 use Prim.Native.Nat.{ℕ, _+_, _≤_, max}

@@ -1,4 +1,5 @@
--- What one call does, told in the words of the history: `Step`. A refusal leaves all as it was. Assumes nothing.
+-- What one call does, told in the words of the history: `Step`. A refusal leaves all as it was.
+-- Assumes nothing.
 use mathlib.Core.Path.{_≡_, refl, sym, _∙_}
 use mathlib.Core.Bool.{Bool, true, false, _&&_, not}
 use mathlib.Core.Logic.{_⊎_, ⊎-elim}

@@ -1,4 +1,5 @@
--- CR 12's sentences, for every row of calls: heartbeats, the dead line, our logout, the logon first. Assumes nothing.
+-- CR 12's sentences, for every row of calls: heartbeats, the dead line, our logout, the logon
+-- first. Assumes nothing.
 use mathlib.Core.Path.{_≡_, refl, sym, ap, _∙_}
 use mathlib.Core.Bool.{Bool, true, false}
 use mathlib.Core.Logic.{_⊎_, inl, inr, ⊎-elim, _↔_}
@@ -129,7 +130,8 @@ words-due h l call g d = record { at-time = d .at-time; is-active = sym (g .stat
 session-due : (h : History) (l : Line) (call : Call) → Agrees h l → HeartbeatDue h call → Due l (call .now) Time
 session-due h l call g d = record { at-time = refl; is-active = g .state-is ∙ d .is-active; alive = omega arith; due = omega arith; room = omega arith }
 
--- `time` sends S003 exactly where the state is active, the line not dead, the interval passed since our last message, and a number is left
+-- `time` sends S003 exactly where the state is active, the line not dead, the interval passed since
+-- our last message, and a number is left
 pub heartbeat-due : (calls : Calls) (call : Call) → (answerAfter calls call .kind ≡ S003) ↔ HeartbeatDue (trace calls) call
 heartbeat-due calls call =
     let g = agrees calls in (
@@ -202,7 +204,8 @@ words-dead h l call g d =
 session-dead : (h : History) (l : Line) (call : Call) → Agrees h l → LineDead h call → (listening (l .state) ≡ true) × (2 * l .interval < clockOf l (call .now) - l .heard)
 session-dead h l call g d = let k = d .silent in (ap listening (g .state-is) ∙ listens-of (stage h) (d .listens), omega arith)
 
--- the line is called dead exactly where, behind the logon answer, more than two intervals passed since the last frame taken
+-- the line is called dead exactly where, behind the logon answer, more than two intervals passed
+-- since the last frame taken
 pub dead-exactly : (calls : Calls) (call : Call) → (answerAfter calls call .dead ≡ true) ↔ LineDead (trace calls) call
 dead-exactly calls call =
     let g = agrees calls in (

@@ -1,4 +1,5 @@
--- One call of a session: what it is answered, what is to be sent, and the session after it. CR 12 and decision 12.1.
+-- One call of a session: what it is answered, what is to be sent, and the session after it. CR 12
+-- and decision 12.1.
 use mathlib.Core.Bool.{Bool, true, false, _&&_, _||_, not}
 use Prim.Native.Nat.{ℕ, _+_, _-_, _*_, max}
 use lib.Dec.{eqb, leb, ltb}
@@ -24,7 +25,8 @@ lastNumber = 18446744073709551615
 
 -- ======== State rules
 
--- before our logon both counters are 1; until its answer 2 and 1; then both are at least 2, and 3 where our logout is sent
+-- before our logon both counters are 1; until its answer 2 and 1; then both are at least 2, and 3
+-- where our logout is sent
 abbrev pub countersRight : State → ℕ → ℕ → Bool
 countersRight new out into = eqb out 1 && eqb into 1
 countersRight waiting out into = eqb out 2 && eqb into 1
@@ -114,8 +116,8 @@ gone l t e = (isFrame e || isOurs e) && deadAt l t
 abbrev pub spent : Line → Event → Kind → Bool
 spent l e k = ((isOurs e || sends k) && leb lastNumber (l .sending)) || (isFrame e && leb lastNumber (l .expecting))
 
--- "reading's own first, then 30 .., 31 .., 32 .., 33": a frame that reading refused is none to 31 and 32, so its own number stands
--- (`own-first`)
+-- "reading's own first, then 30 .., 31 .., 32 .., 33": a frame that reading refused is none to 31
+-- and 32, so its own number stands (`own-first`)
 abbrev pub ordered : Bool → Bool → ℕ → ℕ
 ordered wrong ended n = pick (eqb n 30) 30 (pick wrong 31 (pick ended 32 n))
 
@@ -128,7 +130,8 @@ numberTo l now e = pick (soundOf l) (ownNumber l (clockOf l now) e (cellOf l (cl
 
 -- ======== The answer, and the session after the call
 
--- its number; what is to be sent, and under which number (0 beside nothing); whether the line was called dead
+-- its number; what is to be sent, and under which number (0 beside nothing); whether the line was
+-- called dead
 pub record Answer : Type 0 where
   pub number : ℕ
   pub kind : Kind

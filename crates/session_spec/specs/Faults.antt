@@ -1,5 +1,5 @@
--- The numbers that reading a frame may give, and no other: document 01, "What each number says", and 7 of CR 6. (`received-own` in the
--- crate `session` says that reading gives no other.)
+-- The numbers that reading a frame may give, and no other: document 01, "What each number says",
+-- and 7 of CR 6. (`received-own` in the crate `session` says that reading gives no other.)
 use Prim.Native.Nat.{ℕ}
 use lib.Dec.{eqb}
 use Rattle.terms.specs.Paper.{pick}

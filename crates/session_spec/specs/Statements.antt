@@ -12,7 +12,8 @@ use Rattle.session_spec.specs.Words.{clock, stage, interval, lastSent, l
 abbrev pub moment : History → Call → ℕ
 moment h call = max (clock h) (call .now)
 
--- time passes on an active line that is not dead, at least the agreed interval since our last message; and the heartbeat can be numbered
+-- time passes on an active line that is not dead, at least the agreed interval since our last
+-- message; and the heartbeat can be numbered
 pub record HeartbeatDue (h : History) (call : Call) : Type 0 where
   pub at-time : call .event ≡ Time
   pub is-active : stage h ≡ active
@@ -32,8 +33,8 @@ pub record Nothing (l : Line) (now : ℕ) (e : Event) : Type 0 where
   pub unsent : answerTo l now e .kind ≡ none
   pub undead : answerTo l now e .dead ≡ false
 
--- "logout answered by logout": what a logout that is taken is answered by, at each stage; none in place of the logon answer, none behind
--- our own
+-- "logout answered by logout": what a logout that is taken is answered by, at each stage; none in
+-- place of the logon answer, none behind our own
 abbrev pub reply : State → Kind
 reply new = none
 reply waiting = none
@@ -41,7 +42,8 @@ reply active = S002
 reply leaving = none
 reply over = none
 
--- "A logout in place of the logon answer ends the session with nothing sent": nor is anything sent by whatever call comes next
+-- "A logout in place of the logon answer ends the session with nothing sent": nor is anything sent
+-- by whatever call comes next
 pub record EndedUnsent (calls : Calls) (logout : Call) : Type 0 where
   pub unsent : answerAfter calls logout .kind ≡ none
   pub ended : stage (trace (calls ▸ logout)) ≡ over

@@ -18,8 +18,8 @@ pub data Kind : Type 0 where
   S003 : Kind
   P002 : Kind
 
--- the host begins, lets time pass, leaves, asks for a resend; a frame was read: a logon (with its HeartBtInt), a logout, any other;
--- a frame was refused by reading
+-- the host begins, lets time pass, leaves, asks for a resend; a frame was read: a logon (with its
+-- HeartBtInt), a logout, any other; a frame was refused by reading
 pub data Event : Type 0 where
   Begin : Event
   Time : Event

@@ -49,7 +49,8 @@ isS002 S002 = true
 isS002 S003 = false
 isS002 P002 = false
 
--- the clock: the time of the last call not refused, where a time before the last one counts as the last one
+-- the clock: the time of the last call not refused, where a time before the last one counts as the
+-- last one
 abbrev pub clock : History → ℕ
 clock start = 0
 clock (h ▸ call ⇒ a) = pick (accepted a) (max (clock h) (call .now)) (clock h)
@@ -94,8 +95,8 @@ abbrev pub calledDead : History → Bool
 calledDead start = false
 calledDead (h ▸ call ⇒ a) = a .dead || calledDead h
 
--- how far the session is, by what was last sent or taken: over behind a logout taken or a dead line, leaving behind our own logout,
--- active behind a logon taken, waiting behind our logon
+-- how far the session is, by what was last sent or taken: over behind a logout taken or a dead
+-- line, leaving behind our own logout, active behind a logon taken, waiting behind our logon
 abbrev pub stageBy : Call → Answer → State → State
 stageBy call a was =
     pick (a .dead || (isLogout (call .event) && accepted a)) over

@@ -1,12 +1,12 @@
 -- What scrubbing promises: the length stays, the frame reads as before with the named values in
 -- spaces, again changes nothing, and frames that differ in named values alone scrub to
 -- the same bytes.
-use Prim.Native.Nat.{ℕ, _+_, _-_, _≤_}
+use Prim.Native.Nat.{ℕ, _+_, _-_, _<_, _≤_}
 use mathlib.Core.Path.{_≡_, refl, sym, ap, _∙_}
 use mathlib.Core.Bool.{Bool, true, false}
 use mathlib.Core.List.{List, [], _∷_, _++_}
 use native.Mathlib.Omega.{arith}
-use lib.ListN.{length, drop, length-append}
+use lib.ListN.{length, getD, drop, length-append}
 use lib.Seq.{drop-at}
 use Rattle.terms.specs.Paper.{Paper, answer, one-number}
 use Rattle.step_spec.specs.Pieces.{pieces}
@@ -17,7 +17,8 @@ use Rattle.step_spec.specs.RoundTrip.{kind-of-frame, fields-of-frame, length-of
 use Rattle.step_spec.specs.Exactly.{Good, good, is-frame, frame-ends, Reads, paperOf, reads-exactly, exactly-reads}
 use Rattle.step_scrub.specs.Scrubbed.{paintAll, joined, painted, scrubbedOf}
 use Rattle.step_scrub.specs.ScrubLaws.{closed-fields, all-fields, same-long}
-use Rattle.step_scrub.specs.PaintLaws.{painted-sound, painted-real, painted-twice}
+use Rattle.step_scrub.specs.PaintLaws.{painted-sound, painted-real, painted-twice, kept}
+use Rattle.step_scrub.specs.Private.{pieces-back, FieldThen, as-many, fields-then, AlikeFields, alike-painted}
 
 -- a message's frame is as long as that of any other fields of that length
 same-frame : (type : ℕ) (u v : List ℕ) → length u ≡ length v → length v ≤ 8192 → length (frameOf type u) ≡ length (frameOf type v)
@@ -87,12 +88,27 @@ module _ (s : List ℕ) (z : stepReadOf s .number ≡ 0) where
   pub scrubbed-again : scrubbedOf (scrubbedOf s) ≡ scrubbedOf s
   scrubbed-again = anew (scrubbedOf s) s scrubbed-kind (ap painted scrubbed-fields ∙ painted-twice f (closed-fields s g) (all-fields s g)) scrubbed-rest
 
--- two frames that agree in type, in what follows them, and in all but the named values
+  then-pieces : pieces (fields (scrubbedOf s)) ≡ paintAll (pieces f)
+  then-pieces = ap pieces scrubbed-fields ∙ kept f (closed-fields s g) (all-fields s g) .pieces-are
+
+  -- each field: the same tag; a private value becomes as many spaces; any other field stays
+  pub scrubbed-field : (i : ℕ) → i < length (pieces f) → FieldThen (getD (pieces f) i []) (getD (pieces (fields (scrubbedOf s))) i [])
+  scrubbed-field i h = rw then-pieces (fields-then (pieces f) (all-fields s g) i h)
+
+  -- it has as many as before, and they are all of its fields' bytes
+  pub scrubbed-count : length (pieces (fields (scrubbedOf s))) ≡ length (pieces f)
+  scrubbed-count = ap length then-pieces ∙ as-many (pieces f)
+
+  pub scrubbed-all : joined (pieces (fields (scrubbedOf s))) ≡ fields (scrubbedOf s)
+  scrubbed-all = pieces-back (fields (scrubbedOf s)) (closed-fields (scrubbedOf s) (good (scrubbedOf s) (one-number scrubbed-same ∙ z)))
+
+-- two frames that agree in type, in what follows them, and in all but private values of one length;
+-- their sums may differ
 pub record Alike (s t : List ℕ) : Type 0 where
   pub types : kind s ≡ kind t
-  pub fields-are : paintAll (pieces (fields s)) ≡ paintAll (pieces (fields t))
+  pub fields-are : AlikeFields (pieces (fields s)) (pieces (fields t))
   pub rests : drop (frameLength s) s ≡ drop (frameLength t) t
 
 pub step-alike : (s t : List ℕ) → Alike s t → scrubbedOf s ≡ scrubbedOf t
 unfolding painted
-step-alike s t a = anew s t (a .types) (ap joined (a .fields-are)) (a .rests)
+step-alike s t a = anew s t (a .types) (ap joined (alike-painted (pieces (fields s)) (pieces (fields t)) (a .fields-are))) (a .rests)

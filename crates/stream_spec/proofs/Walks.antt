@@ -19,20 +19,20 @@ use Rattle.ledger.proofs.Seam.{book-of}
 use Rattle.walk_laws.specs.Walk.{Sight}
 use Rattle.walk_laws.specs.Account.{accountOf}
 use Rattle.reading.specs.declared.Seen.{Seen}
-use Rattle.walk_spec.specs.Offers.{callsBy, answered, offerOf}
+use Rattle.walk_spec.specs.Offers.{callsBy, offering, offerOf}
 use Rattle.walk_spec.specs.Walk.{recordBy, bookBy, accepts, refuses, framesOf, refusedOf}
 use Rattle.stream_spec.specs.declared.Tally.{Tally}
 use Rattle.stream_spec.specs.Tally.{tallyWith, recordAt, tallyAfter, ledgerRight}
 
 -- A READING KEEPS THE LEDGER'S RULES
 
-rules-answered : (b : Book) (n : ℕ) (calls : List Call) → StateRules b → StateRules (answered b n calls .book)
-unfolding answered
+rules-answered : (b : Book) (n : ℕ) (calls : List Call) → StateRules b → StateRules (offering b n calls .book)
+unfolding offering
 rules-answered b n [] r = r
 rules-answered b n (call ∷ calls) r = rules-answered (nextOf b call) (numberTo b call) calls (rules-kept b call r)
 
-channel-answered : (b : Book) (n : ℕ) (calls : List Call) → StateRules b → answered b n calls .book .channel ≡ b .channel
-unfolding answered
+channel-answered : (b : Book) (n : ℕ) (calls : List Call) → StateRules b → offering b n calls .book .channel ≡ b .channel
+unfolding offering
 channel-answered b n [] r = refl
 channel-answered b n (call ∷ calls) r = channel-answered (nextOf b call) (numberTo b call) calls (rules-kept b call r) ∙ step b call r .channel-same
 

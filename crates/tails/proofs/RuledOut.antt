@@ -1,4 +1,5 @@
--- For the public function: wrong answers that its promise rules out, as a table of what is given and what is then wrong. Assumes nothing.
+-- For the public function: wrong answers that its promise rules out, as a table of what is given
+-- and what is then wrong. Assumes nothing.
 use Prim.Native.Nat.{ℕ}
 use mathlib.Core.Path.{refl, ap}
 use mathlib.Core.List.{List, [], _∷_}

@@ -1,4 +1,5 @@
--- The fields of an M201's extension one by one, from the widths of 000: place in the body, length, 1 for letters and 0 for a number, 1 for private and 0 else.
+-- The fields of an M201's extension one by one, from the widths of 000: place in the body, length,
+-- 1 for letters and 0 for a number, 1 for private and 0 else.
 use Prim.Native.Nat.{ℕ, _+_, _-_}
 use mathlib.Core.Path.{_≡_, refl}
 use mathlib.Core.List.{List, [], _∷_}

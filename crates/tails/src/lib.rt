@@ -1,9 +1,11 @@
-// The fields of an M201's extension, one by one: where each stands in the body, what it holds, and whether it is private.
+// The fields of an M201's extension, one by one: where each stands in the body, what it holds, and
+// whether it is private.
 ghost use mathlib.Core.Path.{_≡_};
 ghost use Rattle.tails.specs.Fields.{fieldOf, orderFields, tradeFields, allBehind, tailFields, fieldAt};
 use rules::Layout;
 
-// A field: its place in the body and how many bytes it has; 1 where it holds letters, 0 for a number; 1 where it is private, else 0.
+// A field: its place in the body and how many bytes it has; 1 where it holds letters, 0 for a
+// number; 1 where it is private, else 0.
 pub struct TailField {
     pub place: usize,
     pub len: usize,
@@ -44,7 +46,8 @@ fn number(place: usize, len: usize) -> TailField
     }
 }
 
-// Field number i of an order, in the order of source document 000, 2.5.4.1: Side, QuoteID, MemberID and so on.
+// Field number i of an order, in the order of source document 000, 2.5.4.1: Side, QuoteID, MemberID
+// and so on.
 fn order_field(i: usize) -> TailField
     ensures { λ r. ⌜ r ≡ fieldAt i orderFields ⌝ }
 {
@@ -96,7 +99,8 @@ fn all_behind(n: usize, i: usize) -> TailField
     hidden(45, n - 45)
 }
 
-// Field number i of the extension of an M201 body of n bytes, laid out so, counted from 0; from the last on, an empty one.
+// Field number i of the extension of an M201 body of n bytes, laid out so, counted from 0; from the
+// last on, an empty one.
 pub fn tail_field(layout: Layout, n: usize, i: usize) -> TailField
     ensures { λ r. ⌜ r ≡ fieldAt i (tailFields layout n) ⌝ }
 {

@@ -21,9 +21,9 @@ module _ {R : Type 0} (readOf : List ℕ → R) (saysOf : R → Says) where
     f-cons : {f : List ℕ} {fs : List (List ℕ)} → saysOf (readOf f) ≡ frame (length f) → Frames fs → Frames (f ∷ fs)
 
   -- frames of two captures that read alike, one by one
-  pub data Alike : List (List ℕ) → List (List ℕ) → Type 0 where
-    a-nil : Alike [] []
-    a-cons : {f g : List ℕ} {fs gs : List (List ℕ)} → readOf f ≡ readOf g → Alike fs gs → Alike (f ∷ fs) (g ∷ gs)
+  pub data ReadAlike : List (List ℕ) → List (List ℕ) → Type 0 where
+    a-nil : ReadAlike [] []
+    a-cons : {f g : List ℕ} {fs gs : List (List ℕ)} → readOf f ≡ readOf g → ReadAlike fs gs → ReadAlike (f ∷ fs) (g ∷ gs)
 
   -- one reading for each frame
   unfoldable pub taggedOf : ℕ → List (List ℕ) → List (Sight R)
@@ -52,14 +52,14 @@ module _ {R : Type 0} (readOf : List ℕ → R) (saysOf : R → Says) where
     same-length : (f g : List ℕ) → saysOf (readOf f) ≡ frame (length f) → saysOf (readOf g) ≡ frame (length g) → readOf f ≡ readOf g → length f ≡ length g
     same-length f g a b e = let q : frame (length f) ≡ frame (length g) = sym a ∙ ap saysOf e ∙ b in cc
 
-    tagged-alike : (p : ℕ) (fs gs : List (List ℕ)) → Frames fs → Frames gs → Alike fs gs → taggedOf p fs ≡ taggedOf p gs
+    tagged-alike : (p : ℕ) (fs gs : List (List ℕ)) → Frames fs → Frames gs → ReadAlike fs gs → taggedOf p fs ≡ taggedOf p gs
     unfolding taggedOf
     tagged-alike p fs gs f-nil f-nil a-nil = refl
     tagged-alike p fs gs (f-cons {f = f} {fs = fs′} a r) (f-cons {f = g} {fs = gs′} b s) (a-cons e t) =
         rw (e, same-length f g a b e, tagged-alike (p + length g) fs′ gs′ r s t)
 
     -- CR 13: what is made of the readings is equal
-    pub alike : (fs gs : List (List ℕ)) → Frames fs → Frames gs → Alike fs gs → sightsOf readOf saysOf (within zero) 0 (joined fs) ≡ sightsOf readOf saysOf (within zero) 0 (joined gs)
+    pub alike : (fs gs : List (List ℕ)) → Frames fs → Frames gs → ReadAlike fs gs → sightsOf readOf saysOf (within zero) 0 (joined fs) ≡ sightsOf readOf saysOf (within zero) 0 (joined gs)
     alike fs gs a b e = frames-sights 0 fs a ∙ tagged-alike 0 fs gs a b e ∙ sym (frames-sights 0 gs b)
 
 -- the reading of a sight that is a frame

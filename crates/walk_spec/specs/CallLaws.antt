@@ -20,15 +20,15 @@ use Rattle.walk_laws.specs.Walk.{Sight}
 use Rattle.walk_laws.specs.Account as Account
 use Rattle.walk_laws.specs.Account.{accountOf}
 use Rattle.reading.specs.declared.Seen.{Seen}
-use Rattle.walk_spec.specs.Offers.{callsFor, callsBy, answered, offerOf}
+use Rattle.walk_spec.specs.Offers.{callsFor, callsBy, offering, offerOf}
 use Rattle.walk_spec.specs.OfferLaws.{calls-refused, calls-of}
 use Rattle.walk_spec.specs.Walk.{madeOf, recordBy, bookBy, sights, walkOf, added, callsFrom, callsOf}
 
 -- ======== The ledger
 
 -- the calls of a reading, made on the book after some calls
-pub book-added : (channel : ℕ) (calls : Calls) (n : ℕ) (more : List Call) → answered (after channel calls) n more .book ≡ after channel (added calls more)
-unfolding answered
+pub book-added : (channel : ℕ) (calls : Calls) (n : ℕ) (more : List Call) → offering (after channel calls) n more .book ≡ after channel (added calls more)
+unfolding offering
 book-added channel calls n [] = refl
 book-added channel calls n (call ∷ more) = book-added channel (calls ▸ call) (numberTo (after channel calls) call) more
 
@@ -85,8 +85,8 @@ and-false false = refl
 module _ (channel n : ℕ) (calls : Calls) where
   -- an accepted one, by its type
   by-type : (k : Kind) (c t : ℕ) → received (trace channel (added calls (callsFor k c t))) n
-      ≡ orElse (isTick k && (eqb (answered (after channel calls) 0 (callsFor k c t) .number) 0 && eqb n t)) (received (trace channel calls) n)
-  unfolding received trace answered answerTo
+      ≡ orElse (isTick k && (eqb (offering (after channel calls) 0 (callsFor k c t) .number) 0 && eqb n t)) (received (trace channel calls) n)
+  unfolding received trace offering answerTo
   by-type S001 c t = refl
   by-type S002 c t = refl
   by-type S003 c t = refl
@@ -105,7 +105,7 @@ module _ (channel n : ℕ) (calls : Calls) where
   -- a refused one brings nothing
   refused : (x : Sight Seen) → (x .read .answer ≡ 0 → ⊥)
       → received (trace channel (added calls (callsBy (x .read)))) n ≡ orElse (brings (recordBy (after channel calls) x) n) (received (trace channel calls) n)
-  unfolding brings recordBy madeOf offerOf answered
+  unfolding brings recordBy madeOf offerOf offering
   refused x ne = rw (calls-refused (x .read) ne, ne-eqb (x .read .answer) 0 ne, and-false)
 
   one-more : (x : Sight Seen) → received (trace channel (added calls (callsBy (x .read)))) n ≡ orElse (brings (recordBy (after channel calls) x) n) (received (trace channel calls) n)

@@ -24,7 +24,7 @@ use Rattle.terms.specs.declared.TickNumber.{TickNumber}
 use Rattle.reading.specs.declared.Seen.{Seen}
 use Rattle.reading.specs.Seen.{seenOf}
 use Rattle.reading.specs.SeenLaws.{seen-frame, seen-blank, seen-answer}
-use Rattle.walk_spec.specs.Offers.{callsFor, callsBy, Offer, answered, offerOf}
+use Rattle.walk_spec.specs.Offers.{callsFor, callsBy, Offer, offering, offerOf}
 use Rattle.walk_spec.specs.OfferLaws.{calls-refused, calls-of}
 use Rattle.walk_spec.specs.Walk.{madeOf, recordBy}
 use Rattle.walk_spec.specs.Literal.{typeIn, tickIn, channelIn, answerIn, ledgerIn, ledgerAfter, frameRecord}
@@ -59,8 +59,8 @@ module _ (s : List ℕ) where
   view-tick Unknown h = refl
 
 -- the calls of a type come to its answer and ledger
-answer-in : (k : Kind) (b : Book) (f : List ℕ) → answered b 0 (callsFor k (channelIn k f) (tickIn k f)) .number ≡ answerIn k b f
-unfolding answered
+answer-in : (k : Kind) (b : Book) (f : List ℕ) → offering b 0 (callsFor k (channelIn k f) (tickIn k f)) .number ≡ answerIn k b f
+unfolding offering
 answer-in S001 b f = refl
 answer-in S002 b f = refl
 answer-in S003 b f = refl
@@ -71,8 +71,8 @@ answer-in M102 b f = refl
 answer-in M201 b f = refl
 answer-in Unknown b f = refl
 
-ledger-in : (k : Kind) (b : Book) (f : List ℕ) → answered b 0 (callsFor k (channelIn k f) (tickIn k f)) .book ≡ ledgerIn k b f
-unfolding answered
+ledger-in : (k : Kind) (b : Book) (f : List ℕ) → offering b 0 (callsFor k (channelIn k f) (tickIn k f)) .book ≡ ledgerIn k b f
+unfolding offering
 ledger-in S001 b f = refl
 ledger-in S002 b f = refl
 ledger-in S003 b f = refl
@@ -105,9 +105,9 @@ module _ (s : List ℕ) (z : readOf s .number ≡ 0) where
       ∙ ap₂ (λ (c : ChannelNumber) (t : TickNumber). callsFor (typeIn s) (c .0) (t .0)) seen-channel seen-tick
 
   module _ (b : Book) where
-    offer-frame : offerOf b (seenOf s) ≡ answered b 0 (callsFor (typeIn s) (channelIn (typeIn s) s) (tickIn (typeIn s) s))
+    offer-frame : offerOf b (seenOf s) ≡ offering b 0 (callsFor (typeIn s) (channelIn (typeIn s) s) (tickIn (typeIn s) s))
     unfolding offerOf
-    offer-frame = ap₂ (answered b) (seen-answer s ∙ z) frame-calls
+    offer-frame = ap₂ (offering b) (seen-answer s ∙ z) frame-calls
 
     offer-number : offerOf b (seenOf s) .number ≡ answerIn (typeIn s) b s
     offer-number = ap (λ (o : Offer). o .number) offer-frame ∙ answer-in (typeIn s) b s
@@ -126,7 +126,7 @@ module _ (s : List ℕ) (z : readOf s .number ≡ 0) where
 
 module _ (s : List ℕ) (ne : readOf s .number ≡ 0 → ⊥) (b : Book) where
   offer-refused : offerOf b (seenOf s) ≡ record { number = readOf s .number; book = b }
-  unfolding offerOf answered
+  unfolding offerOf offering
   offer-refused =
       let a : seenOf s .answer ≡ readOf s .number = seen-answer s in
       rw (calls-refused (seenOf s) (λ (z : seenOf s .answer ≡ 0). ne (sym a ∙ z)), a)

@@ -33,9 +33,9 @@ pub record Offer : Type 0 where
   pub book : Book
 
 -- the ledger's where a call is made, else the reading's
-unfoldable pub answered : Book → ℕ → List Call → Offer
-answered b number [] = record { number = number; book = b }
-answered b number (call ∷ calls) = answered (nextOf b call) (numberTo b call) calls
+unfoldable pub offering : Book → ℕ → List Call → Offer
+offering b number [] = record { number = number; book = b }
+offering b number (call ∷ calls) = offering (nextOf b call) (numberTo b call) calls
 
 unfoldable pub offerOf : Book → Seen → Offer
-offerOf b x = answered b (x .answer) (callsBy x)
+offerOf b x = offering b (x .answer) (callsBy x)

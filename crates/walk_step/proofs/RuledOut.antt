@@ -14,7 +14,7 @@ use Rattle.ledger_spec.specs.Calls.{ownNumber, checkedOf, numberTo, passes, tak
 use Rattle.ledger.specs.State.{bookOf, ledgerOf}
 use Rattle.ledger.specs.declared.Ledger.{Ledger}
 use Rattle.reading.specs.declared.Seen.{Seen}
-use Rattle.walk_spec.specs.Offers.{callsBy, answered, offerOf}
+use Rattle.walk_spec.specs.Offers.{callsBy, offering, offerOf}
 use Rattle.walk_step.proofs.offer.Reads as offer
 use Rattle.walk_step.proofs.offer.Kinds as offer-kinds
 use denote.Ref.{now}
@@ -55,7 +55,7 @@ offer-wrong =
     ∷ []
 
 pub offer-rules-out : RulesOut (Kept _ offer-kinds.ps offer-kinds.r offer.Post) (λ c. (bookOf (c .args .0), c .args .1 .0)) (λ c. shown (c .result .answer) (c .result .ledger)) offer-wrong
-unfolding kindOf valueOf mapOf rotated run trailingZeros has rangeRules mapRules soundOf ownNumber checkedOf numberTo passes taken raised done nextOf bookOf ledgerOf callsBy answered offerOf
+unfolding kindOf valueOf mapOf rotated run trailingZeros has rangeRules mapRules soundOf ownNumber checkedOf numberTo passes taken raised done nextOf bookOf ledgerOf callsBy offering offerOf
 offer-rules-out = ruled (beside numbers lists) (λ (i : Book × Seen). shown (offerOf (i .0) (i .1) .number) (ledgerOf (offerOf (i .0) (i .1) .book))) (λ c p. ap₂ shown (p .0) (p .1)) _ refl
 
 -- MADE: a place, what is seen there, and of the ledger after it: the number answered, its floor and

@@ -113,6 +113,7 @@ fn ledger<A: Answers>(run: &mut Run<A>, d: &mut Dice) {
                 let status = d.of(&[4, other]);
                 run.reply(&mut words, channel, first, status)
             }
+            3 if d.once_in(2) => run.renew(&mut words),
             _ => {
                 let n = if d.once_in(2) { n } else { ticks.next(d) };
                 run.tick(&mut words, channel, n)

@@ -19,10 +19,11 @@ enum Call {
     Request(u16),
     /// The first number and the status.
     Reply(u16, u64, u8),
+    Renew,
     Told,
 }
 
-use Call::{Announce, Reply, Request, Told};
+use Call::{Announce, Renew, Reply, Request, Told};
 
 fn tick(n: u64) -> Call {
     Call::Tick(100, n)
@@ -46,6 +47,7 @@ impl<A: Answers> Run<'_, A> {
                 Announce(channel, n) => self.announce(ledger, channel, n),
                 Request(channel) => self.request(ledger, channel),
                 Reply(channel, first, status) => self.reply(ledger, channel, first, status),
+                Renew => self.renew(ledger),
                 Told => {
                     self.told(ledger);
                     0
@@ -201,6 +203,7 @@ pub fn ledgers<A: Answers>(run: &mut Run<A>) {
     passing(run);
     turning(run);
     giving_up(run);
+    renewing(run);
     spans(run);
     runs(run);
 }
@@ -243,6 +246,7 @@ fn states<A: Answers>(run: &mut Run<A>) {
             Announce(101, MAX),
             Request(101),
             Reply(101, 1, 0),
+            Renew,
         ];
         run.on(name, state, &calls);
     }
@@ -453,6 +457,41 @@ fn giving_up<A: Answers>(run: &mut Run<A>) {
         let calls = [reply(11, status), Told, REQUEST];
         run.on(&format!("status {status} gives up nothing"), state, &calls);
     }
+}
+
+/// A new session (CR 12): the pending request is cleared, all else is kept.
+fn renewing<A: Answers>(run: &mut Run<A>) {
+    for (name, state) in sound() {
+        let first = state[7];
+        let calls = [Renew, Told, reply(first, 4), Renew, REQUEST, Renew, REQUEST];
+        run.on(&format!("a new session where: {name}"), state, &calls);
+    }
+    for (floor, mut state) in turned() {
+        (state[7], state[8]) = (floor + 1, (floor + 199).min(state[2]));
+        let calls = [Renew, Told, tick(floor + 2), tick(floor + 1), REQUEST];
+        run.on(
+            &format!("a new session, a map from {} on", floor + 1),
+            state,
+            &calls,
+        );
+    }
+    run.fresh(
+        "a reply to what the old session asked is 16, and its ticks still count",
+        &[
+            announce(5),
+            REQUEST,
+            REQUEST,
+            Renew,
+            reply(1, 1),
+            tick(2),
+            REQUEST,
+            reply(1, 4),
+            tick(1),
+            Renew,
+            Told,
+            REQUEST,
+        ],
+    );
 }
 
 /// How many are missing from a to b (CR 8), with a and b at and beside every

@@ -24,7 +24,7 @@ use crate::record::SIZE;
 use text::{hex, joined, lent, Text};
 
 /// Every number that each call can give: cases that give fewer try too little.
-pub const NUMBERS: [text::Numbers; 20] = [
+pub const NUMBERS: [text::Numbers; 21] = [
     ("read", &[0, 1, 2, 3, 4, 5, 6, 7]),
     ("write", &[0, 2, 3, 4, 6, 7, 8]),
     ("search", &[0, 9]),
@@ -37,6 +37,7 @@ pub const NUMBERS: [text::Numbers; 20] = [
     ("announce", &[0, 10, 13, 18]),
     ("request", &[0, 13, 14, 15, 18]),
     ("reply", &[0, 13, 16, 17, 18]),
+    ("renew", &[0, 13]),
     ("told", &[0, 13]),
     ("missing", &[0, 10, 13, 18]),
     ("walk", &[0, 8]),
@@ -220,6 +221,13 @@ impl<'a, A: Answers> Run<'a, A> {
             format!("given up {}; passed {}", numbers(up), numbers(passed))
         });
         self.more(&format!("{channel} {first} {status}: {}", joined(ledger)));
+        answer.err().unwrap_or(0)
+    }
+
+    fn renew(&mut self, ledger: &mut Words) -> u32 {
+        let answer = self.answers.renew(ledger);
+        self.text.line("renew", &answer, |()| String::new());
+        self.more(&joined(ledger));
         answer.err().unwrap_or(0)
     }
 

@@ -260,6 +260,13 @@ fn the_ledger_agrees_with_plain_sets() {
                         _ => assert_eq!(answer, Err(No::Unasked)),
                     }
                 }
+                // A new session: that request is no longer pending.
+                3 if dice.roll(4) == 0 => {
+                    let (next, answer) = l.renew();
+                    l = next;
+                    assert_eq!(answer, Ok(()));
+                    sets.asked = None;
+                }
                 _ => {
                     let n = (floor + dice.roll(spread) + 1)
                         .saturating_sub(dice.roll(3))
@@ -354,6 +361,7 @@ fn no_call_breaks_a_sound_state_or_mends_a_broken_one() {
             l.request(channel).0,
             l.reply(channel, first, 2).0,
             l.reply(channel, first, 4).0,
+            l.renew().0,
             l.missing().0,
             l.held().0,
         ] {

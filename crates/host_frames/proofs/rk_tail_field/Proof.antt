@@ -1,4 +1,5 @@
--- `rk_tail_field`: a refusal of the checks on the body's length, 6 where its tail does not suit, or the field's four numbers. Assumes nothing.
+-- `rk_tail_field`: a refusal of the checks on the body's length, 6 where its tail does not suit, or
+-- the field's four numbers. Assumes nothing.
 use Prim.Native.Nat.{ℕ}
 use mathlib.Core.Path.{_≡_, refl, sym, ap, ap₂, _∙_}
 use mathlib.Core.Bool.{Bool, true, false}

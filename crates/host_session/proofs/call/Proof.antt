@@ -1,4 +1,5 @@
--- Refused, nothing is written; else the next session's words and what is to be sent. Assumes nothing.
+-- Refused, nothing is written; else the next session's words and what is to be sent. Assumes
+-- nothing.
 use mathlib.Core.Path.{sym, _∙_}
 use Rattle.host_session.proofs.Kept.{call-refused, call-done}
 use borrow.Author.Needs.{needs}

@@ -3,7 +3,7 @@ use mathlib.Core.Path.{ap}
 use Rattle.terms.specs.Paper.{Paper}
 use Rattle.ledger.specs.State.{bookOf}
 use Rattle.ledger_spec.specs.Words.{valueAt}
-use Rattle.listing.specs.Output.{lastBy}
+use Rattle.listing.specs.LastLine.{lastBy}
 use borrow.Author.Needs.{needs}
 use Rattle.listing.proofs.last_of.Statement.{statement}
 use Rattle.listing.proofs.last_of.Tie as tie

@@ -3,7 +3,7 @@ use mathlib.Core.Path.{refl}
 use lib.ListN.{length}
 use borrow.Author.Tests.{le-leb, lt-leb}
 use Rattle.record.specs.Stored.{stored}
-use Rattle.listing.specs.Output.{over, outputOf}
+use Rattle.listing_text.specs.Output.{over, outputOf}
 use borrow.Author.Needs.{needs}
 use Rattle.listing.proofs.output.Statement.{statement}
 use Rattle.listing.proofs.output.Tie as tie

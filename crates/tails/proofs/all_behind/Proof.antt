@@ -1,4 +1,5 @@
--- `all_behind`: the one field, or behind it; a body of fewer than 45 bytes has an empty extension. Assumes nothing.
+-- `all_behind`: the one field, or behind it; a body of fewer than 45 bytes has an empty extension.
+-- Assumes nothing.
 use native.Mathlib.Omega.{arith}
 use Prim.Native.Nat.{_-_, _≤_}
 use mathlib.Core.Path.{_≡_, sym, _∙_}

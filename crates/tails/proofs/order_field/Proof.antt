@@ -1,4 +1,5 @@
--- `order_field`: in an arm the number is known, and the table computes; in the last it is 16 or more. Assumes nothing.
+-- `order_field`: in an arm the number is known, and the table computes; in the last it is 16 or
+-- more. Assumes nothing.
 use native.Mathlib.Omega.{arith}
 use Prim.Native.Nat.{_≤_}
 use mathlib.Core.Path.{sym, _∙_}

@@ -1,4 +1,5 @@
--- `trade_field`: in an arm the number is known, and the table computes; in the last it is 5 or more. Assumes nothing.
+-- `trade_field`: in an arm the number is known, and the table computes; in the last it is 5 or
+-- more. Assumes nothing.
 use native.Mathlib.Omega.{arith}
 use Prim.Native.Nat.{_≤_}
 use mathlib.Core.Path.{sym, _∙_}

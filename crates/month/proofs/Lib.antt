@@ -1,0 +1,6 @@
+pub mod Loops
+pub mod Fill
+pub mod RowLaws
+pub mod PassLaws
+pub mod StartLaws
+pub mod AddLaws

@@ -1,0 +1,153 @@
+-- The pass over a capture: row j is what channel j's frames so far made of it, and what is left
+-- makes the rest. Assumes nothing.
+use Prim.Native.Nat.{ℕ, _+_, _≤_, _<_}
+use mathlib.Core.Path.{_≡_, refl, sym, ap, _∙_}
+use mathlib.Core.Logic.{⊎-elim}
+use mathlib.Core.List.{List, [], _∷_, _++_, append-assoc, append-nil}
+use native.Mathlib.Omega.{arith}
+use lib.ListN.{length, getD, set, drop, length-set, length-append}
+use lib.Seq.{getD-set-same, getD-set-other}
+use Rattle.terms.specs.Cases.{less, same}
+use Rattle.walk_laws.specs.Walk.{Sight}
+use Rattle.walk_laws.specs.Frames.{readsOf}
+use Rattle.walk_laws.specs.Literal.{fromOf, sightAt, from-end}
+use Rattle.reading.specs.declared.Seen.{Seen}
+use Rattle.reading.specs.Seen.{seenOf, saysOf}
+use Rattle.walk_spec.specs.Onward.{Goes}
+use Rattle.clean_spec.specs.Figures.{reads, reads-frame, reads-refused}
+use Rattle.month_spec.specs.Figures.{readsIn}
+use Rattle.month_spec.specs.Page.{places, placeIn}
+use Rattle.month_spec.proofs.Rules.{found-at, found-not}
+use Rattle.month.specs.declared.Row.{Row}
+use Rattle.month.specs.Rows.{rowAfter, Turned, Roomy, Naming, Kept}
+use Rattle.month.proofs.RowLaws.{row-other, row-own, Few, few-none, few-more, roomy-row}
+
+-- ---- fresh rows
+
+pub record Opened (channels : List ℕ) (named j : ℕ) (rows : List Row) : Type 0 where
+  pub size : length rows ≡ places
+  pub within : j ≤ named
+  pub each : (i : ℕ) (d : Row) → i < j → getD rows i d ≡ rowAfter (getD channels i 0) []
+
+module _ (channels : List ℕ) (named : ℕ) where
+  pub opened-start : (rows : List Row) → length rows ≡ places → Opened channels named 0 rows
+  opened-start rows e = record { size = e; within = omega arith; each = λ i d h. absurd (omega arith) }
+
+  pub opened-step : (j : ℕ) (rows : List Row) (r : Row) → Opened channels named j rows → j < named → named ≤ places → r ≡ rowAfter (getD channels j 0) [] → Opened channels named (j + 1) (set rows j r)
+  opened-step j rows r o h l e =
+      record {
+        size = length-set rows j r ∙ o .size;
+        within = omega arith;
+        each = λ i d lt.
+            ⊎-elim (λ (g : i < j). getD-set-other rows j i r d (λ (q : i ≡ j). omega arith) ∙ o .each i d g)
+            (λ (g : j ≤ i).
+            let q : i ≡ j = omega arith in
+            ap (λ (x : ℕ). getD (set rows j r) x d) q ∙ getD-set-same rows j r d (omega (arith, o .size)) ∙ e ∙ ap (λ (x : ℕ). rowAfter (getD channels x 0) []) (sym q))
+            (less i j);
+      }
+
+  pub opened-end : (j : ℕ) (rows : List Row) → Opened channels named j rows → named ≤ j → Kept channels named [] rows
+  opened-end j rows o h = record { all-places = o .size; row-is = λ i d l. o .each i d (omega arith) }
+
+-- ---- the pass
+
+-- done: the accepted frames so far. They and what is left are all that the capture has.
+pub record Left (s channels : List ℕ) (named : ℕ) (rows : List Row) (p : ℕ) : Type 0 where
+  pub inside : p ≤ length s
+  pub done : List Seen
+  pub split : done ++ reads (fromOf seenOf saysOf p s) ≡ readsIn s
+  pub short : length done ≤ p
+  pub few : Few done
+  pub kept : Kept channels named done rows
+
+module _ (s channels : List ℕ) (named : ℕ) where
+  pub left-start : (rows : List Row) → Kept channels named [] rows → Left s channels named rows 0
+  left-start rows k = record { inside = omega arith; done = []; split = refl; short = omega arith; few = few-none; kept = k }
+
+  -- at the end nothing is left
+  pub left-end : (rows : List Row) (p : ℕ) → Left s channels named rows p → length s ≤ p → Kept channels named (readsIn s) rows
+  unfolding readsOf
+  left-end rows p w h =
+      let e : w .done ≡ readsIn s = sym (append-nil (w .done)) ∙ ap (λ (xs : List (Sight Seen)). w .done ++ reads xs) (sym (from-end seenOf saysOf p s h)) ∙ w .split in
+      rw e at (w .kept)
+
+  -- one reading more
+  module _ (rows : List Row) (p r : ℕ) (w : Left s channels named rows p) (x : Seen) (xe : x ≡ seenOf (drop p s)) (g : Goes s p r) where
+    here : reads (fromOf seenOf saysOf p s) ≡ reads (sightAt seenOf saysOf p s ∷ fromOf seenOf saysOf r s)
+    here = ap reads (g .rest)
+
+    -- a refused one is passed over
+    pub left-refused : (x .answer ≡ 0 → ⊥) → Left s channels named rows r
+    left-refused ne =
+        record {
+          inside = g .inside;
+          done = w .done;
+          split =
+              ap (λ (l : List Seen). w .done ++ l) (sym (here ∙ reads-refused (sightAt seenOf saysOf p s) (fromOf seenOf saysOf r s) (λ e. ne (ap (λ (y : Seen). y .answer) xe ∙ e))))
+              ∙ w .split;
+          short = omega (arith, w .short, g .further);
+          few = w .few;
+          kept = w .kept;
+        }
+
+    module _ (z : x .answer ≡ 0) where
+      abbrev longer : List Seen
+      longer = w .done ++ (x ∷ [])
+
+      split-more : longer ++ reads (fromOf seenOf saysOf r s) ≡ readsIn s
+      split-more =
+          append-assoc (w .done) (x ∷ []) (reads (fromOf seenOf saysOf r s))
+          ∙ ap (λ (y : Seen). w .done ++ (y ∷ reads (fromOf seenOf saysOf r s))) xe
+          ∙ ap (λ (l : List Seen). w .done ++ l)
+          (sym (here ∙ reads-frame (sightAt seenOf saysOf p s) (fromOf seenOf saysOf r s) (ap (λ (y : Seen). y .answer) (sym xe) ∙ z)))
+          ∙ w .split
+
+      more : (rows′ : List Row) → Kept channels named longer rows′ → Left s channels named rows′ r
+      more rows′ k =
+          record {
+            inside = g .inside;
+            done = longer;
+            split = split-more;
+            short = omega (arith, w .short, g .further, length-append (w .done) (x ∷ []));
+            few = few-more (w .done) x z (w .few);
+            kept = k;
+          }
+
+      module _ (n : Naming channels named) where
+        -- a frame of no named channel leaves every row
+        pub left-none : named ≤ placeIn channels named (x .channel .0) → Left s channels named rows r
+        left-none h =
+            more rows
+            (record {
+              all-places = w .kept .all-places;
+              row-is = λ j d l.
+                  w .kept .row-is j d l
+                  ∙ sym (row-other (getD channels j 0) (n .small j l) (w .done) x z (λ e. found-not channels named (x .channel .0) h j l (sym e)));
+            })
+
+        -- a frame of a named one turns its row
+        module _ (i : ℕ) (ie : i ≡ placeIn channels named (x .channel .0)) (h : i < named) (d : Row) where
+          own : x .channel .0 ≡ getD channels i 0
+          own = sym (found-at channels named (x .channel .0) (rw ie at h)) ∙ ap (λ (k : ℕ). getD channels k 0) (sym ie)
+
+          pub row-roomy : length s < 18446744073709551615 → Roomy (getD rows i d)
+          row-roomy l = roomy-row (getD channels i 0) (w .done) (getD rows i d) (w .few) (omega (arith, w .short, w .inside)) (w .kept .row-is i d h)
+
+          pub left-own : (t : Row) → Turned (getD rows i d) x t → Left s channels named (set rows i t) r
+          left-own t turn =
+              more (set rows i t)
+              (record {
+                all-places = length-set rows i t ∙ w .kept .all-places;
+                row-is = λ j d′ l.
+                    ⊎-elim
+                    (λ (q : j ≡ i).
+                    ap (λ (k : ℕ). getD (set rows i t) k d′) q
+                    ∙ getD-set-same rows i t d′ (omega (arith, w .kept .all-places, n .few))
+                    ∙ row-own (getD channels i 0) (n .small i h) (w .done) x z own (getD rows i d) t (w .kept .row-is i d h) turn
+                    ∙ ap (λ (k : ℕ). rowAfter (getD channels k 0) longer) (sym q))
+                    (λ (ne : j ≡ i → ⊥).
+                    getD-set-other rows i j t d′ ne
+                    ∙ w .kept .row-is j d′ l
+                    ∙ sym (row-other (getD channels j 0) (n .small j l) (w .done) x z (λ e. ne (n .apart j i l h (sym e ∙ own)))))
+                    (same j i);
+              })

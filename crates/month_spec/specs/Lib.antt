@@ -1,0 +1,5 @@
+pub mod Figures
+pub mod Page
+pub mod Calls
+pub mod Trace
+pub mod Given
