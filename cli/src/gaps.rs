@@ -69,7 +69,7 @@ impl Lines {
     /// Offers what a reading shows to its channel, which is opened where it is new.
     fn take(&mut self, record: &Record) -> Result<(), Refusal> {
         let msg_type = u32::from_be_bytes(record.msg_type);
-        if !matches!(msg_type, types::M201 | types::P001) {
+        if !matches!(msg_type, types::M201 | types::P001 | types::P002) {
             return Ok(());
         }
         let channel = record.channel;
@@ -83,10 +83,11 @@ impl Lines {
             }
             self.open.push(channel);
         }
-        let answer = if msg_type == types::M201 {
-            self.table.tick(channel, record.tick)
-        } else {
-            self.table.announce(channel, record.tick)
+        let answer = match msg_type {
+            types::M201 => self.table.tick(channel, record.tick),
+            types::P001 => self.table.announce(channel, record.tick),
+            // a resend names its channel, and is offered to no ledger
+            _ => Ok(()),
         };
         match answer {
             Err(Refusal::Repeat | Refusal::Far) => Ok(()),
