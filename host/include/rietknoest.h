@@ -4,13 +4,14 @@
  * librietknoest (.a or .so): tools/archive builds it, tools/install installs it for pkg-config.
  *
  * Every function returns a code of the table below, 0 for success; results go to out-parameters.
- * Those for market files return a code of their own table and a place, by value.
+ * Those for market files return a code of their own table and a place, by value. rk_channels puts
+ * its code beside the call.
  * The library keeps no pointer, allocates nothing and has no state of its own. Functions may be
  * called from several threads at once. A call takes at most 1 KB of stack; where it takes more, its
  * comment says so.
  *
- * A refusal (any code but 0) writes nothing. One exception: rk_ledger_tick's 12 raises the ledger's
- * top. Success writes all of each out-parameter, and of a buffer the bytes that are counted, none
+ * A refusal (any code but 0) writes nothing. One exception: a tick's 12 raises the ledger's
+ * top, alone or in a table. Success writes all of each out-parameter, and of a buffer the bytes that are counted, none
  * beyond them.
  *
  * Numbers of sessions, ticks and channels are plain integers in C: the compiler can't tell one from
@@ -63,9 +64,11 @@ enum rk_answer {
     RK_WHOLE = 15,   /* nothing is missing */
     RK_UNASKED = 16, /* reply with no request pending, or with another first number */
     RK_STATUS = 17,  /* reply status not 1 to 5 or 99 */
-    RK_CHANNEL = 18, /* call names another channel */
+    RK_CHANNEL = 18, /* call names another channel, or one that is not open in the table */
     RK_CLOSED = 19,  /* the stream is closed already */
     RK_ENTRIES = 20, /* body below 73 bytes, no entry at this place, or it passes the body's end */
+    RK_FULL = 21,    /* all 32 places of the table are taken */
+    RK_OPEN = 22,    /* the channel is open already */
     RK_BEGIN = 23,   /* STEP: not the begin string */
     RK_BODY_LENGTH = 24, /* STEP: no body length of one to nine digits stands second */
     RK_MSG_TYPE = 25,    /* STEP: none of the seven types */
@@ -266,6 +269,146 @@ uint32_t rk_ledger_told(const rk_ledger *state, rk_told *told);
  * Returns 0, 10 (a or b is 0 or has more than 18 digits), 13, 18. 0 writes *told. */
 uint32_t rk_ledger_missing(const rk_ledger *state, uint16_t channel, uint64_t a, uint64_t b,
                            uint64_t *told);
+
+/* THIRTY-TWO CHANNELS, ONE LINE */
+
+/* Up to 32 ledgers, one request pending for all of them. You lend the table, and find it updated
+ * where it stands. A request goes to the first channel with something missing, counted round from
+ * the place after the last one asked: a channel that stays open and keeps something missing is
+ * asked within 32 granted requests.
+ *
+ * Begin with rk_channels_none. Keep and copy the table as you like, but do not make or change its
+ * numbers. rows[i] may be passed to rk_ledger_told where i is an open place; channels[i] is its
+ * channel, and bit i of `used` says that it is open. A call on a table that breaks the state rules
+ * where the call looks returns 13 (docs/STATES.md). Save RK_STATE_FORM with a saved table. */
+typedef struct {
+    uint64_t channels[33]; /* the channel of each row, 0 where none is open */
+    uint64_t used;         /* a bit for each open place */
+    uint64_t lacking;      /* a bit for each open place with something missing */
+    uint64_t asked;        /* the place whose request is pending, or 32 */
+    uint64_t last;         /* the place last asked */
+    rk_ledger rows[33];    /* the last one is never used */
+} rk_table;
+RK_SIZE(rk_table, 334);
+
+enum rk_channel_code {
+    RK_CHANNEL_OPEN = 0,
+    RK_CHANNEL_CLOSE = 1,
+    RK_CHANNEL_TICK = 2,
+    RK_CHANNEL_ANNOUNCE = 3,
+    RK_CHANNEL_REQUEST = 4,
+    RK_CHANNEL_REPLY = 5,   /* number: its first number; second: its status */
+    RK_CHANNEL_MISSING = 6, /* number: a; second: b */
+    RK_CHANNEL_RENEW = 7,
+    RK_CHANNEL_TOLD = 8 /* so is any other code */
+};
+
+/* A call, and what it is answered: the code, and the numbers that it tells, then zeros. */
+typedef struct {
+    uint64_t code;
+    uint64_t channel; /* REQUEST and RENEW name none */
+    uint64_t number;
+    uint64_t second;
+    uint64_t answer;
+    uint64_t values[9];
+} rk_exchange;
+RK_SIZE(rk_exchange, 14);
+
+typedef struct {
+    uint64_t channel;
+    uint64_t first;
+    uint64_t last;
+} rk_channel_request;
+RK_SIZE(rk_channel_request, 3);
+
+/* Every call on a table, by its code; the functions below have a name for each. Writes *table as
+ * its answer says, and always answer and values. */
+void rk_channels(rk_table *table, rk_exchange *exchange);
+
+/* The empty table: no channel is open. */
+static inline void rk_channels_none(rk_table *table) {
+    static const rk_table none = {{0}, 0, 0, 32, 31, {{{0}}}};
+    *table = none;
+}
+
+/* One call, made by its numbers. */
+static inline rk_exchange rk_channels_call(rk_table *table, uint64_t code, uint64_t channel, uint64_t number, uint64_t second) {
+    rk_exchange e = {code, channel, number, second, 0, {0}};
+    rk_channels(table, &e);
+    return e;
+}
+
+/* Opens a channel: the lowest free place takes a fresh ledger.
+ * Returns 0, 10, 13, 21, 22. */
+static inline uint32_t rk_channels_open(rk_table *table, uint16_t channel) {
+    return (uint32_t)rk_channels_call(table, RK_CHANNEL_OPEN, channel, 0, 0).answer;
+}
+
+/* Closes a channel: its place is free, and its pending request with it; another's stays.
+ * Returns 0, 13, 18. */
+static inline uint32_t rk_channels_close(rk_table *table, uint16_t channel) {
+    return (uint32_t)rk_channels_call(table, RK_CHANNEL_CLOSE, channel, 0, 0).answer;
+}
+
+/* Offers a tick. 12 raises a lower top, and changes nothing else of the ledger.
+ * Returns 0, 10 to 13, 18. 0 writes *told. */
+static inline uint32_t rk_channels_tick(rk_table *table, uint16_t channel, uint64_t number, rk_passed *told) {
+    rk_exchange e = rk_channels_call(table, RK_CHANNEL_TICK, channel, number, 0);
+    if (e.answer == RK_DONE) told->first = e.values[0], told->count = e.values[1];
+    return (uint32_t)e.answer;
+}
+
+/* Announces the channel's last number.
+ * Returns 0, 10, 13, 18. */
+static inline uint32_t rk_channels_announce(rk_table *table, uint16_t channel, uint64_t last) {
+    return (uint32_t)rk_channels_call(table, RK_CHANNEL_ANNOUNCE, channel, last, 0).answer;
+}
+
+/* Asks what to request again, and of which channel. It is pending from now on, for the whole table.
+ * Returns 0, 13, 14, 15. 0 writes *told. */
+static inline uint32_t rk_channels_request(rk_table *table, rk_channel_request *told) {
+    rk_exchange e = rk_channels_call(table, RK_CHANNEL_REQUEST, 0, 0, 0);
+    if (e.answer == RK_DONE) told->channel = e.values[0], told->first = e.values[1], told->last = e.values[2];
+    return (uint32_t)e.answer;
+}
+
+/* The exchange's reply to the pending request, as rk_ledger_reply. 16 also on an open channel other
+ * than the one asked.
+ * Returns 0, 13, 16, 17, 18. 0 writes *told. */
+static inline uint32_t rk_channels_reply(rk_table *table, uint16_t channel, uint64_t first, uint8_t status, rk_settled *told) {
+    rk_exchange e = rk_channels_call(table, RK_CHANNEL_REPLY, channel, first, status);
+    if (e.answer == RK_DONE) {
+        told->first = e.values[0];
+        for (int i = 0; i < 4; i++) told->given_up[i] = e.values[1 + i], told->passed[i] = e.values[5 + i];
+    }
+    return (uint32_t)e.answer;
+}
+
+/* How many numbers from a to b, both included, are missing.
+ * Returns 0, 10, 13, 18. 0 writes *told. Changes nothing in *table. */
+static inline uint32_t rk_channels_missing(rk_table *table, uint16_t channel, uint64_t a, uint64_t b, uint64_t *told) {
+    rk_exchange e = rk_channels_call(table, RK_CHANNEL_MISSING, channel, a, b);
+    if (e.answer == RK_DONE) *told = e.values[0];
+    return (uint32_t)e.answer;
+}
+
+/* A new session of the line begins: what is pending no longer is. Nothing else changes; the next
+ * request still goes on behind the place last asked.
+ * Returns 0, 13. */
+static inline uint32_t rk_channels_renew(rk_table *table) {
+    return (uint32_t)rk_channels_call(table, RK_CHANNEL_RENEW, 0, 0, 0).answer;
+}
+
+/* What an open channel's ledger holds.
+ * Returns 0, 13, 18. 0 writes *told. Changes nothing in *table. */
+static inline uint32_t rk_channels_told(rk_table *table, uint16_t channel, rk_told *told) {
+    rk_exchange e = rk_channels_call(table, RK_CHANNEL_TOLD, channel, 0, 0);
+    if (e.answer == RK_DONE) {
+        rk_told t = {channel, e.values[0], e.values[1], e.values[2], e.values[3], e.values[4], e.values[5]};
+        *told = t;
+    }
+    return (uint32_t)e.answer;
+}
 
 /* CAPTURES */
 

@@ -43,6 +43,15 @@ pub struct Settled {
 }
 
 impl Settled {
+    /// Of nine words: the first number, and two sets of four each.
+    pub(crate) fn from_words([first, a, b, c, d, e, f, g, h]: [u64; 9]) -> Settled {
+        Settled {
+            first: TickNumber::new(first),
+            given_up: [a, b, c, d],
+            passed: [e, f, g, h],
+        }
+    }
+
     /// The floor + 1 before the call: both sets have numbers from it to 255 above it.
     #[must_use]
     pub const fn first(&self) -> TickNumber {
@@ -81,7 +90,7 @@ pub struct LedgerStatus {
 }
 
 impl LedgerStatus {
-    fn from_row(row: &raw::StatusRow) -> LedgerStatus {
+    pub(crate) fn from_row(row: &raw::StatusRow) -> LedgerStatus {
         // a pending request starts from 1 on
         let pending = (row.asked_first != 0).then_some(Request {
             first: TickNumber::new(row.asked_first),

@@ -8,6 +8,7 @@
 #![deny(unsafe_code)]
 
 mod captures;
+mod channels;
 mod frames;
 mod ledger;
 pub mod market;
@@ -23,6 +24,7 @@ pub mod types;
 pub use captures::{
     clean, first_unclean, listing, records_room, text_room, walk, Cleaned, Walked, RECORD,
 };
+pub use channels::{ChannelRequest, Channels};
 pub use frames::{
     entries, entry, private_spans, read, scrub, search, tail_fields, write, Entries, Entry, Field,
     Frame, Span, CHECK_SUM, HEADER, LONGEST,

@@ -62,9 +62,11 @@ refusals! {
     Whole = 15, "whole", "nothing is missing";
     Unasked = 16, "unasked", "the reply answers no pending request";
     Status = 17, "status", "the reply's status is not 1 to 5 or 99";
-    Channel = 18, "channel", "the call names another channel";
+    Channel = 18, "channel", "the call names another channel, or one that is not open";
     Closed = 19, "closed", "the stream is closed already";
     Entries = 20, "entries", "the body has no whole entry at this place";
+    Full = 21, "full", "all 32 places of the table are taken";
+    Open = 22, "open", "the channel is open already";
     Begin = 23, "begin", "the begin string is not 8=FIXT.1.1";
     BodyLength = 24, "body_length", "no body length of one to nine digits stands second";
     MsgType = 25, "msg_type", "the type is none of A 5 0 1 2 3 4";

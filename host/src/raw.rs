@@ -17,6 +17,7 @@
 #![deny(clippy::undocumented_unsafe_blocks)]
 
 use crate::captures::Cleaned;
+use crate::channels::Channels;
 use crate::frames::{Field, Frame, Span};
 use crate::ledger::{Ledger, Passed, Request, Settled};
 use crate::numbers::{ChannelNumber, SessionNumber, TickNumber};
@@ -60,6 +61,17 @@ pub struct StatusRow {
     pub held: u64,
     pub asked_first: u64,
     pub asked_last: u64,
+}
+
+/// A call on a table of channels, and what it is answered.
+#[repr(C)]
+pub struct Exchange {
+    pub code: u64,
+    pub channel: u64,
+    pub number: u64,
+    pub second: u64,
+    pub answer: u64,
+    pub values: [u64; 9],
 }
 
 /// The counts of a walk.
@@ -135,6 +147,7 @@ extern "C" {
     fn rk_ledger_renew(state: *mut Ledger) -> u32;
     fn rk_ledger_told(state: *const Ledger, told: *mut StatusRow) -> u32;
     fn rk_ledger_missing(state: *const Ledger, channel: u16, a: u64, b: u64, told: *mut u64) -> u32;
+    fn rk_channels(table: *mut Channels, exchange: *mut Exchange);
     fn rk_walk(capture: *const u8, len: usize, records: *mut u8, records_len: usize, state: *mut Ledger, told: *mut Counts) -> u32;
     fn rk_listing(records: *const u8, records_len: usize, frames: u64, refused: u64, state: *const Ledger, text: *mut u8, text_len: usize, told: *mut u64) -> u32;
     fn rk_clean(capture: *const u8, len: usize, out: *mut u8, out_len: usize, told: *mut Cleaned) -> u32;
@@ -281,6 +294,11 @@ pub fn ledger_missing(
 }
 
 // CAPTURES
+
+pub fn channels(table: &mut Channels, exchange: &mut Exchange) {
+    // SAFETY: both are rows
+    unsafe { rk_channels(table, exchange) }
+}
 
 pub fn walk(capture: &[u8], records: &mut [u8], state: &mut Ledger, told: &mut Counts) -> u32 {
     let (read, len) = (capture.as_ptr(), capture.len());

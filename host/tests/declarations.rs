@@ -6,7 +6,7 @@ use oracle::made::{self, about, Dice, Ticks};
 use oracle::step;
 use rietknoest_host as host;
 use rietknoest_host::{
-    ChannelNumber, Entry, Fed, Ledger, Passing, Refusal, Session, SessionNumber, Stream,
+    ChannelNumber, Channels, Entry, Fed, Ledger, Passing, Refusal, Session, SessionNumber, Stream,
     TickNumber, ToSend,
 };
 use std::cell::RefCell;
@@ -43,15 +43,20 @@ fn run(command: &mut Command, input: &[u8]) -> Vec<u8> {
 }
 
 /// The crates of which the library is made, and how many functions each has for others.
-const EXPORTS: [(&str, usize); 7] = [
+const EXPORTS: [(&str, usize); 8] = [
     ("host_frames", 8),
     ("host_ledger", 8),
+    ("host_channels", 1),
     ("host_session", 7),
     ("host_captures", 4),
     ("host_stream", 3),
     ("host_step", 4),
     ("host_market", 3),
 ];
+
+/// The numbers of a call on a table of channels and its answer: four, its number, and nine that it
+/// tells.
+const EXCHANGE: usize = 4 + 1 + 9;
 
 /// The numbers that each call of a session gives, as the header says.
 const SESSION_NUMBERS: [(&str, &[u32]); 6] = [
@@ -133,6 +138,8 @@ fn of_crate(name: &str) -> Functions {
                 "&[u8]" => kinds.extend(["*const u8".into(), "usize".into()]),
                 "&mut [u8]" => kinds.extend(["*mut u8".into(), "usize".into()]),
                 "&mut u64" => kinds.push(row("mut", 1)),
+                "&mut Channels" => kinds.push(row("mut", size_of::<Channels>() / 8)),
+                "&mut Exchange" => kinds.push(row("mut", EXCHANGE)),
                 _ if kind.starts_with('&') => {
                     let (of, numbers) = kind.split_once("; ").expect("a row");
                     let of = of.split_once('[').expect("a row").1;
@@ -159,6 +166,7 @@ fn of_header() -> Functions {
     let number = |kind: &str| match kind {
         "size_t" => "usize".to_string(),
         "rk_finding" => "Finding".to_string(),
+        "void" => "()".to_string(),
         _ => kind.replace("uint", "u").replace("_t", ""),
     };
     let mut all = Functions::new();
@@ -212,6 +220,8 @@ fn of_wrapper() -> Functions {
         "Cleaned" => size_of::<host::Cleaned>() / 8,
         "Fed" => size_of::<Fed>() / 8,
         "Session" => size_of::<Session>() / 8,
+        "Channels" => size_of::<Channels>() / 8,
+        "Exchange" => EXCHANGE,
         "u64" => 1,
         // the rows that the wrapper keeps to itself
         _ => {
@@ -244,8 +254,12 @@ fn everyone_declares_the_same_functions() {
     for (name, count) in EXPORTS {
         let functions = of_crate(name);
         assert_eq!(functions.len(), count);
-        // a market file's number and place come back as one struct
-        let answer = ["u32", "Finding"][usize::from(name == "host_market")];
+        // a market file's number and place come back as one struct, a table's stands beside the call
+        let answer = match name {
+            "host_market" => "Finding",
+            "host_channels" => "()",
+            _ => "u32",
+        };
         assert!(functions.values().all(|(_, said)| said == answer));
         exported.extend(functions);
     }

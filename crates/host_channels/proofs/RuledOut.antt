@@ -1,5 +1,5 @@
 -- Of the lent table: wrong answers and wrong later contents that the promise rules out. The promise
--- is one relation, `Serves`, since a lent struct has no `Post` of the checker's. Assumes nothing.
+-- is one relation, `Exchanges`, since a lent struct has no `Post` of the checker's. Assumes nothing.
 use Prim.Native.Nat.{ℕ, _+_, _-_, _^_}
 use mathlib.Core.Path.{_≡_, refl, ap₂}
 use mathlib.Core.List.{List, [], _∷_, _++_, map}
@@ -22,7 +22,9 @@ use Rattle.channels.specs.Index.{placeIn, placeFrom, freeIn, stepsIn, turnIn, i
 use Rattle.channels.specs.Turn.{askedOrTurn, turnOf, onceOf}
 use Rattle.channels.specs.Told.{padded, indexAt}
 use Rattle.channels.specs.Answered.{rowFits, leftOf, closedAt, takenOf, openedOf, closedOf, tellingOf, servedOf, answeredOf}
-use Rattle.channels.specs.Serves.{answeredBy, servedBy, Serves}
+use Rattle.channels.specs.Serves.{answeredBy, servedBy}
+use Rattle.host_channels.specs.declared.Exchange.{Exchange}
+use Rattle.host_channels.specs.Exchanges.{Exchanges}
 
 -- a table of three places in use at most: the index, the words of their rows, and the names beside
 -- them
@@ -116,9 +118,12 @@ rk-channels-wrong =
     ∷ (strange, call 2 8 1 0) only left 13 [] strange
     ∷ []
 
-seen-is : {was : Channels} {k : ChannelCall} {told : ChannelTold} {is : Channels} → Serves was k told is → seen told is ≡ seen (answeredBy was k .told) (servedBy was k)
-seen-is s = ap₂ seen (s .told-is) (s .table-is)
+abbrev sees : Channels → Exchange → Given
+sees was asks = (was, asks .call)
 
-pub rk-channels-rules-out : RulesOut (λ (c : Given × (ChannelTold × Channels)). Serves (c .0 .0) (c .0 .1) (c .1 .0) (c .1 .1)) (λ c. c .0) (λ c. seen (c .1 .0) (c .1 .1)) rk-channels-wrong
+seen-is : {was is : Channels} {asks told : Exchange} → Exchanges was asks is told → seen (told .told) is ≡ seen (answeredBy was (asks .call) .told) (servedBy was (asks .call))
+seen-is s = ap₂ seen (s .serves .told-is) (s .serves .table-is)
+
+pub rk-channels-rules-out : RulesOut (λ (c : (Channels × Exchange) × (Channels × Exchange)). Exchanges (c .0 .0) (c .0 .1) (c .1 .0) (c .1 .1)) (λ c. sees (c .0 .0) (c .0 .1)) (λ c. seen (c .1 .1 .told) (c .1 .0)) rk-channels-wrong
 unfolding bookOf ledgerOf nextBy rotated mapOf valueOf numberTo ownNumber checkedOf soundOf mapRules rangeRules has passes taken reach leaps gaveUp handed replied raised waiting asked done missingCount heldCount betweenCount valuesOf answerTo fresh run trailingZeros ones wordsOf pendingIn ledgerIn settledRow least placeIn placeFrom freeIn stepsIn turnIn askedOrTurn turnOf onceOf indexSound indexAt rowFits leftOf closedAt takenOf openedOf closedOf tellingOf servedOf answeredOf
 rk-channels-rules-out = ruled lists (λ (i : Given). seen (answeredBy (i .0) (i .1) .told) (servedBy (i .0) (i .1))) (λ c p. seen-is p) _ refl

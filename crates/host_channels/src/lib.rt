@@ -1,16 +1,25 @@
 // Thirty-two channels for C and Rust: the host lends its table, and finds it updated where it
 // stands.
-ghost use Rattle.channels.specs.Serves.{Serves};
+ghost use Rattle.host_channels.specs.Exchanges.{Exchanges};
 use channels::ChannelCall;
 use channels::ChannelTold;
 use channels::Channels;
 
+// A call, and what it is answered: numbers alone, lent as one, so that every machine passes them in
+// the same way.
+#[repr(C)]
+pub struct Exchange {
+    pub call: ChannelCall,
+    pub told: ChannelTold,
+}
+
 // Every call on a table, by its code. The index, the names and the one row that the call is about
-// are copied out; index, row and the name beside it are put back.
+// are copied out; index, row and the name beside it are put back, and the answer beside the call.
 #[no_mangle]
-pub extern "C" fn rk_channels(table: &mut Channels, call: ChannelCall) -> ChannelTold
-    ensures { λ r. ⌜ Serves (now (table .entry)) call r (now (table .exit)) ⌝ }
+pub extern "C" fn rk_channels(table: &mut Channels, exchange: &mut Exchange)
+    ensures { λ _. ⌜ Exchanges (now (table .entry)) (now (exchange .entry)) (now (table .exit)) (now (exchange .exit)) ⌝ }
 {
+    let call = exchange.call;
     let names = table.names;
     let index = table.index;
     let turn = index.turn_to(names, call);
@@ -20,5 +29,5 @@ pub extern "C" fn rk_channels(table: &mut Channels, call: ChannelCall) -> Channe
     table.names.channels[at] = done.name;
     table.index = done.index;
     table.rows[at] = done.row;
-    done.told
+    exchange.told = done.told;
 }

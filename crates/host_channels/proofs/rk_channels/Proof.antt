@@ -1,8 +1,8 @@
--- `rk_channels` meets its contract: a walk of its MIR, by hand. The borrow is opened; names and
--- index are copied out of their fields, `turn_to` names a row, which is copied out of the array
--- that is the last field (`elem` of Elem.antt), `answered` is called on them; index, row and the
--- name beside it are stored where they stood, and the borrow is closed at the table with the three.
--- Assumes nothing.
+-- `rk_channels` meets its contract: a walk of its MIR, by hand. Both borrows are opened; the call,
+-- names and index are copied out of their fields, `turn_to` names a row, which is copied out of the
+-- array that is the table's last field (`elem` of Elem.antt), `answered` is called on them; index,
+-- row and the name beside it are stored where they stood, the answer beside the call, and the
+-- borrows are closed at the new table and the new exchange. Assumes nothing.
 use mathlib.Core.Path.{_≡_, refl, sym, ap, subst, _∙_}
 use Prim.Native.Nat.{ℕ, _<_, _≤_, _^_, _*_, _+_}
 use native.Mathlib.Omega.{arith}
@@ -21,7 +21,7 @@ use ghost.Atoms.{Atoms, sem}
 use contract.Monad.{Fun, fact}
 use contract.Running.{givenOf, tables, tablesOf}
 use types.Kit.{Given, ‵, raw, _⊛_, some, later, _$_, _∵_, !, qed, by, move, keep, drop, use0, use1, split, join, pick, fsplit, fsplit3, fjoin, fjoin3, feqI, suffices, frame, await, done, rewrite}
-use types.Run.{look, store, init, forget, stop, hop, fld, from, load, lit, bin, addr, of-opd, and-then, no-more, assigns, land, returns, enter, alloc1, alloc0, params1, pass1, pass0, free1, free0}
+use types.Run.{look, store, init, forget, stop, hop, fld, from, load, lit, bin, addr, of-opd, and-then, no-more, assigns, land, returns, unit-lit, enter, alloc1, alloc0, params1, pass1, pass0, free1, free0}
 use types.Part.{whole, sub, look-in, store-in}
 use types.SemTy.{Body}
 use sound.WpLaws.{FmC, fmOf, WpFn-mono}
@@ -57,9 +57,13 @@ use Rattle.channels.specs.declared.Index.{Index}
 use Rattle.channels.specs.declared.Names.{Names}
 use Rattle.channels.specs.declared.Row.{Row}
 use Rattle.channels.specs.declared.Turn.{Turn}
+use Rattle.host_channels.specs.declared.Exchange.{Exchange}
+use Rattle.host_channels.specs.Exchanges.{Exchanges}
 use Rattle.host_channels.proofs.Elem.{elem, element, cells, getD-map, set-map, with-element}
 use Rattle.channels.proofs.Channels as T
 use Rattle.channels.proofs.Channels.Laws as T′
+use Rattle.host_channels.proofs.Exchange as X
+use Rattle.host_channels.proofs.Exchange.Laws as X′
 use Rattle.channels.proofs.Names as S
 use Rattle.channels.proofs.Names.Laws as S′
 use Rattle.channels.proofs.Index as I
@@ -88,7 +92,7 @@ use Rattle.host_channels.proofs.rk_channels.Statement as stated
 use Rattle.host_channels.proofs.rk_channels.Code as code
 
 abbrev stayed : Stays (serve.ended .signature .params) (serve.ended .kept)
-stayed = (stay-ref (0 ∷ []) tt (plain (λ _. T.the-row)), (stay-none (λ _. P.the-row) yes, tt))
+stayed = (stay-ref (0 ∷ []) tt (plain (λ _. T.the-row)), (stay-ref (1 ∷ []) tt (plain (λ _. X.the-row)), tt))
 
 -- the contracts that the proof cites
 abbrev TurnsTo : {M : Type 1} (𝓤 : URA M) (H : Heap 𝓤) (A : Atoms 𝓤) (at-mem : Memory → SProp 𝓤) (run : Routine → Fun 𝓤) → Contract 𝓤
@@ -112,6 +116,9 @@ cellS n = LL.val S.the-type S′.the-laws n
 
 abbrev cellU : Turn → Val
 cellU n = LL.val U.the-type U′.the-laws n
+
+abbrev cellX : Exchange → Val
+cellX z = LL.val X.the-type X′.the-laws z
 
 abbrev word : ChannelCall → Val
 word k = LL.val P.the-type P′.the-laws k
@@ -174,25 +181,32 @@ stored-is h vs n r was mi ii ri =
       (ii, (with-element R.the-field R′.the-field-laws 33 (h .rows) _ n (r .row) (LL.owed T.the-type T′.the-laws h vs was .1 .1 .0) ri, tt)),
     )
 
-module _ {M : Type 1} (𝓤 : URA M) (H : Heap 𝓤) (A : Atoms 𝓤) (W : Given 𝓤 H A) (at-mem : Memory → SProp 𝓤) (run : Routine → Fun 𝓤) (κ : Lft) (q : Share) (b o : ℕ) (γ : GName) (h : Channels) (k : ChannelCall) (k-is : Is P.the-row k (word k ∷ [])) where
+-- the exchange with another answer
+abbrev toldIn : Exchange → Answered → Exchange
+toldIn z r = record { call = z .call; told = r .told }
+
+module _ {M : Type 1} (𝓤 : URA M) (H : Heap 𝓤) (A : Atoms 𝓤) (W : Given 𝓤 H A) (at-mem : Memory → SProp 𝓤) (run : Routine → Fun 𝓤) (κ κ′ : Lft) (q q′ : Share) (b o : ℕ) (γ : GName) (h : Channels) (b′ o′ : ℕ) (γ′ : GName) (z : Exchange) where
   abbrev Arg : Type 0
-  Arg = RefT Channels × (ChannelCall × Unit {0})
+  Arg = RefT Channels × (RefT Exchange × Unit {0})
 
   abbrev x : Arg
-  x = (record { ptr = (b, o); name = γ; now = h }, (k, tt))
+  x = (record { ptr = (b, o); name = γ; now = h }, (record { ptr = (b′, o′); name = γ′; now = z }, tt))
 
   abbrev at : List Val × (List Val × Unit {0})
-  at = (vptr b o ∷ [], (word k ∷ [], tt))
+  at = (vptr b o ∷ [], (vptr b′ o′ ∷ [], tt))
 
   abbrev Post : Val → SProp 𝓤
-  Post = walkOf 𝓤 H A serve.ended stayed (serve.clauses 𝓤 H A at-mem run) .post (((κ, tt), (q, tt), tt, x, at), tt)
+  Post = walkOf 𝓤 H A serve.ended stayed (serve.clauses 𝓤 H A at-mem run) .post (((κ, (κ′, tt)), (q, (q′, tt)), tt, x, at), tt)
+
+  abbrev k : ChannelCall
+  k = z .call
 
   -- the first call: what it is passed, what it asks, and what is known of its result
   abbrev to-turn : TurnsTo 𝓤 H A at-mem run .Ghost
   to-turn = ((tt, tt, tt, (h .index, (h .names, (k, tt))), (cellI (h .index) ∷ [], (cellS (h .names) ∷ [], (word k ∷ [], tt)))), tt)
 
-  turn-goes : Is I.the-row (h .index) (cellI (h .index) ∷ []) → Is S.the-row (h .names) (cellS (h .names) ∷ []) → ent 𝓤 (emp 𝓤) (TurnsTo 𝓤 H A at-mem run .pre to-turn)
-  turn-goes was ns =
+  turn-goes : Is P.the-row k (word k ∷ []) → Is I.the-row (h .index) (cellI (h .index) ∷ []) → Is S.the-row (h .names) (cellS (h .names) ∷ []) → ent 𝓤 (emp 𝓤) (TurnsTo 𝓤 H A at-mem run .pre to-turn)
+  turn-goes k-is was ns =
       qed W [] ∵ nothing ! $ owned ! P.the-row (Is P.the-row) (LL.makes P.the-type P′.the-plain 𝓤 H A) k _ k-is $ fjoin ! $
       owned ! S.the-row (Is S.the-row) (LL.makes S.the-type S′.the-plain 𝓤 H A) (h .names) _ ns $ fjoin ! $
       owned ! I.the-row (Is I.the-row) (LL.makes I.the-type I′.the-plain 𝓤 H A) (h .index) _ was $ fjoin ! $ nothing ! $ join ! $ frame ! $ done !
@@ -207,8 +221,8 @@ module _ {M : Type 1} (𝓤 : URA M) (H : Heap 𝓤) (A : Atoms 𝓤) (W : Given
   abbrev to-answer : Turn → Answers 𝓤 H A at-mem run .Ghost
   to-answer n = ((tt, tt, tt, (rowAt h (n .at), (h .index, (n, (k, tt)))), (cellR (rowAt h (n .at)) ∷ [], (cellI (h .index) ∷ [], (cellU n ∷ [], (word k ∷ [], tt))))), tt)
 
-  answer-goes : (n : Turn) → Is U.the-row n (cellU n ∷ []) → Is R.the-row (rowAt h (n .at)) (cellR (rowAt h (n .at)) ∷ []) → Is I.the-row (h .index) (cellI (h .index) ∷ []) → ent 𝓤 (emp 𝓤) (Answers 𝓤 H A at-mem run .pre (to-answer n))
-  answer-goes n ni ri ii =
+  answer-goes : (n : Turn) → Is P.the-row k (word k ∷ []) → Is U.the-row n (cellU n ∷ []) → Is R.the-row (rowAt h (n .at)) (cellR (rowAt h (n .at)) ∷ []) → Is I.the-row (h .index) (cellI (h .index) ∷ []) → ent 𝓤 (emp 𝓤) (Answers 𝓤 H A at-mem run .pre (to-answer n))
+  answer-goes n k-is ni ri ii =
       qed W [] ∵ nothing ! $ owned ! P.the-row (Is P.the-row) (LL.makes P.the-type P′.the-plain 𝓤 H A) k _ k-is $ fjoin ! $
       owned ! U.the-row (Is U.the-row) (LL.makes U.the-type U′.the-plain 𝓤 H A) n _ ni $ fjoin ! $
       owned ! I.the-row (Is I.the-row) (LL.makes I.the-type I′.the-plain 𝓤 H A) (h .index) _ ii $ fjoin ! $
@@ -226,37 +240,45 @@ module _ {M : Type 1} (𝓤 : URA M) (H : Heap 𝓤) (A : Atoms 𝓤) (W : Given
       let g : r ≡ answeredBy h k = f ∙ ap (λ (q : Turn). answeredOf (rowAt h (q .at)) (h .index) q k) e in
       record { told-is = ap (λ (t : Answered). t .told) g; table-is = λ i. storedAt h (e i .at) (g i) }
 
-  exits : (n : Turn) (r : Answered) → n ≡ turnedOf (h .index) (h .names .channels) k → Answered′ n r → Is N.the-row (r .told) (LL.vals N.the-type N′.the-laws (r .told))
-      → ent 𝓤 (sep 𝓤 (A .obs γ (T.the-row .coded .code (storedAt h (n .at) r))) (sep 𝓤 (A .bor κ (Body (mem T.the-row) b o γ)) (A .lft κ q))) (Post (LL.val N.the-type N′.the-laws (r .told)))
-  exits n r e f is =
-      qed W (‵ (fobs γ (T.the-row .coded .code (storedAt h (n .at) r))) ∷ ‵ (fbor κ (Body (mem T.the-row) b o γ)) ∷ ‵ (flft κ q) ∷ []) ∵
-      suffices ! _ (ends-at 𝓤 H A serve.ended stayed (serve.clauses 𝓤 H A at-mem run) W (((κ, tt), (q, tt), tt, x, at), tt) (LL.val N.the-type N′.the-laws (r .told)) (r .told) (storedAt h (n .at) r, (tt, tt)) (tt, (tt, tt))) $
-      says ! (serves n r e f) $ nothing ! $ move ! (3 ∷ 0 ∷ []) $ join ! $
-      frame ! $ feqI ! (List Val) (vptr b o ∷ []) (vptr b o ∷ []) refl $ fjoin3 ! $
-      nothing ! $ owned ! P.the-row (Is P.the-row) (LL.makes P.the-type P′.the-plain 𝓤 H A) k _ k-is $ fjoin ! $ move ! (1 ∷ 0 ∷ []) $ fjoin ! $
-      owned ! N.the-row (Is N.the-row) (LL.makes N.the-type N′.the-plain 𝓤 H A) (r .told) _ is $ move ! (1 ∷ 0 ∷ []) $ done !
+  exits : (n : Turn) (r : Answered) → n ≡ turnedOf (h .index) (h .names .channels) k → Answered′ n r
+      → ent 𝓤 (sep 𝓤 (A .obs γ′ (X.the-row .coded .code (toldIn z r))) (sep 𝓤 (A .bor κ′ (Body (mem X.the-row) b′ o′ γ′)) (sep 𝓤 (A .lft κ′ q′)
+      (sep 𝓤 (A .obs γ (T.the-row .coded .code (storedAt h (n .at) r))) (sep 𝓤 (A .bor κ (Body (mem T.the-row) b o γ)) (A .lft κ q)))))) (Post vunit)
+  exits n r e f =
+      qed W (‵ (fobs γ′ (X.the-row .coded .code (toldIn z r))) ∷ ‵ (fbor κ′ (Body (mem X.the-row) b′ o′ γ′)) ∷ ‵ (flft κ′ q′) ∷ ‵ (fobs γ (T.the-row .coded .code (storedAt h (n .at) r))) ∷ ‵ (fbor κ (Body (mem T.the-row) b o γ)) ∷ ‵ (flft κ q) ∷ []) ∵
+      suffices ! _ (ends-at 𝓤 H A serve.ended stayed (serve.clauses 𝓤 H A at-mem run) W (((κ, (κ′, tt)), (q, (q′, tt)), tt, x, at), tt) vunit tt (storedAt h (n .at) r, (toldIn z r, tt)) (tt, (tt, tt))) $
+      says ! (record { serves = serves n r e f; call-kept = refl }) $ nothing ! $ move ! (3 ∷ 0 ∷ []) $ join ! $ move ! (5 ∷ 0 ∷ []) $ join ! $
+      frame ! $ feqI ! (List Val) (vptr b′ o′ ∷ []) (vptr b′ o′ ∷ []) refl $ fjoin3 ! $ nothing ! $ move ! (1 ∷ 0 ∷ []) $ fjoin ! $
+      move ! (1 ∷ 2 ∷ []) $ feqI ! (List Val) (vptr b o ∷ []) (vptr b o ∷ []) refl $ fjoin3 ! $ fjoin ! $
+      feqI ! (List Val) (vunit ∷ []) (vunit ∷ []) refl $ move ! (1 ∷ 0 ∷ []) $ done !
 
   module _ (C : Calls 𝓤 H) (Λ : Loops 𝓤 H) (fm : FmC 𝓤 H (W .laws) C) (turns : Triple 𝓤 (C #turn) (TurnsTo 𝓤 H A at-mem run)) (answers : Triple 𝓤 (C #answered) (Answers 𝓤 H A at-mem run)) where
-    walk : ent 𝓤 (onEntry 𝓤 H A serve.signature (κ, tt) (q, tt) x at) (WpFn 𝓤 H C Λ code.function (vptr b o ∷ word k ∷ []) Post)
+    walk : ent 𝓤 (onEntry 𝓤 H A serve.signature (κ, (κ′, tt)) (q, (q′, tt)) x at) (WpFn 𝓤 H C Λ code.function (vptr b o ∷ vptr b′ o′ ∷ []) Post)
     walk =
-        qed W ((‵ (flft κ q) ⊛ ‵ ftrue) ∷ ‵ (owns (MutRef (named 0) κ T.the-row ∷ P.the-row ∷ []) x at) ∷ []) ∵ split ! $ move ! (2 ∷ []) $ fsplit ! $ fsplit3 ! $ drop ! $ move ! (0 ∷ 1 ∷ 3 ∷ []) $ keep ! (0 ∷ 1 ∷ 2 ∷ []) $
-        -- [obs; the borrow; the token]
-        enter ! C Λ code.function (vptr b o ∷ word k ∷ []) _ $
-        alloc1 ! (λ l₀. alloc1 ! (λ l₁. alloc1 ! (λ l₂. alloc1 ! (λ l₃. alloc1 ! (λ l₄. alloc1 ! (λ l₅. alloc1 ! (λ l₆. alloc1 ! (λ l₇. alloc1 ! (λ l₈. alloc1 ! (λ l₉. alloc1 ! (λ l₁₀. alloc1 ! (λ l₁₁. alloc1 ! (λ l₁₂. alloc1 ! (λ l₁₃. alloc1 ! (λ l₁₄. alloc1 ! (λ l₁₅. alloc1 ! (λ l₁₆. alloc0 ! $
-        params1 ! $ pass1 ! (init ! 30 refl (tt, tt)) $ pass1 ! (init ! 28 refl (LL.lawful P.the-type P′.the-laws 𝓤 H A W .typed k _ k-is .0)) $ pass0 ! $
-        move ! (34 ∷ 35 ∷ 36 ∷ []) $ opens ! tt T.the-row {h = h} b o (λ vs. spelt ! T.the-row (Is T.the-row) (shows 𝓤 H A T.the-row) (LL.vals T.the-type T′.the-laws) (LL.tells T.the-type T′.the-laws) fullShare h vs b o $
+        qed W ((‵ (flft κ q) ⊛ ‵ (flft κ′ q′) ⊛ ‵ ftrue) ∷ ‵ (owns (MutRef (named 0) κ T.the-row ∷ MutRef (named 1) κ′ X.the-row ∷ []) x at) ∷ []) ∵ split ! $ move ! (1 ∷ []) $ split ! $
+        move ! (3 ∷ []) $ fsplit ! $ fsplit3 ! $ drop ! $ move ! (2 ∷ []) $ fsplit ! $ fsplit3 ! $ drop ! $ move ! (0 ∷ 1 ∷ 5 ∷ 3 ∷ 4 ∷ 7 ∷ []) $ keep ! (0 ∷ 1 ∷ 2 ∷ 3 ∷ 4 ∷ 5 ∷ []) $
+        -- [obs, borrow and token of the exchange; those of the table]
+        enter ! C Λ code.function (vptr b o ∷ vptr b′ o′ ∷ []) _ $
+        alloc1 ! (λ l₀. alloc1 ! (λ l₁. alloc1 ! (λ l₂. alloc1 ! (λ l₃. alloc1 ! (λ l₄. alloc1 ! (λ l₅. alloc1 ! (λ l₆. alloc1 ! (λ l₇. alloc1 ! (λ l₈. alloc1 ! (λ l₉. alloc1 ! (λ l₁₀. alloc1 ! (λ l₁₁. alloc1 ! (λ l₁₂. alloc1 ! (λ l₁₃. alloc1 ! (λ l₁₄. alloc1 ! (λ l₁₅. alloc1 ! (λ l₁₆. alloc1 ! (λ l₁₇. alloc0 ! $
+        params1 ! $ pass1 ! (init ! 32 refl (tt, tt)) $ pass1 ! (init ! 30 refl (tt, tt)) $ pass0 ! $
+        move ! (36 ∷ 37 ∷ 38 ∷ []) $ opens ! tt X.the-row {h = z} b′ o′ (λ vs′. spelt ! X.the-row (Is X.the-row) (shows 𝓤 H A X.the-row) (LL.vals X.the-type X′.the-laws) (LL.tells X.the-type X′.the-laws) fullShare z vs′ b′ o′ $
+        use1 W (‵ (fat fullShare X′.mir b′ o′ (cellX z))) (W .laws .raw-at fullShare X′.mir b′ o′ (cellX z)) $
+        move ! (1 ∷ []) $ peeks ! X.the-row (Is X.the-row) (shows 𝓤 H A X.the-row) z (cellX z ∷ []) (λ asks. move ! (1 ∷ 0 ∷ []) $
+        let halves = LL.owed X.the-type X′.the-laws z _ asks in
+        let k-is = halves .0 in
+        move ! (41 ∷ 42 ∷ 43 ∷ []) $ opens ! tt T.the-row {h = h} b o (λ vs. spelt ! T.the-row (Is T.the-row) (shows 𝓤 H A T.the-row) (LL.vals T.the-type T′.the-laws) (LL.tells T.the-type T′.the-laws) fullShare h vs b o $
         use1 W (‵ (fat fullShare T′.mir b o (cell h))) (W .laws .raw-at fullShare T′.mir b o (cell h)) $
         move ! (1 ∷ []) $ peeks ! T.the-row (Is T.the-row) (shows 𝓤 H A T.the-row) h (cell h ∷ []) (λ was. move ! (1 ∷ 0 ∷ []) $
         let parts = LL.owed T.the-type T′.the-laws h _ was in
         let rows33 = long h _ was in
         let names33 = long-names h _ was in
-        -- [the table's cell; what a table owns; the open borrow; obs; auth; _16; …; _0; …]: local i
-        -- stands at 5 + 2 (16 - i)
-        assigns ! (of-opd ! (load ! (from ! (hop ! (look ! 35 refl) (fld ! refl (stop !)))) (look-in ! 0 (sub ! 0 refl (whole !))))) (from ! (stop !)) (init ! 31 refl (LL.lawful S.the-type S′.the-laws 𝓤 H A W .typed (h .names) _ (parts .0) .0)) $
-        assigns ! (of-opd ! (load ! (from ! (hop ! (look ! 35 refl) (fld ! refl (stop !)))) (look-in ! 0 (sub ! 1 refl (whole !))))) (from ! (stop !)) (init ! 29 refl (LL.lawful I.the-type I′.the-laws 𝓤 H A W .typed (h .index) _ (parts .1 .0) .0)) $
+        -- [the table's cell; what a table owns; its open borrow; obs; auth; the same five of the
+        -- exchange; _17; …; _0; …]: local i stands at 10 + 2 (17 - i)
+        assigns ! (of-opd ! (load ! (from ! (hop ! (look ! 40 refl) (fld ! refl (stop !)))) (look-in ! 5 (sub ! 0 refl (whole !))))) (from ! (stop !)) (init ! 38 refl (LL.lawful P.the-type P′.the-laws 𝓤 H A W .typed k _ k-is .0)) $
+        assigns ! (of-opd ! (load ! (from ! (hop ! (look ! 42 refl) (fld ! refl (stop !)))) (look-in ! 0 (sub ! 0 refl (whole !))))) (from ! (stop !)) (init ! 36 refl (LL.lawful S.the-type S′.the-laws 𝓤 H A W .typed (h .names) _ (parts .0) .0)) $
+        assigns ! (of-opd ! (load ! (from ! (hop ! (look ! 42 refl) (fld ! refl (stop !)))) (look-in ! 0 (sub ! 1 refl (whole !))))) (from ! (stop !)) (init ! 34 refl (LL.lawful I.the-type I′.the-laws 𝓤 H A W .typed (h .index) _ (parts .1 .0) .0)) $
         -- turn_to
-        use0 W (raw (TurnsTo 𝓤 H A at-mem run .pre to-turn)) (turn-goes (parts .1 .0) (parts .0)) $
-        calls-at ! fm (TurnsTo 𝓤 H A at-mem run) turns to-turn (and-then ! (load ! (from ! (stop !)) (look ! 30 refl)) (and-then ! (load ! (from ! (stop !)) (look ! 32 refl)) (and-then ! (load ! (from ! (stop !)) (look ! 34 refl)) (no-more !)))) (λ u.
+        use0 W (raw (TurnsTo 𝓤 H A at-mem run .pre to-turn)) (turn-goes k-is (parts .1 .0) (parts .0)) $
+        calls-at ! fm (TurnsTo 𝓤 H A at-mem run) turns to-turn (and-then ! (load ! (from ! (stop !)) (look ! 35 refl)) (and-then ! (load ! (from ! (stop !)) (look ! 37 refl)) (and-then ! (load ! (from ! (stop !)) (look ! 39 refl)) (no-more !)))) (λ u.
         use1 W (later (some (λ (n : Turn). (‵ ftrue ⊛ ‵ (U.the-row .own n (u ∷ []))) ⊛ raw (ensured 𝓤 H A turn.ended (turn.clauses 𝓤 H A at-mem run) tt (h .index, (h .names, (k, tt))) tt n)))) (id⊢ 𝓤 _) $ await ! tt $ pick ! (λ n.
         split ! $ move ! (1 ∷ []) $ use1 W (raw (fact 𝓤 (Turned n))) (turn-said n) $ heard ! (Turned n) (λ e. split ! $ drop ! $
         peeks ! U.the-row (Is U.the-row) (shows 𝓤 H A U.the-row) n (u ∷ []) (λ n-is. drop ! $
@@ -264,57 +286,59 @@ module _ {M : Type 1} (𝓤 : URA M) (H : Heap 𝓤) (A : Atoms 𝓤) (W : Given
         let place-is′ = LL.owed U.the-type U′.the-laws n _ n-is .0 in
         let here = within (e .1) rows33 in
         let ri = element R.the-field R′.the-field-laws 33 (h .rows) _ (n .at) noRow here (parts .1 .1 .0) in
-        land ! (from ! (stop !)) (init ! 27 refl (LL.lawful U.the-type U′.the-laws 𝓤 H A W .typed n _ n-is .0)) $ rewrite ! 27 (λ (z : Val). ‵ (fat fullShare U′.mir l₅ 0 z)) (ap only (LL.tells U.the-type U′.the-laws n _ n-is)) refl $
-        assigns ! (of-opd ! (load ! (from ! (fld ! refl (stop !))) (look-in ! 27 (sub ! 0 refl (whole !))))) (from ! (stop !)) (init ! 25 refl (uint-lawful 𝓤 H A W w64 .typed (n .at) _ place-is′ .0)) $
+        land ! (from ! (stop !)) (init ! 32 refl (LL.lawful U.the-type U′.the-laws 𝓤 H A W .typed n _ n-is .0)) $ rewrite ! 32 (λ (v : Val). ‵ (fat fullShare U′.mir l₆ 0 v)) (ap only (LL.tells U.the-type U′.the-laws n _ n-is)) refl $
+        assigns ! (of-opd ! (load ! (from ! (fld ! refl (stop !))) (look-in ! 32 (sub ! 0 refl (whole !))))) (from ! (stop !)) (init ! 30 refl (uint-lawful 𝓤 H A W w64 .typed (n .at) _ place-is′ .0)) $
         -- the row's place, and the row
-        assigns ! (bin ! (load ! (from ! (stop !)) (look ! 25 refl)) (lit ! tt) (record { fits = small (e .1) })) (from ! (stop !)) (init ! 19 refl (tt, record { fits = small (e .1) })) $
-        assigns ! (addr ! (from ! (hop ! (look ! 35 refl) (fld ! refl (stop !))))) (from ! (stop !)) (init ! 17 refl (tt, tt)) $
-        assigns ! (bin ! (load ! (from ! (stop !)) (look ! 17 refl)) (load ! (from ! (stop !)) (look ! 19 refl)) tt) (from ! (stop !)) (init ! 15 refl (tt, tt)) $
-        rewrite ! 15 (λ (p : ℕ). ‵ (fat fullShare tyPtr l₁₁ 0 (vptr b p))) (sym (place-is 72 (o + 296) (n .at))) refl $
-        assigns ! (of-opd ! (load ! (from ! (hop ! (look ! 15 refl) (stop !)))
-        (look-in ! 0 (elem ! (rowCells (h .rows)) (n .at) vunit (cellR (rowAt h (n .at))) (within (e .1) (long-cells (h .rows) rows33)) (long-cells (h .rows) rows33) (row-cell h (n .at) here) (sub ! 2 refl (whole !)))))) (from ! (stop !)) (init ! 13 refl (LL.lawful R.the-type R′.the-laws 𝓤 H A W .typed (rowAt h (n .at)) _ ri .0)) $
-        assigns ! (of-opd ! (load ! (from ! (stop !)) (look ! 13 refl))) (from ! (stop !)) (init ! 23 refl (LL.lawful R.the-type R′.the-laws 𝓤 H A W .typed (rowAt h (n .at)) _ ri .0)) $
+        assigns ! (bin ! (load ! (from ! (stop !)) (look ! 30 refl)) (lit ! tt) (record { fits = small (e .1) })) (from ! (stop !)) (init ! 24 refl (tt, record { fits = small (e .1) })) $
+        assigns ! (addr ! (from ! (hop ! (look ! 42 refl) (fld ! refl (stop !))))) (from ! (stop !)) (init ! 22 refl (tt, tt)) $
+        assigns ! (bin ! (load ! (from ! (stop !)) (look ! 22 refl)) (load ! (from ! (stop !)) (look ! 24 refl)) tt) (from ! (stop !)) (init ! 20 refl (tt, tt)) $
+        rewrite ! 20 (λ (p : ℕ). ‵ (fat fullShare tyPtr l₁₂ 0 (vptr b p))) (sym (place-is 72 (o + 296) (n .at))) refl $
+        assigns ! (of-opd ! (load ! (from ! (hop ! (look ! 20 refl) (stop !))) (look-in ! 0 (elem ! (rowCells (h .rows)) (n .at) vunit (cellR (rowAt h (n .at))) (within (e .1) (long-cells (h .rows) rows33)) (long-cells (h .rows) rows33) (row-cell h (n .at) here) (sub ! 2 refl (whole !)))))) (from ! (stop !)) (init ! 18 refl (LL.lawful R.the-type R′.the-laws 𝓤 H A W .typed (rowAt h (n .at)) _ ri .0)) $
+        assigns ! (of-opd ! (load ! (from ! (stop !)) (look ! 18 refl))) (from ! (stop !)) (init ! 28 refl (LL.lawful R.the-type R′.the-laws 𝓤 H A W .typed (rowAt h (n .at)) _ ri .0)) $
         -- answered
-        use0 W (raw (Answers 𝓤 H A at-mem run .pre (to-answer n))) (answer-goes n ni ri (parts .1 .0)) $
-        calls-at ! fm (Answers 𝓤 H A at-mem run) answers (to-answer n) (and-then ! (load ! (from ! (stop !)) (look ! 24 refl)) (and-then ! (load ! (from ! (stop !)) (look ! 30 refl)) (and-then ! (load ! (from ! (stop !)) (look ! 28 refl)) (and-then ! (load ! (from ! (stop !)) (look ! 34 refl)) (no-more !))))) (λ v.
+        use0 W (raw (Answers 𝓤 H A at-mem run .pre (to-answer n))) (answer-goes n k-is ni ri (parts .1 .0)) $
+        calls-at ! fm (Answers 𝓤 H A at-mem run) answers (to-answer n) (and-then ! (load ! (from ! (stop !)) (look ! 29 refl)) (and-then ! (load ! (from ! (stop !)) (look ! 35 refl)) (and-then ! (load ! (from ! (stop !)) (look ! 33 refl)) (and-then ! (load ! (from ! (stop !)) (look ! 39 refl)) (no-more !))))) (λ v.
         use1 W (later (some (λ (r : Answered). (‵ ftrue ⊛ ‵ (K.the-row .own r (v ∷ []))) ⊛ raw (ensured 𝓤 H A answered.ended (answered.clauses 𝓤 H A at-mem run) tt (rowAt h (n .at), (h .index, (n, (k, tt)))) tt r)))) (id⊢ 𝓤 _) $ await ! tt $ pick ! (λ r.
         split ! $ move ! (1 ∷ []) $ use1 W (raw (fact 𝓤 (Answered′ n r))) (answer-said n r) $ heard ! (Answered′ n r) (λ f. split ! $ drop ! $
         peeks ! K.the-row (Is K.the-row) (shows 𝓤 H A K.the-row) r (v ∷ []) (λ is. drop ! $
         let given = LL.owed K.the-type K′.the-laws r _ is in
-        land ! (from ! (stop !)) (init ! 21 refl (LL.lawful K.the-type K′.the-laws 𝓤 H A W .typed r _ is .0)) $ rewrite ! 21 (λ (z : Val). ‵ (fat fullShare K′.mir l₈ 0 z)) (ap only (LL.tells K.the-type K′.the-laws r _ is)) refl $
-        -- the name beside the row, index and row are stored where they stood
-        assigns ! (bin ! (load ! (from ! (stop !)) (look ! 25 refl)) (lit ! tt) (record { fits = small-8 (e .1) })) (from ! (stop !)) (store ! 19 refl (tt, record { fits = small-8 (e .1) })) $
-        assigns ! (addr ! (from ! (hop ! (look ! 35 refl) (fld ! refl (fld ! refl (stop !)))))) (from ! (stop !)) (init ! 11 refl (tt, tt)) $
-        assigns ! (bin ! (load ! (from ! (stop !)) (look ! 11 refl)) (load ! (from ! (stop !)) (look ! 19 refl)) tt) (from ! (stop !)) (init ! 9 refl (tt, tt)) $
-        rewrite ! 9 (λ (p : ℕ). ‵ (fat fullShare tyPtr l₁₄ 0 (vptr b p))) (sym (place-is 8 (o + 0 + 0) (n .at))) refl $
-        assigns ! (of-opd ! (load ! (from ! (fld ! refl (stop !))) (look-in ! 21 (sub ! 1 refl (whole !))))) (from ! (hop ! (look ! 9 refl) (stop !)))
-        (store-in ! 0 (elem ! (nameCells (h .names .channels)) (n .at) vunit (vint w64 (getD (h .names .channels) (n .at) 0)) (within (e .1) (long-name-cells (h .names .channels) names33)) (long-name-cells (h .names .channels) names33) (name-cell (h .names .channels) (n .at) (within (e .1) names33)) (sub ! 0 refl (sub ! 0 refl (whole !)))) (uint-lawful 𝓤 H A W w64 .typed (r .name) _ (given .1 .0) .0)) $
-        assigns ! (of-opd ! (load ! (from ! (fld ! refl (stop !))) (look-in ! 21 (sub ! 0 refl (whole !))))) (from ! (hop ! (look ! 35 refl) (fld ! refl (stop !)))) (store-in ! 0 (sub ! 1 refl (whole !)) (LL.lawful I.the-type I′.the-laws 𝓤 H A W .typed (r .index) _ (given .0) .0)) $
-        assigns ! (bin ! (load ! (from ! (stop !)) (look ! 25 refl)) (lit ! tt) (record { fits = small (e .1) })) (from ! (stop !)) (store ! 19 refl (tt, record { fits = small (e .1) })) $
-        assigns ! (addr ! (from ! (hop ! (look ! 35 refl) (fld ! refl (stop !))))) (from ! (stop !)) (init ! 7 refl (tt, tt)) $
-        assigns ! (bin ! (load ! (from ! (stop !)) (look ! 7 refl)) (load ! (from ! (stop !)) (look ! 19 refl)) tt) (from ! (stop !)) (init ! 5 refl (tt, tt)) $
-        rewrite ! 5 (λ (p : ℕ). ‵ (fat fullShare tyPtr l₁₆ 0 (vptr b p))) (sym (place-is 72 (o + 296) (n .at))) refl $
-        assigns ! (of-opd ! (load ! (from ! (fld ! refl (stop !))) (look-in ! 21 (sub ! 2 refl (whole !))))) (from ! (hop ! (look ! 5 refl) (stop !)))
-        (store-in ! 0 (elem ! (rowCells (h .rows)) (n .at) vunit (cellR (rowAt h (n .at))) (within (e .1) (long-cells (h .rows) rows33)) (long-cells (h .rows) rows33) (row-cell h (n .at) here) (sub ! 2 refl (whole !))) (LL.lawful R.the-type R′.the-laws 𝓤 H A W .typed (r .row) _ (given .1 .1 .0) .0)) $
-        assigns ! (of-opd ! (load ! (from ! (fld ! refl (stop !))) (look-in ! 21 (sub ! 3 refl (whole !))))) (from ! (stop !)) (init ! 37 refl (LL.lawful N.the-type N′.the-laws 𝓤 H A W .typed (r .told) _ (given .1 .1 .1 .0) .0)) $
-        -- the cell is that of the table with the three, and the borrow is closed at it
+        land ! (from ! (stop !)) (init ! 26 refl (LL.lawful K.the-type K′.the-laws 𝓤 H A W .typed r _ is .0)) $ rewrite ! 26 (λ (v : Val). ‵ (fat fullShare K′.mir l₉ 0 v)) (ap only (LL.tells K.the-type K′.the-laws r _ is)) refl $
+        -- the name beside the row, index and row are stored where they stood, and the answer
+        assigns ! (bin ! (load ! (from ! (stop !)) (look ! 30 refl)) (lit ! tt) (record { fits = small-8 (e .1) })) (from ! (stop !)) (store ! 24 refl (tt, record { fits = small-8 (e .1) })) $
+        assigns ! (addr ! (from ! (hop ! (look ! 42 refl) (fld ! refl (fld ! refl (stop !)))))) (from ! (stop !)) (init ! 16 refl (tt, tt)) $
+        assigns ! (bin ! (load ! (from ! (stop !)) (look ! 16 refl)) (load ! (from ! (stop !)) (look ! 24 refl)) tt) (from ! (stop !)) (init ! 14 refl (tt, tt)) $
+        rewrite ! 14 (λ (p : ℕ). ‵ (fat fullShare tyPtr l₁₅ 0 (vptr b p))) (sym (place-is 8 (o + 0 + 0) (n .at))) refl $
+        assigns ! (of-opd ! (load ! (from ! (fld ! refl (stop !))) (look-in ! 26 (sub ! 1 refl (whole !))))) (from ! (hop ! (look ! 14 refl) (stop !))) (store-in ! 0 (elem ! (nameCells (h .names .channels)) (n .at) vunit (vint w64 (getD (h .names .channels) (n .at) 0)) (within (e .1) (long-name-cells (h .names .channels) names33)) (long-name-cells (h .names .channels) names33) (name-cell (h .names .channels) (n .at) (within (e .1) names33)) (sub ! 0 refl (sub ! 0 refl (whole !)))) (uint-lawful 𝓤 H A W w64 .typed (r .name) _ (given .1 .0) .0)) $
+        assigns ! (of-opd ! (load ! (from ! (fld ! refl (stop !))) (look-in ! 26 (sub ! 0 refl (whole !))))) (from ! (hop ! (look ! 42 refl) (fld ! refl (stop !)))) (store-in ! 0 (sub ! 1 refl (whole !)) (LL.lawful I.the-type I′.the-laws 𝓤 H A W .typed (r .index) _ (given .0) .0)) $
+        assigns ! (bin ! (load ! (from ! (stop !)) (look ! 30 refl)) (lit ! tt) (record { fits = small (e .1) })) (from ! (stop !)) (store ! 24 refl (tt, record { fits = small (e .1) })) $
+        assigns ! (addr ! (from ! (hop ! (look ! 42 refl) (fld ! refl (stop !))))) (from ! (stop !)) (init ! 12 refl (tt, tt)) $
+        assigns ! (bin ! (load ! (from ! (stop !)) (look ! 12 refl)) (load ! (from ! (stop !)) (look ! 24 refl)) tt) (from ! (stop !)) (init ! 10 refl (tt, tt)) $
+        rewrite ! 10 (λ (p : ℕ). ‵ (fat fullShare tyPtr l₁₇ 0 (vptr b p))) (sym (place-is 72 (o + 296) (n .at))) refl $
+        assigns ! (of-opd ! (load ! (from ! (fld ! refl (stop !))) (look-in ! 26 (sub ! 2 refl (whole !))))) (from ! (hop ! (look ! 10 refl) (stop !))) (store-in ! 0 (elem ! (rowCells (h .rows)) (n .at) vunit (cellR (rowAt h (n .at))) (within (e .1) (long-cells (h .rows) rows33)) (long-cells (h .rows) rows33) (row-cell h (n .at) here) (sub ! 2 refl (whole !))) (LL.lawful R.the-type R′.the-laws 𝓤 H A W .typed (r .row) _ (given .1 .1 .0) .0)) $
+        assigns ! (of-opd ! (load ! (from ! (fld ! refl (stop !))) (look-in ! 26 (sub ! 3 refl (whole !))))) (from ! (hop ! (look ! 40 refl) (fld ! refl (stop !)))) (store-in ! 5 (sub ! 1 refl (whole !)) (LL.lawful N.the-type N′.the-laws 𝓤 H A W .typed (r .told) _ (given .1 .1 .1 .0) .0)) $
+        assigns ! (of-opd ! (unit-lit !)) (from ! (stop !)) (init ! 44 refl (tt, tt)) $
+        -- the table's cell is that of the table with the three, and its borrow is closed at it
         rewrite ! 0 (λ (us : List Val). ‵ (fat fullShare T′.mir b o (vstruct (vcons (vstruct (vcons (vstruct (ofList (set (nameCells (h .names .channels)) (n .at) (vint w64 (r .name))))) vnil)) (vcons (cellI (r .index)) (vcons (vstruct (ofList us)) vnil)))))) (rows-set (h .rows) (n .at) (r .row)) refl $
         rewrite ! 0 (λ (us : List Val). ‵ (fat fullShare T′.mir b o (vstruct (vcons (vstruct (vcons (vstruct (ofList us)) vnil)) (vcons (cellI (r .index)) (vcons (vstruct (ofList (rowCells (set (h .rows) (n .at) (r .row))))) vnil)))))) (names-set (h .names .channels) (n .at) (r .name)) refl $
         use1 W (‵ (cellAt fullShare (T.the-row .mir) (cell (storedAt h (n .at) r) ∷ []) b o)) (W .laws .at-raw fullShare T′.mir b o (cell (storedAt h (n .at) r))) $
         move ! (1 ∷ []) $ drop ! $ owned ! T.the-row (Is T.the-row) (LL.makes T.the-type T′.the-plain 𝓤 H A) (storedAt h (n .at) r) _ (stored-is h _ (n .at) r was (given .1 .0) (given .0) (given .1 .1 .0)) $ move ! (1 ∷ 0 ∷ []) $ closes ! tt T.the-row (storedAt h (n .at) r) (cell (storedAt h (n .at) r) ∷ []) b o $
-        -- [obs; the borrow; the token; _16; …; _0; …]
-        returns ! (look ! 35 refl) $ forget ! 3 refl $ forget ! 5 refl $ forget ! 7 refl $ forget ! 9 refl $ forget ! 11 refl $ forget ! 13 refl $ forget ! 15 refl $ forget ! 17 refl $ forget ! 19 refl $ forget ! 21 refl $ forget ! 23 refl $ forget ! 25 refl $ forget ! 27 refl $ forget ! 29 refl $ forget ! 31 refl $ forget ! 33 refl $ forget ! 35 refl $
-        move ! (35 ∷ 36 ∷ []) $ free1 ! $ move ! (33 ∷ 34 ∷ []) $ free1 ! $ move ! (31 ∷ 32 ∷ []) $ free1 ! $ move ! (29 ∷ 30 ∷ []) $ free1 ! $ move ! (27 ∷ 28 ∷ []) $ free1 ! $ move ! (25 ∷ 26 ∷ []) $ free1 ! $ move ! (23 ∷ 24 ∷ []) $ free1 ! $ move ! (21 ∷ 22 ∷ []) $ free1 ! $ move ! (19 ∷ 20 ∷ []) $ free1 ! $ move ! (17 ∷ 18 ∷ []) $ free1 ! $ move ! (15 ∷ 16 ∷ []) $ free1 ! $ move ! (13 ∷ 14 ∷ []) $ free1 ! $ move ! (11 ∷ 12 ∷ []) $ free1 ! $ move ! (9 ∷ 10 ∷ []) $ free1 ! $ move ! (7 ∷ 8 ∷ []) $ free1 ! $ move ! (5 ∷ 6 ∷ []) $ free1 ! $ move ! (3 ∷ 4 ∷ []) $ free1 ! $ free0 ! $
-        by ! (exits n r (e .0) f (given .1 .1 .1 .0)))))))))))))))))))))))))))))
+        -- the exchange's is closed at the call with its answer
+        move ! (3 ∷ 4 ∷ 5 ∷ 6 ∷ 7 ∷ []) $
+        use1 W (‵ (cellAt fullShare (X.the-row .mir) (cellX (toldIn z r) ∷ []) b′ o′)) (W .laws .at-raw fullShare X′.mir b′ o′ (cellX (toldIn z r))) $
+        move ! (1 ∷ []) $ drop ! $ owned ! X.the-row (Is X.the-row) (LL.makes X.the-type X′.the-plain 𝓤 H A) (toldIn z r) _ (LL.owes X.the-type X′.the-laws (toldIn z r) (k-is, (given .1 .1 .1 .0, tt))) $ move ! (1 ∷ 0 ∷ []) $ closes ! tt X.the-row (toldIn z r) (cellX (toldIn z r) ∷ []) b′ o′ $
+        -- [obs, borrow and token of the exchange; those of the table; _17; …; _0; …]
+        returns ! (look ! 40 refl) $ forget ! 6 refl $ forget ! 8 refl $ forget ! 10 refl $ forget ! 12 refl $ forget ! 14 refl $ forget ! 16 refl $ forget ! 18 refl $ forget ! 20 refl $ forget ! 22 refl $ forget ! 24 refl $ forget ! 26 refl $ forget ! 28 refl $ forget ! 30 refl $ forget ! 32 refl $ forget ! 34 refl $ forget ! 36 refl $ forget ! 38 refl $ forget ! 40 refl $
+        move ! (40 ∷ 41 ∷ []) $ free1 ! $ move ! (38 ∷ 39 ∷ []) $ free1 ! $ move ! (36 ∷ 37 ∷ []) $ free1 ! $ move ! (34 ∷ 35 ∷ []) $ free1 ! $ move ! (32 ∷ 33 ∷ []) $ free1 ! $ move ! (30 ∷ 31 ∷ []) $ free1 ! $ move ! (28 ∷ 29 ∷ []) $ free1 ! $ move ! (26 ∷ 27 ∷ []) $ free1 ! $ move ! (24 ∷ 25 ∷ []) $ free1 ! $ move ! (22 ∷ 23 ∷ []) $ free1 ! $ move ! (20 ∷ 21 ∷ []) $ free1 ! $ move ! (18 ∷ 19 ∷ []) $ free1 ! $ move ! (16 ∷ 17 ∷ []) $ free1 ! $ move ! (14 ∷ 15 ∷ []) $ free1 ! $ move ! (12 ∷ 13 ∷ []) $ free1 ! $ move ! (10 ∷ 11 ∷ []) $ free1 ! $ move ! (8 ∷ 9 ∷ []) $ free1 ! $ move ! (6 ∷ 7 ∷ []) $ free1 ! $ free0 ! $
+        by ! (exits n r (e .0) f)))))))))))))))))))))))))))))))
 
 module _ {M : Type 1} (𝓤 : URA M) (H : Heap 𝓤) (A : Atoms 𝓤) (W : Given 𝓤 H A) (at-mem : Memory → SProp 𝓤) (run : Routine → Fun 𝓤) where
   serve-walks : (C : Calls 𝓤 H) (Λ : Loops 𝓤 H) → FmC 𝓤 H (W .laws) C → Triple 𝓤 (C #turn) (TurnsTo 𝓤 H A at-mem run) → Triple 𝓤 (C #answered) (Answers 𝓤 H A at-mem run)
       → Walks 𝓤 H A serve.ended stayed (WpFn 𝓤 H C Λ code.function) (serve.clauses 𝓤 H A at-mem run)
-  serve-walks C Λ fm turns answers = walked 𝓤 H A serve.ended stayed (serve.clauses 𝓤 H A at-mem run) (WpFn 𝓤 H C Λ code.function) (λ κs. (ptr-vals, (LL.vals P.the-type P′.the-laws, tt))) (λ κs. (mut-tells (named 0) (κs .0) T.the-row, (LL.tells P.the-type P′.the-laws, tt)))
-      (λ κs qs bounds a _ are. via 𝓤 _ (fst∗ 𝓤 _ (emp 𝓤)) (walk 𝓤 H A W at-mem run (κs .0) (qs .0) (a .0 .ptr .0) (a .0 .ptr .1) (a .0 .name) (a .0 .now) (a .1 .0) (are .1 .0) C Λ fm turns answers))
+  serve-walks C Λ fm turns answers = walked 𝓤 H A serve.ended stayed (serve.clauses 𝓤 H A at-mem run) (WpFn 𝓤 H C Λ code.function) (λ κs. (ptr-vals, (ptr-vals, tt))) (λ κs. (mut-tells (named 0) (κs .0) T.the-row, (mut-tells (named 1) (κs .1 .0) X.the-row, tt)))
+      (λ κs qs bounds a _ are. via 𝓤 _ (fst∗ 𝓤 _ (emp 𝓤)) (walk 𝓤 H A W at-mem run (κs .0) (κs .1 .0) (qs .0) (qs .1 .0) (a .0 .ptr .0) (a .0 .ptr .1) (a .0 .name) (a .0 .now) (a .1 .0 .ptr .0) (a .1 .0 .ptr .1) (a .1 .0 .name) (a .1 .0 .now) C Λ fm turns answers))
 
-  all-go : AllGo 𝓤 H A W 1 (serve.signature .params) (serve.ended .kept) stayed
-  all-go = (goes-ref 𝓤 H A W 1 0 tt (plain (λ _. T.the-row)), (goes-none 𝓤 H A W 1 (λ _. P.the-row) yes (λ κs x f. refl), tt))
+  all-go : AllGo 𝓤 H A W 2 (serve.signature .params) (serve.ended .kept) stayed
+  all-go = (goes-ref 𝓤 H A W 2 0 tt (plain (λ _. T.the-row)), (goes-ref 𝓤 H A W 2 1 tt (plain (λ _. X.the-row)), tt))
 
 serve-meets : {M : Type 1} (𝓤 : URA M) (H : Heap 𝓤) (A : Atoms 𝓤) (W : Given 𝓤 H A) (at-mem : Memory → SProp 𝓤) (run : Routine → Fun 𝓤) (𝓣 : Tables 𝓤 H)
     → Triple 𝓤 (𝓣 .C #turn) (TurnsTo 𝓤 H A at-mem run) → Triple 𝓤 (𝓣 .C #answered) (Answers 𝓤 H A at-mem run)
