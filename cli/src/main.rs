@@ -20,7 +20,6 @@ mod scrub;
 mod step;
 #[allow(unsafe_code)]
 mod system;
-mod table;
 mod target;
 
 use std::env;
