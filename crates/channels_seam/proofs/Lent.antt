@@ -25,6 +25,7 @@ use Rattle.ledger_spec.specs.Between.{BetweenAnswers}
 use Rattle.ledger_spec.specs.Demand3.{Demand3}
 use Rattle.ledger_spec.proofs.Tests.{false-of}
 use Rattle.host_words.specs.Words.{bookIn}
+use Rattle.host_words.specs.Told.{Refuses}
 use Rattle.host_words.proofs.Back.{book-back}
 use Rattle.channels_spec.specs.Table.{Place, free, holds, Table, isFree, waits, pendingPlace, placeOf, bookOf, TableRules}
 use Rattle.channels_spec.specs.Calls.{Call, Open, Close, Request, To, Told, Renew, Said, Tick, Announce, Reply, Between, answerTo, nextOf}
@@ -42,7 +43,8 @@ use Rattle.channels.specs.declared.ChannelCall.{ChannelCall}
 use Rattle.channels.specs.declared.ChannelTold.{ChannelTold}
 use Rattle.channels.specs.declared.Row.{Row}
 use Rattle.channels.specs.Answered.{rowOf, blank}
-use Rattle.channels.specs.Serves.{rowAt, Serves}
+use Rattle.channels.specs.Serves.{rowAt, answeredBy, Serves}
+use Rattle.channels.proofs.Keeps.{served-keeps}
 use Rattle.channels_seam.specs.Kept.{FreeAt, HeldAt, PlaceAt, Kept, callOf, seen, LentRan}
 use Rattle.channels_seam.specs.Lent.{isUsed, nameAt, bookAt, LentChannel, LentPlace, LentAnswers, LentPending, LentTurn, LentThen, no-more, and-then, OtherPlaces, LentOpens, LentCloses, LentOpening, LentNotOpen, LentRaises, LentSession}
 use Rattle.channels_seam.proofs.Puts.{waits-at}
@@ -372,11 +374,12 @@ module _ {h : History} {x : Channels} (r : LentRan h x) where
     pub lent-never-13 : answered a 13 ≡ false
     lent-never-13 = one-call (λ g. answered a 13 ≡ false) (λ calls k e m. ap (λ (p : Paper). answered p 13) e ∙ never-13 (after calls) (callOf call) (k .rules))
 
-    -- a refusal but 12 leaves the table
-    pub lent-keeps : answered a 0 ≡ false → answered a 12 ≡ false → (i : ℕ) → i < 32 → (isSet (next .index .used) i ≡ isSet (x .index .used) i) × ((nameAt next i ≡ nameAt x i) × (rowAt next i ≡ rowAt x i))
-    lent-keeps y z i l = one-call (λ g. (isSet (next .index .used) i ≡ isSet (x .index .used) i) × ((nameAt next i ≡ nameAt x i) × (rowAt next i ≡ rowAt x i))) (λ calls k e m. (
-        let t-same = refused-keeps (after calls) (callOf call) .same (ap (λ (p : Paper). answered p 0) (sym e) ∙ y) (ap (λ (p : Paper). answered p 12) (sym e) ∙ z) in
-        alike x next i (after calls .place i) (k .each i l) (subst (λ (u : Table). PlaceAt next i (u .place i)) t-same (m .each i l))))
+-- ======== A refusal but 12 leaves every table, sound or not, byte for byte
+
+pub served-refused : {was next : Channels} {told : ChannelTold} (call : ChannelCall) → Serves was call told next → Refuses (told .answer) → (told .answer ≡ 12 → ⊥) → next ≡ was
+served-refused {was} {next} {told} call s z f =
+    let number : told .answer ≡ answeredBy was call .told .answer = ap (λ (t : ChannelTold). t .answer) (s .told-is) in
+    s .table-is ∙ served-keeps was call (λ e. z (number ∙ e)) (λ e. f (number ∙ e))
 
 -- ======== Asked within 32 granted requests
 

@@ -19,6 +19,7 @@ pub mod SameMap
 pub mod GivenUp
 pub mod Session
 pub mod Between
+pub mod Channels
 pub mod TwoCaptures
 pub mod TwoCapturesHold
 pub mod TwoCapturesCalls
