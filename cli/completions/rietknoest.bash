@@ -1,7 +1,7 @@
 # Completions of the command rietknoest for bash. tools/install installs it; or: source this file.
 _rietknoest() {
     local word=${COMP_WORDS[COMP_CWORD]} before=${COMP_WORDS[COMP_CWORD - 1]} options
-    local commands="list gaps scrub check explain market help"
+    local commands="list gaps scrub check explain month market help"
     COMPREPLY=()
     if [ "$COMP_CWORD" -eq 1 ]; then
         mapfile -t COMPREPLY < <(compgen -W "$commands --help --version" -- "$word")
@@ -12,6 +12,7 @@ _rietknoest() {
     gaps) options="--json" ;;
     scrub) options="-o --step --whole --force" ;;
     check | explain) options="--step" ;;
+    month) options="--channels --sums" ;;
     market) options="" ;;
     help)
         [ "$COMP_CWORD" -ne 2 ] || mapfile -t COMPREPLY < <(compgen -W "$commands" -- "$word")
@@ -19,6 +20,7 @@ _rietknoest() {
         ;;
     *) return ;;
     esac
+    [ "$before" != --channels ] || return
     if [[ $word == -* && $before != -o ]]; then
         mapfile -t COMPREPLY < <(compgen -W "$options --quiet --help" -- "$word")
     else

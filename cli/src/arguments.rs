@@ -3,6 +3,8 @@
 use std::ffi::{OsStr, OsString};
 use std::os::unix::ffi::OsStrExt;
 
+use rietknoest_host::ChannelNumber;
+
 use crate::capture::shown;
 use crate::list::How;
 use crate::{help, progress, Trouble};
@@ -34,6 +36,11 @@ pub enum Command {
         place: u64,
         step: bool,
     },
+    Month {
+        files: Vec<OsString>,
+        channels: Vec<ChannelNumber>,
+        sums: bool,
+    },
     Market {
         files: Vec<OsString>,
     },
@@ -42,7 +49,8 @@ pub enum Command {
 /// A subcommand.
 struct Subcommand {
     name: &'static str,
-    /// The options that it takes, beside --help and --quiet. -o has a file behind it.
+    /// The options that it takes, beside --help and --quiet. -o has a file behind it, --channels
+    /// a list.
     options: &'static [&'static str],
     help: &'static str,
     /// What its words ask for.
@@ -89,6 +97,12 @@ const SUBCOMMANDS: &[Subcommand] = &[
         made: explain,
     },
     Subcommand {
+        name: "month",
+        options: &["--channels", "--sums"],
+        help: help::MONTH,
+        made: month,
+    },
+    Subcommand {
         name: "market",
         options: &[],
         help: help::MARKET,
@@ -133,7 +147,7 @@ fn subcommand(name: &OsStr) -> Result<&'static Subcommand, Trouble> {
 struct Words {
     name: &'static str,
     options: Vec<&'static str>,
-    /// What stands behind -o.
+    /// What stands behind -o, or behind --channels.
     out: Option<OsString>,
     files: Vec<OsString>,
 }
@@ -164,12 +178,16 @@ impl Words {
                 (Some("--help" | "-h"), _) => return Ok(None),
                 (Some("--quiet" | "-q"), _) => progress::silence(),
                 (Some("-o"), Some(_)) => match words.next() {
-                    Some(out) => given.out_is(out)?,
+                    Some(out) => given.out_is("-o", out)?,
                     None => return wrong_in(name, "-o names no file"),
+                },
+                (Some("--channels"), Some(_)) => match words.next() {
+                    Some(list) => given.out_is("--channels", list)?,
+                    None => return wrong_in(name, "--channels names no channel"),
                 },
                 (_, Some(known)) => given.options.push(known),
                 (_, None) => match word.as_bytes().strip_prefix(b"-o") {
-                    Some(out) if has_out => given.out_is(OsStr::from_bytes(out).into())?,
+                    Some(out) if has_out => given.out_is("-o", OsStr::from_bytes(out).into())?,
                     _ => return wrong_in(name, format!("{}: no such option", shown(&word))),
                 },
             }
@@ -177,10 +195,10 @@ impl Words {
         Ok(Some(given))
     }
 
-    fn out_is(&mut self, out: OsString) -> Result<(), Trouble> {
+    fn out_is(&mut self, option: &str, out: OsString) -> Result<(), Trouble> {
         match self.out.replace(out) {
             None => Ok(()),
-            Some(_) => wrong_in(self.name, "-o is given twice"),
+            Some(_) => wrong_in(self.name, format!("{option} is given twice")),
         }
     }
 
@@ -233,6 +251,31 @@ fn scrub(words: Words) -> Result<Command, Trouble> {
             force,
         }),
         None => wrong_in("scrub", "-o OUT is missing"),
+    }
+}
+
+/// The channels, with a comma between two, and the captures.
+fn month(mut words: Words) -> Result<Command, Trouble> {
+    let sums = words.has("--sums");
+    let Some(list) = words.out.take() else {
+        return wrong("month: --channels is missing");
+    };
+    let files = words.files()?;
+    let channel = |word: &str| {
+        let digits = !word.is_empty() && word.bytes().all(|b| b.is_ascii_digit());
+        let number = word.parse().ok().filter(|_| digits)?;
+        Some(ChannelNumber::new(number))
+    };
+    let named = list
+        .to_str()
+        .and_then(|list| list.split(',').map(channel).collect());
+    match named {
+        Some(channels) => Ok(Command::Month {
+            files,
+            channels,
+            sums,
+        }),
+        None => wrong(format!("month: {}: not a list of channels", shown(&list))),
     }
 }
 

@@ -6,6 +6,7 @@ usage: rietknoest list [--follow] [--summary] [--json] [FILE ..]
        rietknoest scrub [--step] [--whole] [--force] IN -o OUT
        rietknoest check [--step] FILE ..
        rietknoest explain [--step] FILE PLACE
+       rietknoest month --channels LIST [--sums] FILE ..
        rietknoest market FILE ..
        rietknoest help [COMMAND]
        rietknoest --help | --version
@@ -24,6 +25,9 @@ check    says whether a capture is clean: whether scrubbing it would change no
          judge M101 bodies.
 explain  says in words what is answered at a place of a capture, and why.
          It shows no private field.
+month    prints a page over up to 500 scrubbed captures: for each of up to 32
+         channels the ticks received, repeated, far and missing and the resends
+         asked for and unavailable, of each capture and in sum.
 market   says whether a B-to-H market file (mktdth.txt) is sound, or what is
          wrong with it and at which place. It shows no byte of the file.
 help     prints more on a command, as COMMAND --help does.
@@ -132,6 +136,27 @@ and no private one.
 
 exit status: 0 done; 1 refused; 2 wrong usage, the place is beyond the end, or
 the file can't be read.
+";
+
+pub const MONTH: &str = "\
+usage: rietknoest month --channels LIST [--sums] [--quiet] FILE ..
+
+Prints for each capture its name and, for each channel of LIST, how many ticks
+were received, repeated and refused as far, how many are missing, and how many
+P002 frames have status 0 (asked) and 4 (unavailable); then the sums over all
+captures. Each capture is counted from a fresh start.
+
+Captures are to be scrubbed: one that is not clean is left out, and named on
+standard error. Scrubbing changes no figure. At a 501st capture, or where a sum
+would not fit 64 bits, it names the file, prints the page so far and stops.
+
+--channels LIST  up to 32 channels, with a comma between two: 100,101
+--sums           the sums alone
+--quiet          shows no progress
+--help           prints this
+
+exit status: 0 nothing is missing; 1 a number is missing, or a capture was left
+out or refused; 2 wrong usage, or a file can't be read.
 ";
 
 pub const MARKET: &str = "\

@@ -1,5 +1,5 @@
-//! The command `rietknoest`: lists, scrubs, checks and explains captures, and finds their gaps. It
-//! has no rule of the documents: what a byte means is up to `rietknoest_host`. Files, words and exit
+//! The command `rietknoest`: lists, scrubs, checks and explains captures, finds their gaps, and sums
+//! them up. It has no rule of the documents: what a byte means is up to `rietknoest_host`. Files, words and exit
 //! statuses are handled here, tested but not proved.
 
 #![deny(unsafe_code)]
@@ -14,6 +14,7 @@ mod hint;
 mod json;
 mod list;
 mod market;
+mod month;
 mod names;
 mod progress;
 mod scrub;
@@ -137,6 +138,11 @@ fn run(command: Command) -> Result<Status, Trouble> {
             };
             explain(&file, place)
         }
+        Command::Month {
+            files,
+            channels,
+            sums,
+        } => month::month(&files, &channels, sums),
         Command::Market { files } => each(&files, |file| {
             market::market(file).map(ControlFlow::Continue)
         }),

@@ -8,7 +8,9 @@ use std::process::Stdio;
 use common::*;
 
 /// The subcommands.
-const COMMANDS: [&str; 6] = ["list", "gaps", "scrub", "check", "explain", "market"];
+const COMMANDS: [&str; 7] = [
+    "list", "gaps", "scrub", "check", "explain", "month", "market",
+];
 
 /// What is told of the sample's first M102, an index: its entries have no size and no position.
 const SNAPSHOT: &str = "\

@@ -73,6 +73,8 @@ enum rk_answer {
     RK_BODY_LENGTH = 24, /* STEP: no body length of one to nine digits stands second */
     RK_MSG_TYPE = 25,    /* STEP: none of the seven types */
     RK_FIELDS = 26,  /* STEP: a field malformed, empty, repeated, missing, or not of the type */
+    RK_CAPTURES = 27, /* the page has 500 captures already */
+    RK_SUMS = 28,    /* a sum of the page would not fit 64 bits */
     RK_PLACES = 29,  /* a place in the stream would not fit 64 bits */
     RK_EARLY = 30,   /* anything but logon or logout before the logon answer */
     RK_SEQUENCE = 31, /* MsgSeqNum is not the expected one */
@@ -573,6 +575,45 @@ rk_finding rk_market_values(const uint8_t *file, size_t len, uint8_t *out, size_
  * values, then 47, then 8; 65,536 bytes are always room enough.
  * 0 writes out's first place bytes. */
 rk_finding rk_market_write(const uint8_t *values, size_t len, uint8_t *out, size_t out_len);
+
+/* A MONTH OF CAPTURES */
+
+/* What a capture has of a channel, or the sums over captures. */
+typedef struct {
+    uint64_t received;    /* ticks received for the first time */
+    uint64_t repeated;    /* ticks received before */
+    uint64_t far;         /* ticks refused as more than 256 above the floor */
+    uint64_t missing;     /* numbers up to the known top that were not received */
+    uint64_t asked;       /* P002 of status 0: requests */
+    uint64_t unavailable; /* P002 of status 4: no data */
+} rk_figures;
+RK_SIZE(rk_figures, 6);
+
+/* A capture's figures, a row for each place of the page; rows without a channel are 0. */
+typedef struct {
+    rk_figures rows[32];
+} rk_month_figures;
+RK_SIZE(rk_month_figures, 192);
+
+/* A page over up to 500 captures. Read and copy it as you like, but do not change it: a call on a
+ * page that breaks its rules (docs/STATES.md) returns 13. */
+typedef struct {
+    uint64_t channels[32]; /* in the order named, then 0 */
+    uint64_t named;        /* how many are named */
+    uint64_t taken;        /* how many captures were taken */
+    rk_figures sums[32];   /* over these captures */
+} rk_month;
+RK_SIZE(rk_month, 226);
+
+/* A page of these channels, with nothing taken. They are judged one by one, and the first that is
+ * refused answers: 10 above 9,999, 22 if it was named before, 21 for a 33rd.
+ * Returns 0, 10, 22, 21. 0 writes *state. */
+uint32_t rk_month_start(const uint16_t *channels, size_t named, rk_month *state);
+
+/* Takes one more capture, of any bytes: its figures for each channel, counted on a fresh ledger,
+ * and the sums with them. A scrubbed capture has the figures of the original.
+ * Returns 0, 13, 27, 28. 0 writes *state and *told. */
+uint32_t rk_month_add(rk_month *state, const uint8_t *capture, size_t len, rk_month_figures *told);
 
 /* A SESSION */
 

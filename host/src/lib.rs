@@ -12,6 +12,7 @@ mod channels;
 mod frames;
 mod ledger;
 pub mod market;
+mod month;
 mod numbers;
 #[allow(unsafe_code)]
 mod raw;
@@ -30,6 +31,7 @@ pub use frames::{
     Frame, Span, CHECK_SUM, HEADER, LONGEST,
 };
 pub use ledger::{Ledger, LedgerStatus, Passed, Request, Settled, STATE_FORM};
+pub use month::{Figures, Month};
 pub use numbers::{ChannelNumber, Refusal, SessionNumber, TickNumber};
 pub use records::{records, Record};
 pub use session::{Arrival, Passing, Session, ToSend};

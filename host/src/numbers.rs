@@ -71,6 +71,8 @@ refusals! {
     BodyLength = 24, "body_length", "no body length of one to nine digits stands second";
     MsgType = 25, "msg_type", "the type is none of A 5 0 1 2 3 4";
     Fields = 26, "fields", "a field is malformed, empty, repeated, missing, or not of the type";
+    Captures = 27, "captures", "the page has 500 captures already";
+    Sums = 28, "sums", "a sum would not fit 64 bits";
     Places = 29, "places", "a place in the stream would not fit 64 bits";
     Early = 30, "early", "anything but logon or logout before the logon answer";
     Sequence = 31, "sequence", "the MsgSeqNum is not the expected one";

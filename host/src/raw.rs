@@ -20,6 +20,7 @@ use crate::captures::Cleaned;
 use crate::channels::Channels;
 use crate::frames::{Field, Frame, Span};
 use crate::ledger::{Ledger, Passed, Request, Settled};
+use crate::month::{Figures, Month};
 use crate::numbers::{ChannelNumber, SessionNumber, TickNumber};
 use crate::session::Session;
 use crate::stream::{Fed, KEPT};
@@ -72,6 +73,13 @@ pub struct Exchange {
     pub second: u64,
     pub answer: u64,
     pub values: [u64; 9],
+}
+
+/// A capture's figures at all 32 places of a page.
+#[derive(Default)]
+#[repr(C)]
+pub struct FiguresRow {
+    pub rows: [Figures; 32],
 }
 
 /// The counts of a walk.
@@ -162,6 +170,8 @@ extern "C" {
     fn rk_market_check(file: *const u8, len: usize) -> Finding;
     fn rk_market_values(file: *const u8, len: usize, out: *mut u8, out_len: usize) -> Finding;
     fn rk_market_write(values: *const u8, len: usize, out: *mut u8, out_len: usize) -> Finding;
+    fn rk_month_start(channels: *const u16, named: usize, state: *mut Month) -> u32;
+    fn rk_month_add(state: *mut Month, capture: *const u8, len: usize, told: *mut FiguresRow) -> u32;
     fn rk_session_open(state: *mut Session) -> u32;
     fn rk_session_begin(state: *mut Session, time: u64, told: *mut TurnRow) -> u32;
     fn rk_session_time(state: *mut Session, time: u64, told: *mut TurnRow) -> u32;
@@ -420,6 +430,18 @@ pub fn market_write(values: &[u8], out: &mut [u8]) -> Finding {
 }
 
 // A SESSION
+
+pub fn month_start(channels: &[u16], state: &mut Month) -> u32 {
+    let (named, count) = (channels.as_ptr(), channels.len());
+    // SAFETY: a slice of two-byte numbers; a row
+    unsafe { rk_month_start(named, count, state) }
+}
+
+pub fn month_add(state: &mut Month, capture: &[u8], told: &mut FiguresRow) -> u32 {
+    let (read, len) = (capture.as_ptr(), capture.len());
+    // SAFETY: a slice; two rows
+    unsafe { rk_month_add(state, read, len, told) }
+}
 
 pub fn session_open(state: &mut Session) -> u32 {
     // SAFETY: `state` is a row of eight.

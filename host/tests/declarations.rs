@@ -43,7 +43,7 @@ fn run(command: &mut Command, input: &[u8]) -> Vec<u8> {
 }
 
 /// The crates of which the library is made, and how many functions each has for others.
-const EXPORTS: [(&str, usize); 8] = [
+const EXPORTS: [(&str, usize); 9] = [
     ("host_frames", 8),
     ("host_ledger", 8),
     ("host_channels", 1),
@@ -52,6 +52,7 @@ const EXPORTS: [(&str, usize); 8] = [
     ("host_stream", 3),
     ("host_step", 4),
     ("host_market", 3),
+    ("host_month", 2),
 ];
 
 /// The numbers of a call on a table of channels and its answer: four, its number, and nine that it
@@ -136,6 +137,7 @@ fn of_crate(name: &str) -> Functions {
             let kind = p.split_once(": ").expect("a type").1;
             match kind {
                 "&[u8]" => kinds.extend(["*const u8".into(), "usize".into()]),
+                "&[u16]" => kinds.extend(["*const u16".into(), "usize".into()]),
                 "&mut [u8]" => kinds.extend(["*mut u8".into(), "usize".into()]),
                 "&mut u64" => kinds.push(row("mut", 1)),
                 "&mut Channels" => kinds.push(row("mut", size_of::<Channels>() / 8)),
@@ -194,6 +196,7 @@ fn of_header() -> Functions {
             }
             match (p.contains('*'), kind) {
                 (true, "uint8_t") => format!("*{pointer} u8"),
+                (true, "uint16_t") => format!("*{pointer} u16"),
                 (true, _) => row(pointer, rows[kind]),
                 (false, _) => number(kind),
             }
@@ -222,6 +225,8 @@ fn of_wrapper() -> Functions {
         "Session" => size_of::<Session>() / 8,
         "Channels" => size_of::<Channels>() / 8,
         "Exchange" => EXCHANGE,
+        "Month" => size_of::<host::Month>() / 8,
+        "FiguresRow" => 32 * size_of::<host::Figures>() / 8,
         "u64" => 1,
         // the rows that the wrapper keeps to itself
         _ => {
@@ -239,7 +244,9 @@ fn of_wrapper() -> Functions {
             match kind.split_once(' ') {
                 Some((pointer, "[u64; 6]")) => row(&pointer[1..], 6),
                 Some((pointer, "[u8; KEPT]")) => format!("{pointer} {} u8", host::KEPT),
-                Some((pointer, name)) if name != "u8" => row(&pointer[1..], numbers(name)),
+                Some((pointer, name)) if name != "u8" && name != "u16" => {
+                    row(&pointer[1..], numbers(name))
+                }
                 _ => kind.into(),
             }
         });

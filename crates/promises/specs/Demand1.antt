@@ -89,7 +89,9 @@ use Rattle.step_frame.proofs.OneAnswer as step_frame
 use Rattle.step_scrub.proofs.OneAnswer as step_scrub
 use Rattle.step_tags.proofs.OneAnswer as step_tags
 use Rattle.host_market.proofs.OneAnswer as host_market
+use Rattle.host_month.proofs.OneAnswer as host_month
 use Rattle.host_session.proofs.OneAnswer as host_session
+use Rattle.month.proofs.OneAnswer as month
 use Rattle.session.proofs.OneAnswer as session
 use Rattle.tails.proofs.OneAnswer as tails
 
@@ -437,6 +439,20 @@ host-frames-answers =
     let rk-tail-field-one-answer = host_frames.rk-tail-field-one-answer in
     named
 
+-- host_month
+host-month-answers : Named
+host-month-answers =
+    let rk-month-start-one-answer = host_month.rk-month-start-one-answer in
+    let rk-month-add-one-answer = host_month.rk-month-add-one-answer in
+    named
+
+-- month
+month-answers : Named
+month-answers =
+    let Month-started-one-answer = month.Month-started-one-answer in
+    let Month-added-one-answer = month.Month-added-one-answer in
+    named
+
 -- host_session
 host-session-answers : Named
 host-session-answers =
@@ -775,6 +791,15 @@ host-market-buffers =
 host-frames-buffers : Named
 host-frames-buffers =
     let rk-tail-field-one-buffer = host_frames.rk-tail-field-one-buffer in
+    named
+
+-- host_month
+host-month-buffers : Named
+host-month-buffers =
+    let rk-month-start-one-buffer = host_month.rk-month-start-one-buffer in
+    let rk-month-start-refused-keeps = host_month.rk-month-start-refused-keeps in
+    let rk-month-add-one-buffer = host_month.rk-month-add-one-buffer in
+    let rk-month-add-refused-keeps = host_month.rk-month-add-refused-keeps in
     named
 
 -- host_session

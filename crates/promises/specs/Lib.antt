@@ -20,6 +20,7 @@ pub mod GivenUp
 pub mod Session
 pub mod Between
 pub mod Channels
+pub mod Month
 pub mod TwoCaptures
 pub mod TwoCapturesHold
 pub mod TwoCapturesCalls
