@@ -4,3 +4,5 @@ pub mod RowLaws
 pub mod PassLaws
 pub mod StartLaws
 pub mod AddLaws
+pub mod OneAnswer
+pub mod RuledOut

@@ -50,8 +50,8 @@ module _ (channel n : ℕ) (calls : Calls) where
   before = ticksAnswered n (trace channel calls)
 
   by-type : (k : Kind) (c t : ℕ) → ticksAnswered n (trace channel (added calls (callsFor k c t)))
-      ≡ one (isTick k && eqb (offers.answered (after channel calls) 0 (callsFor k c t) .number) n) + before
-  unfolding trace ticksAnswered ticks offers.answered answerTo
+      ≡ one (isTick k && eqb (offers.offering (after channel calls) 0 (callsFor k c t) .number) n) + before
+  unfolding trace ticksAnswered ticks offers.offering answerTo
   by-type S001 c t = omega arith
   by-type S002 c t = omega arith
   by-type S003 c t = omega arith
@@ -101,8 +101,8 @@ module _ (channel : ℕ) (small : channel ≤ 9999) (calls : Calls) where
   book-stays M201 c t ne = stays (Tick c t) ne
   book-stays Unknown c t ne = refl
 
-  not-counted : (n : ℕ) → (eqb 18 n ≡ false) → (k : Kind) (c t : ℕ) → (c ≡ channel → ⊥) → isTick k && eqb (offers.answered here 0 (callsFor k c t) .number) n ≡ false
-  unfolding offers.answered
+  not-counted : (n : ℕ) → (eqb 18 n ≡ false) → (k : Kind) (c t : ℕ) → (c ≡ channel → ⊥) → isTick k && eqb (offers.offering here 0 (callsFor k c t) .number) n ≡ false
+  unfolding offers.offering
   not-counted n d S001 c t ne = refl
   not-counted n d S002 c t ne = refl
   not-counted n d S003 c t ne = refl

@@ -1,0 +1,4 @@
+pub mod WordLaws
+pub mod Kept
+pub mod OneAnswer
+pub mod RuledOut

@@ -1,0 +1,105 @@
+//! CR 13 through the library: two captures that agree in all but private fields and checksum are
+//! listed, recorded, asked about and scrubbed alike. oracle/, the second program, makes the pairs and
+//! judges that they meet the premise.
+
+use oracle::alike::{captures_alike, pair, pair_of_captures};
+use oracle::made::Dice;
+use rietknoest_host::{
+    clean, listing, scrub, walk, ChannelNumber, Cleaned, Ledger, Refusal, Request, Stream, Walked,
+    RECORD,
+};
+
+/// All that a walk, its listing, a request on its ledger and a cleaning give, with buffers of
+/// `room` bytes.
+#[derive(PartialEq)]
+struct Outcome {
+    walked: Result<Walked, Refusal>,
+    records: Vec<u8>,
+    listed: Option<Result<usize, Refusal>>,
+    text: Vec<u8>,
+    request: Option<(Result<Request, Refusal>, Ledger)>,
+    cleaned: Result<Cleaned, Refusal>,
+    scrubbed: Vec<u8>,
+}
+
+fn outcome(capture: &[u8], room: usize) -> Outcome {
+    let [mut records, mut text, mut scrubbed] = [room, 2 * room, room].map(|n| vec![0xA5; n]);
+    let walked = walk(capture, &mut records);
+    let listed = walked.ok().map(|w| {
+        let whole = &records[..RECORD * w.records];
+        listing(whole, &w, &mut text)
+    });
+    let request = walked.ok().map(|w| {
+        let mut ledger = w.ledger;
+        (ledger.request(ChannelNumber::new(100)), ledger)
+    });
+    let cleaned = clean(capture, &mut scrubbed);
+    Outcome {
+        walked,
+        records,
+        listed,
+        text,
+        request,
+        cleaned,
+        scrubbed,
+    }
+}
+
+#[test]
+fn pairs_that_differ_in_private_bytes_alone_come_out_alike() {
+    let mut differing = 0;
+    for case in 0..300 {
+        let mut d = Dice::new(13, case);
+        let about = d.of(&[100, 1_000, 8_000, 65_536]);
+        let (one, other) = pair_of_captures(&mut d, about, 600);
+        assert!(
+            captures_alike(&one, &other),
+            "case {case} meets the premise"
+        );
+        differing += usize::from(one != other);
+        for room in [one.len() * 3 + 64, one.len(), 63] {
+            let (a, b) = (outcome(&one, room), outcome(&other, room));
+            assert!(
+                a == b,
+                "case {case} with {room} bytes of room is told apart"
+            );
+        }
+    }
+    assert!(differing > 250, "most pairs differ: {differing}");
+}
+
+#[test]
+fn paired_frames_scrub_to_the_same_bytes() {
+    for case in 0..200 {
+        let mut d = Dice::new(14, case);
+        let (ones, others) = pair(&mut d, 4_000, 600);
+        for (one, other) in ones.into_iter().zip(others) {
+            let (mut a, mut b) = (one, other);
+            assert_eq!(scrub(&mut a), scrub(&mut b), "case {case}");
+            assert!(a == b, "case {case}: scrubbed frames differ");
+        }
+    }
+}
+
+/// While the captures arrive in the same cuts, each call gives the same: beyond what CR 13 asks.
+#[test]
+fn the_same_cuts_give_the_same_records_call_by_call() {
+    for case in 0..60 {
+        let mut d = Dice::new(15, case);
+        let (one, other) = pair_of_captures(&mut d, 6_000, 600);
+        let (mut a, mut b) = (Stream::open(), Stream::open());
+        let mut at = 0;
+        while at < one.len() {
+            let to = (at + 1 + d.len(700)).min(one.len());
+            let (mut mine, mut theirs) = (vec![0; 65_536], vec![0; 65_536]);
+            let fed = a.feed(&one[at..to], &mut mine);
+            assert_eq!(fed, b.feed(&other[at..to], &mut theirs));
+            assert!(mine == theirs, "case {case}: records of a cut differ");
+            at = to;
+        }
+        let (mut mine, mut theirs) = (vec![0; 65_536], vec![0; 65_536]);
+        let closed = a.close(&mut mine);
+        assert_eq!(closed, b.close(&mut theirs));
+        assert!(mine == theirs, "case {case}: records of the end differ");
+    }
+}
