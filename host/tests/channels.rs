@@ -127,7 +127,7 @@ fn scripts_made_by_hand() {
 fn generated_scripts() {
     let ours = |seed, n| generated(&Library, seed, n);
     let theirs = |seed, n| generated(&Oracle, seed, n);
-    compare(&NUMBERS, 10, ours, theirs);
+    compare(&NUMBERS, 20, ours, theirs);
 }
 
 // TABLES THAT BREAK THEIR RULES
