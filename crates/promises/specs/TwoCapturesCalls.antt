@@ -162,7 +162,7 @@ rk-clean-cant-tell κs a b x y s t g p q =
 
 -- `rk_month_add`, on the same page: the figures told, and the words
 same-month : (s t : List ℕ) → SameOutside s t → (w v : List ℕ) → w ≡ v → month-words.wordsAfter w s ≡ month-words.wordsAfter v t
-unfolding month-words.wordsAfter
+unfolding month-words.wordsAfter month.answerTo
 same-month s t o w v e = rw (ap (λ (r : Paper). r .number) (o .same-added (pageWords w)), o .same-page (pageWords w), e)
 
 pub rk-month-add-cant-tell : CantTell _ rk-month-add-kinds.ps rk-month-add-kinds.r rk-month-add.Post (λ κs a b. (now (a .0) ≡ now (b .0)) × (TwoCaptures (now (a .1 .0)) (now (b .1 .0)) × (now (a .1 .1 .0) ≡ now (b .1 .1 .0))))
