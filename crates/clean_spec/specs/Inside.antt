@@ -24,7 +24,7 @@ abbrev pub heartbeat : List ℕ
 heartbeat = frameA (0 ∷ 0 ∷ 0 ∷ 0 ∷ []) (0 ∷ 0 ∷ 0 ∷ 0x8E ∷ [])
 
 -- an M201 behind the first byte of its MsgType, up to its tail: SendingTime as A's, MsgSeqNum 2,
--- BodyLength 73; SecurityType 13, channel 100, tick 5, MD211, 01234567, 09:30:00.000, ExecType 0,
+-- BodyLength 184; SecurityType 13, channel 100, tick 5, MD211, 01234567, 09:30:00.000, ExecType 0,
 -- price 1,000,000, quantity 2,000,000
 unfoldable pub fixedPart : List ℕ
 fixedPart =

@@ -8,7 +8,7 @@ use contract.Lifetimes.{Lfts}
 use borrow.Fn.Kinds.{PK, RK, Dens, resT, endedOf, Out}
 use denote.Triple.Clauses.{AtExit}
 use denote.Ref.{now}
-use lib.ListN.{length}
+use lib.ListN.{length, take, getD}
 use Rattle.terms.specs.Paper.{Paper}
 use Rattle.octets.specs.Papers.{written-one}
 use Rattle.frame_spec.specs.Frame.{bodyLength, readOf}
@@ -22,9 +22,14 @@ use Rattle.clean_spec.specs.Clean.{cleanAnswer, cleanLeaves}
 use Rattle.walk_spec.specs.Walk.{sights, walkAnswer, walkBook, walkLeaves}
 use Rattle.walk.specs.Answers.{walked-one}
 use Rattle.clean.specs.Answers.{cleaned-one}
-use Rattle.host_words.specs.Told.{toldBy, Tells, both}
+use Rattle.host_words.specs.Told.{toldBy, Tells, both, both-one}
 use Rattle.host_words.specs.Calls.{callTold, wordsAfter}
 use Rattle.host_captures.specs.Captures.{walkWords, listingTold, listingLeaves}
+use Rattle.octets.specs.Papers.{roomFor, laidIfRoom}
+use Rattle.listing_text.specs.Whole.{listingOf}
+use Rattle.listing_text.proofs.put_listing.Reads as put-listing
+use Rattle.listing_text.proofs.put_listing.Kinds as put-listing-kinds
+use Rattle.walk.specs.declared.Walked.{Walked}
 use Rattle.walk.proofs.walk.Reads as walk
 use Rattle.walk.proofs.walk.Kinds as walk-kinds
 use Rattle.clean.proofs.clean.Reads as clean
@@ -86,6 +91,24 @@ request-cant-tell κs a b x y s t g p q =
     let f : nextIn (a .0) (Request (a .1 .0 .0)) ≡ nextIn (b .0) (Request (b .1 .0 .0)) = rw (g .0, g .1) in
     (ap₂ (λ (n : Ledger) (w : RequestAnswer). record { next = n; answer = w }) (p .1 ∙ f ∙ sym (q .1)) (request-paper-one (x .answer) (y .answer) (p .0 ∙ e ∙ sym (q .0))), refl)
 
+-- the two, one after the other: what a request on the ledger of each walk answers
+pub walk-then-request : (κs : Lfts 2) (a b : Dens κs walk-kinds.ps) (x y : resT walk-kinds.r κs .Denot) (s t : AtExit (endedOf _ walk-kinds.ps walk-kinds.r) κs)
+    → Asked (now (a .0)) (now (b .0)) (now (a .1 .0)) (now (b .1 .0)) → walk.Post κs a x s → walk.Post κs b y t
+    → (ιs : Lfts 0) (c d : Dens ιs request-kinds.ps) (u v : resT request-kinds.r ιs .Denot) (k l : AtExit (endedOf _ request-kinds.ps request-kinds.r) ιs)
+    → c .0 ≡ x .ledger → d .0 ≡ y .ledger → c .1 .0 ≡ d .1 .0 → request.Post ιs c u k → request.Post ιs d v l → u ≡ v
+walk-then-request κs a b x y s t g p q ιs c d u v k l e f h m n =
+    let same : x .ledger ≡ y .ledger = ap (λ (w : Walked). w .ledger) (walk-cant-tell κs a b x y s t g p q .0) in
+    request-cant-tell ιs c d u v k l (e ∙ same ∙ sym f, h) m n .0
+
+-- `put_listing`, given the same records and numbers
+pub put-listing-cant-tell : CantTell _ put-listing-kinds.ps put-listing-kinds.r put-listing.Post
+    (λ κs a b. (now (a .0) ≡ now (b .0)) × ((now (a .1 .0) ≡ now (b .1 .0)) × (a .1 .1 .0 ≡ b .1 .1 .0))) (λ κs s. now (s .0))
+put-listing-cant-tell κs a b x y s t g p q =
+    let e : listingOf (now (a .1 .0)) (a .1 .1 .0) ≡ listingOf (now (b .1 .0)) (b .1 .1 .0) = ap₂ listingOf (g .1 .0) (g .1 .1) in (
+      written-one x y (p .0 ∙ ap₂ (λ (l d : List ℕ). roomFor 0 (length l) (length d)) e (g .0) ∙ sym (q .0)),
+      p .1 ∙ ap₂ (laidIfRoom 0) e (g .0) ∙ sym (q .1),
+    )
+
 -- `scrub`, of two frames
 pub scrub-cant-tell : CantTell _ scrub-kinds.ps scrub-kinds.r scrub.Post (λ κs a b. SameButPrivate (now (a .0)) (now (b .0))) (λ κs s. now (s .0))
 scrub-cant-tell κs a b x y s t g p q =
@@ -127,6 +150,13 @@ rk-walk-cant-tell κs a b x y s t g p q =
     let w : walkWords (now (a .0)) (length (now (a .1 .0))) (now (a .1 .1 .0)) ≡ walkWords (now (b .0)) (length (now (b .1 .0))) (now (b .1 .1 .0)) = same-words _ _ o _ _ n _ _ (g .1 .0) in
     (e .0, ap₂ both (e .1) (ap₂ both (p .1 .0 ∙ w ∙ sym (q .1 .0)) (p .1 .1 ∙ o .same-table _ ∙ ap (walkLeaves (now (b .0))) (g .0 .1) ∙ sym (q .1 .1))))
 
+-- what `rk_listing` is lent of a walk: the first n bytes of its records, and what it told
+pub record Lists (n : ℕ) (told state walked lent : List ℕ) (f r : ℕ) (w : List ℕ) : Type 0 where
+  pub records : lent ≡ take n walked
+  pub frames : f ≡ getD told 1 0
+  pub refused : r ≡ getD told 2 0
+  pub words : w ≡ state
+
 -- `rk_listing`, given what each walk told and left: these are equal, by the theorem above
 pub rk-listing-cant-tell : CantTell _ rk-listing-kinds.ps rk-listing-kinds.r rk-listing.Post
     (λ κs a b. ((now (a .0) ≡ now (b .0)) × ((a .1 .0 ≡ b .1 .0) × (a .1 .1 .0 ≡ b .1 .1 .0))) × ((now (a .1 .1 .1 .0) ≡ now (b .1 .1 .1 .0)) × ((now (a .1 .1 .1 .1 .0) ≡ now (b .1 .1 .1 .1 .0)) × (now (a .1 .1 .1 .1 .1 .0) ≡ now (b .1 .1 .1 .1 .1 .0)))))
@@ -136,6 +166,26 @@ rk-listing-cant-tell κs a b x y s t g p q =
     let f : listingLeaves (now (a .0)) (a .1 .0) (a .1 .1 .0) (now (a .1 .1 .1 .0)) (now (a .1 .1 .1 .1 .0)) ≡ listingLeaves (now (b .0)) (b .1 .0) (b .1 .1 .0) (now (b .1 .1 .1 .0)) (now (b .1 .1 .1 .1 .0)) = rw (g .0 .0, g .0 .1 .0, g .0 .1 .1, g .1 .0, g .1 .1 .0) in
     let r = told-same e (ap (λ (n : ℕ). n ∷ []) (g .1 .1 .1)) (p .0) (q .0) in
     (r .0, ap₂ both (r .1) (p .1 ∙ f ∙ sym (q .1)))
+
+-- the two, one after the other: the listing of the first n bytes of each walk's records, with the
+-- counts and words that it told
+pub rk-walk-then-listing : (κs : Lfts 4) (a b : Dens κs rk-walk-kinds.ps) (x y : resT rk-walk-kinds.r κs .Denot) (s t : AtExit (endedOf _ rk-walk-kinds.ps rk-walk-kinds.r) κs)
+    → Asked (now (a .0)) (now (b .0)) (now (a .1 .0)) (now (b .1 .0)) × ((now (a .1 .1 .0) ≡ now (b .1 .1 .0)) × (now (a .1 .1 .1 .0) ≡ now (b .1 .1 .1 .0)))
+    → rk-walk.Post κs a x s → rk-walk.Post κs b y t
+    → (ιs : Lfts 4) (c d : Dens ιs rk-listing-kinds.ps) (u v : resT rk-listing-kinds.r ιs .Denot) (k l : AtExit (endedOf _ rk-listing-kinds.ps rk-listing-kinds.r) ιs)
+    → (n : ℕ) → Lists n (now (s .1 .1 .1 .0)) (now (s .1 .1 .0)) (now (s .1 .0)) (now (c .0)) (c .1 .0) (c .1 .1 .0) (now (c .1 .1 .1 .0))
+    → Lists n (now (t .1 .1 .1 .0)) (now (t .1 .1 .0)) (now (t .1 .0)) (now (d .0)) (d .1 .0) (d .1 .1 .0) (now (d .1 .1 .1 .0))
+    → now (c .1 .1 .1 .1 .0) ≡ now (d .1 .1 .1 .1 .0) → now (c .1 .1 .1 .1 .1 .0) ≡ now (d .1 .1 .1 .1 .1 .0) → rk-listing.Post ιs c u k → rk-listing.Post ιs d v l
+    → (u ≡ v) × (both (now (k .1 .1 .1 .1 .1 .0) ∷ []) (now (k .1 .1 .1 .1 .0)) ≡ both (now (l .1 .1 .1 .1 .1 .0) ∷ []) (now (l .1 .1 .1 .1 .0)))
+rk-walk-then-listing κs a b x y s t g p q ιs c d u v k l n e f h i m o =
+    let w = both-one (now (s .1 .1 .1 .0)) (both (now (s .1 .1 .0)) (now (s .1 .0))) (now (t .1 .1 .1 .0)) (both (now (t .1 .1 .0)) (now (t .1 .0))) (rk-walk-cant-tell κs a b x y s t g p q .1) in
+    let z = both-one (now (s .1 .1 .0)) (now (s .1 .0)) (now (t .1 .1 .0)) (now (t .1 .0)) (w .1) in
+    rk-listing-cant-tell ιs c d u v k l
+    (
+      (e .records ∙ ap (take n) (z .1) ∙ sym (f .records), (e .frames ∙ ap (λ (r : List ℕ). getD r 1 0) (w .0) ∙ sym (f .frames), e .refused ∙ ap (λ (r : List ℕ). getD r 2 0) (w .0) ∙ sym (f .refused))),
+      (e .words ∙ z .0 ∙ sym (f .words), (h, i)),
+    )
+    m o
 
 -- `rk_ledger_request`, on the words that each walk left
 pub rk-ledger-request-cant-tell : CantTell _ rk-ledger-request-kinds.ps rk-ledger-request-kinds.r rk-ledger-request.Post

@@ -339,3 +339,9 @@ module _ (f g : List ℕ) (y : readOf f .number ≡ 0) (z : readOf g .number ≡
 
 pub only-private-hidden : OnlyPrivateHidden
 only-private-hidden f g y z v w e = hidden f g y z e v w
+
+-- and so frames that are alike, as `private` has it, meet the premise
+pub alike-back : (f g : List ℕ) → readOf f .number ≡ 0 → readOf g .number ≡ 0 → length f ≡ 28 + bodyLength f → length g ≡ 28 + bodyLength g → Alike f g → SameButPrivate f g
+alike-back f g y z v w a =
+    let all : (h : List ℕ) → length h ≡ 28 + bodyLength h → take (28 + bodyLength h) (scrubbed h) ≡ scrubbed h = λ h n. take-all (28 + bodyLength h) (scrubbed h) (rw (length-always h) (omega (arith, n))) in
+    only-private-hidden f g y z v w (sym (all f v) ∙ scrub-alike f g y z a ∙ all g w)
