@@ -2,12 +2,13 @@
 //!
 //!     cargo run --release -p bench            everything
 //!     cargo run --release -p bench -- small   without the captures of 10 and 100 MB
-//!     cargo run --release -p bench -- session the rows of a session alone
+//!     cargo run --release -p bench -- session the rows of a session alone; month: those of a page
 //!
 //! Each job runs both ways in turn several times, and the best time of each counts. The answers are compared first.
 
 mod made;
 mod market;
+mod month;
 mod plain;
 mod plain_step;
 mod session;
@@ -637,6 +638,10 @@ fn main() {
         session::rows();
         return;
     }
+    if std::env::args().any(|a| a == "month") {
+        month::rows();
+        return;
+    }
     sum_and_fill();
     times::row();
     replies();
@@ -644,6 +649,7 @@ fn main() {
     step::rows();
     session::rows();
     captures("64 KiB", KIB_64);
+    month::rows();
     market::race();
     if !small {
         captures("100 MB", 100 * MB);
