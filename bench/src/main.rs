@@ -2,10 +2,13 @@
 //!
 //!     cargo run --release -p bench            everything
 //!     cargo run --release -p bench -- small   without the captures of 10 and 100 MB
-//!     cargo run --release -p bench -- session the rows of a session alone; month: those of a page
+//!     cargo run --release -p bench -- session the rows of a session alone
+//!     cargo run --release -p bench -- channels those of a table of channels
+//!     cargo run --release -p bench -- month   those of a page over captures
 //!
 //! Each job runs both ways in turn several times, and the best time of each counts. The answers are compared first.
 
+mod channels;
 mod made;
 mod market;
 mod month;
@@ -638,6 +641,10 @@ fn main() {
         session::rows();
         return;
     }
+    if std::env::args().any(|a| a == "channels") {
+        channels::rows();
+        return;
+    }
     if std::env::args().any(|a| a == "month") {
         month::rows();
         return;
@@ -648,6 +655,7 @@ fn main() {
     spans();
     step::rows();
     session::rows();
+    channels::rows();
     captures("64 KiB", KIB_64);
     month::rows();
     market::race();

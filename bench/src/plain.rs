@@ -416,6 +416,27 @@ impl Ledger {
         Ok((first, given_up, passed))
     }
 
+    pub fn request(&mut self, channel: u16) -> Result<(u64, u64), u32> {
+        self.checked(channel)?;
+        if self.pending.is_some() {
+            return Err(14);
+        }
+        if self.top == self.floor {
+            return Err(15);
+        }
+        let first = self.floor + 1;
+        let count = (self.top - self.floor).min(self.stretch(first, 0)).min(200);
+        let range = (first, self.floor + count);
+        self.pending = Some(range);
+        Ok(range)
+    }
+
+    pub fn renew(&mut self) -> Result<(), u32> {
+        self.checked(self.channel)?;
+        self.pending = None;
+        Ok(())
+    }
+
     pub fn missing_between(&self, channel: u16, a: u64, b: u64) -> Result<u64, u32> {
         self.checked(channel)?;
         if !(1..=LARGEST).contains(&a) || !(1..=LARGEST).contains(&b) {

@@ -179,16 +179,16 @@ impl Words {
                 (Some("--quiet" | "-q"), _) => progress::silence(),
                 (Some("-o"), Some(_)) => match words.next() {
                     Some(out) => given.out_is("-o", out)?,
-                    None => return wrong(format!("{name}: -o names no file")),
+                    None => return wrong_in(name, "-o names no file"),
                 },
                 (Some("--channels"), Some(_)) => match words.next() {
                     Some(list) => given.out_is("--channels", list)?,
-                    None => return wrong(format!("{name}: --channels names no channel")),
+                    None => return wrong_in(name, "--channels names no channel"),
                 },
                 (_, Some(known)) => given.options.push(known),
                 (_, None) => match word.as_bytes().strip_prefix(b"-o") {
                     Some(out) if has_out => given.out_is("-o", OsStr::from_bytes(out).into())?,
-                    _ => return wrong(format!("{name}: {}: no such option", shown(&word))),
+                    _ => return wrong_in(name, format!("{}: no such option", shown(&word))),
                 },
             }
         }
@@ -198,7 +198,7 @@ impl Words {
     fn out_is(&mut self, option: &str, out: OsString) -> Result<(), Trouble> {
         match self.out.replace(out) {
             None => Ok(()),
-            Some(_) => wrong(format!("{}: {option} is given twice", self.name)),
+            Some(_) => wrong_in(self.name, format!("{option} is given twice")),
         }
     }
 
@@ -209,7 +209,7 @@ impl Words {
     /// One file or more.
     fn files(self) -> Result<Vec<OsString>, Trouble> {
         if self.files.is_empty() {
-            return wrong(format!("{}: it takes a file, or several", self.name));
+            return wrong_in(self.name, "it takes a file, or several");
         }
         Ok(self.files)
     }
@@ -231,7 +231,7 @@ fn list(words: Words) -> Result<Command, Trouble> {
     };
     let files = words.files_or_input();
     if how.follow && files.len() > 1 {
-        return wrong("list: --follow takes one file");
+        return wrong_in("list", "--follow takes one file");
     }
     Ok(Command::List { files, how })
 }
@@ -240,7 +240,7 @@ fn scrub(words: Words) -> Result<Command, Trouble> {
     let (whole, step) = (words.has("--whole"), words.has("--step"));
     let force = words.has("--force");
     let Ok([from]) = <[OsString; 1]>::try_from(words.files) else {
-        return wrong("scrub: it takes one file");
+        return wrong_in("scrub", "it takes one file");
     };
     match words.out {
         Some(to) => Ok(Command::Scrub {
@@ -250,7 +250,7 @@ fn scrub(words: Words) -> Result<Command, Trouble> {
             step,
             force,
         }),
-        None => wrong("scrub: -o OUT is missing"),
+        None => wrong_in("scrub", "-o OUT is missing"),
     }
 }
 
@@ -283,14 +283,17 @@ fn month(mut words: Words) -> Result<Command, Trouble> {
 fn explain(words: Words) -> Result<Command, Trouble> {
     let step = words.has("--step");
     let Ok([file, place]) = <[OsString; 2]>::try_from(words.files) else {
-        return wrong("explain: it takes a file and a place");
+        return wrong_in("explain", "it takes a file and a place");
     };
     match place.to_str() {
         Some(digits) if !digits.is_empty() && digits.bytes().all(|b| b.is_ascii_digit()) => {
             let place = digits.parse().unwrap_or(u64::MAX);
             Ok(Command::Explain { file, place, step })
         }
-        _ => wrong(format!("explain: {}: not a number of bytes", shown(&place))),
+        _ => wrong_in(
+            "explain",
+            format!("{}: not a number of bytes", shown(&place)),
+        ),
     }
 }
 
@@ -299,7 +302,13 @@ fn is_option(word: &OsStr) -> bool {
 }
 
 fn wrong<T>(what: impl Into<String>) -> Result<T, Trouble> {
-    Err(Trouble::Usage(what.into()))
+    Err(Trouble::Usage(what.into(), None))
+}
+
+/// Wrong words behind a subcommand's name.
+fn wrong_in<T>(name: &'static str, what: impl AsRef<str>) -> Result<T, Trouble> {
+    let what = format!("{name}: {}", what.as_ref());
+    Err(Trouble::Usage(what, Some(name)))
 }
 
 #[cfg(test)]

@@ -123,14 +123,15 @@ impl Source {
     /// The bytes that are there, at least one and at most as many as fit; none at its end.
     pub fn piece(&mut self, room: &mut [u8]) -> Result<usize, Trouble> {
         loop {
+            // a plain file has an end, and is read up to it
+            let ends = self.grows && system::asked();
+            if ends && !self.is_plain {
+                return Ok(0);
+            }
             match self.file.read(room) {
-                Err(error) if error.kind() == ErrorKind::Interrupted => {
-                    if self.grows && system::asked() {
-                        return Ok(0);
-                    }
-                }
+                Err(error) if error.kind() == ErrorKind::Interrupted => {}
                 Err(error) => return Err(Trouble::of(&self.name, &error)),
-                Ok(0) if self.grows && self.is_plain && !system::asked() => self.wait()?,
+                Ok(0) if self.grows && self.is_plain && !ends => self.wait()?,
                 Ok(read) => {
                     self.read += read as u64;
                     self.progress.add(read);

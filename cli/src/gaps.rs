@@ -4,10 +4,9 @@ use std::collections::BTreeMap;
 use std::ffi::{OsStr, OsString};
 use std::ops::ControlFlow;
 
-use rietknoest_host::{types, ChannelNumber, LedgerStatus, Record, Refusal, TickNumber};
+use rietknoest_host::{types, ChannelNumber, Channels, LedgerStatus, Record, Refusal, TickNumber};
 
 use crate::capture::Source;
-use crate::table::{Channels, FULL};
 use crate::{count, each, print, say, Status, Trouble};
 
 /// So many runs of missing numbers are printed of a channel, and the rest counted.
@@ -28,8 +27,6 @@ pub fn gaps(files: &[OsString], json: bool) -> Result<Status, Trouble> {
 /// The channels so far.
 struct Lines {
     table: Channels,
-    /// In the order in which they came, which is that of the table.
-    open: Vec<ChannelNumber>,
     /// The frames of channels for which the table has no place.
     left_out: BTreeMap<ChannelNumber, u64>,
 }
@@ -37,8 +34,7 @@ struct Lines {
 impl Lines {
     fn new() -> Lines {
         Lines {
-            table: Channels::new(),
-            open: Vec::new(),
+            table: Channels::none(),
             left_out: BTreeMap::new(),
         }
     }
@@ -69,24 +65,23 @@ impl Lines {
     /// Offers what a reading shows to its channel, which is opened where it is new.
     fn take(&mut self, record: &Record) -> Result<(), Refusal> {
         let msg_type = u32::from_be_bytes(record.msg_type);
-        if !matches!(msg_type, types::M201 | types::P001) {
+        if !matches!(msg_type, types::M201 | types::P001 | types::P002) {
             return Ok(());
         }
         let channel = record.channel;
-        if !self.open.contains(&channel) {
-            match self.table.open(channel) {
-                Err(FULL) => {
-                    *self.left_out.entry(channel).or_default() += 1;
-                    return Ok(());
-                }
-                opened => opened?,
+        match self.table.open(channel) {
+            Ok(()) | Err(Refusal::Open) => {}
+            Err(Refusal::Full) => {
+                *self.left_out.entry(channel).or_default() += 1;
+                return Ok(());
             }
-            self.open.push(channel);
+            Err(refusal) => return Err(refusal),
         }
-        let answer = if msg_type == types::M201 {
-            self.table.tick(channel, record.tick)
-        } else {
-            self.table.announce(channel, record.tick)
+        let answer = match msg_type {
+            types::M201 => self.table.tick(channel, record.tick).map(|_| ()),
+            types::P001 => self.table.announce(channel, record.tick),
+            // a resend names its channel, and is offered to no ledger
+            _ => Ok(()),
         };
         match answer {
             Err(Refusal::Repeat | Refusal::Far) => Ok(()),
@@ -98,8 +93,8 @@ impl Lines {
     fn told(&self, json: bool) -> Result<(String, Status), Refusal> {
         let mut text = String::new();
         let mut status = Status::amiss(!self.left_out.is_empty());
-        for channel in &self.open {
-            let told = self.table.status(*channel)?;
+        for channel in self.table.places().flatten() {
+            let told = self.table.status(channel)?;
             let runs = self.runs(&told)?;
             status = status.max(Status::amiss(told.missing > 0));
             text.push_str(&if json {
@@ -108,15 +103,7 @@ impl Lines {
                 line(&told, &runs)
             });
         }
-        // on a copy: nothing is asked
-        let request = match self.table.clone().request() {
-            Ok((channel, request)) => {
-                Some((channel.value(), request.first.value(), request.last.value()))
-            }
-            Err(Refusal::Whole) => None,
-            Err(refusal) => return Err(refusal),
-        };
-        text.push_str(&match (request, json) {
+        text.push_str(&match (self.request()?, json) {
             (Some((channel, first, last)), false) => {
                 format!("next request: channel {channel}, {first} to {last}\n")
             }
@@ -127,6 +114,19 @@ impl Lines {
             (None, true) => "{\"request\":null}\n".to_string(),
         });
         Ok((text, status))
+    }
+
+    /// The request that would be given next: channel, first and last number. It is asked of a copy.
+    fn request(&self) -> Result<Option<(u16, u64, u64)>, Refusal> {
+        let mut table = self.table;
+        match table.request() {
+            Ok(asked) => {
+                let (first, last) = (asked.range.first, asked.range.last);
+                Ok(Some((asked.channel.value(), first.value(), last.value())))
+            }
+            Err(Refusal::Whole) => Ok(None),
+            Err(refusal) => Err(refusal),
+        }
     }
 
     /// The runs of missing numbers of a channel, rising. The library counts what is missing between
@@ -159,7 +159,7 @@ impl Lines {
     fn say_left_out(&self) {
         let frames: u64 = self.left_out.values().sum();
         if frames > 0 {
-            let open = self.open.len();
+            let open = self.table.places().flatten().count();
             let channels = count(self.left_out.len() as u64, "more channel");
             let frames = count(frames, "frame");
             say(&format!(

@@ -21,7 +21,6 @@ mod scrub;
 mod step;
 #[allow(unsafe_code)]
 mod system;
-mod table;
 mod target;
 
 use std::env;
@@ -58,8 +57,8 @@ impl Status {
 
 /// Why a command could not do its work: exit status 2.
 enum Trouble {
-    /// Wrong arguments.
-    Usage(String),
+    /// Wrong arguments, and the subcommand whose they are.
+    Usage(String, Option<&'static str>),
     /// A file's name for display, and what is wrong with it.
     File(String, String),
     /// The output was closed. There is nobody to tell either.
@@ -94,9 +93,10 @@ impl Trouble {
 fn main() -> ExitCode {
     let status = match arguments::parse(env::args_os().skip(1)).and_then(run) {
         Ok(status) => status as u8,
-        Err(Trouble::Usage(what)) => {
+        Err(Trouble::Usage(what, whose)) => {
             say(&what);
-            say("'rietknoest --help' tells how it is called");
+            let help = whose.map_or("--help".to_string(), |name| format!("help {name}"));
+            say(&format!("'rietknoest {help}' tells how it is called"));
             2
         }
         Err(Trouble::File(name, what)) => {

@@ -126,8 +126,13 @@ fn wrong_usage_is_2() {
     ];
     for (words, what) in wrong {
         let ran = run(&folder, words);
-        let line = format!("rietknoest: {what}\n");
-        assert!(ran.error().starts_with(&line), "{words:?}");
+        let help = match what.split(':').next() {
+            Some(name) if COMMANDS.contains(&name) => format!("help {name}"),
+            _ => "--help".to_string(),
+        };
+        let lines =
+            format!("rietknoest: {what}\nrietknoest: 'rietknoest {help}' tells how it is called\n");
+        assert_eq!(ran.error(), lines, "{words:?}");
         assert_eq!((ran.status, ran.out()), (Some(2), ""), "{words:?}");
     }
     assert_eq!(folder.names(), ["a", "b"]);

@@ -6,6 +6,7 @@ use std::collections::BTreeSet;
 use std::process::Command;
 
 use common::*;
+use oracle::gaps::{gaps, next_request};
 
 fn ticks(channel: u16, numbers: &[u64]) -> Vec<u8> {
     let frames = numbers.iter().map(|n| tick_on(channel, *n, b""));
@@ -15,6 +16,18 @@ fn ticks(channel: u16, numbers: &[u64]) -> Vec<u8> {
 fn announced(channel: u16, last: u64) -> Vec<u8> {
     let body = [&[13][..], &channel.to_be_bytes(), &last.to_be_bytes(), b"N"];
     frame(b"P001", 1, &body.concat())
+}
+
+fn resend(channel: u16, status: u8) -> Vec<u8> {
+    let body = [
+        &channel.to_be_bytes()[..],
+        &[1],
+        &4u64.to_be_bytes(),
+        &5u64.to_be_bytes(),
+        &[status],
+        &[b' '; 32],
+    ];
+    frame(b"P002", 1, &body.concat())
 }
 
 /// What it prints of a capture, with nothing on standard error.
@@ -74,6 +87,20 @@ fn several_channels() {
             "channel 3: floor 1, top 4, missing 3: 2-4",
             "channel 100: floor 0, top 2, missing 1: 1",
             "next request: channel 3, 2 to 4",
+        ],
+    );
+}
+
+/// A resend names its channel too, and says nothing of its numbers.
+#[test]
+fn a_channel_of_resends() {
+    told(
+        &[resend(5, 4), ticks(6, &[1])].concat(),
+        0,
+        &[
+            "channel 5: floor 0, top 0, missing 0",
+            "channel 6: floor 1, top 1, missing 0",
+            "next request: none",
         ],
     );
 }
@@ -245,5 +272,73 @@ fn it_agrees_with_the_listing() {
             Some(line) => assert!(line.starts_with(&start), "{round}: {line}"),
             None => assert_eq!((top, missing), ("0", "0"), "{round}"),
         }
+    }
+}
+
+/// A capture of several channels, in some order, perhaps more than the table has places for.
+fn many_channels(dice: &mut Dice) -> Vec<u8> {
+    let channels = 1 + dice.below(40);
+    let mut next = vec![1u64; channels];
+    let mut capture = Vec::new();
+    for _ in 0..dice.below(300) {
+        let i = dice.below(channels);
+        let channel = 10 * i as u16 + 1;
+        // mostly the next one, now and then one left out, one far, one again
+        let number = match dice.below(12) {
+            0 => next[i] + 1,
+            1 => next[i] + dice.below(300) as u64,
+            2 => 1 + dice.below(next[i] as usize) as u64,
+            _ => next[i],
+        };
+        capture.extend(match dice.below(20) {
+            0 => announced(channel, number + 5),
+            1 => resend(channel, [0, 4, 99][dice.below(3)]),
+            2 => heartbeats(1),
+            3 => vec![0; dice.below(40)],
+            _ => tick_on(channel, number, b""),
+        });
+        next[i] = next[i].max(number + 1);
+    }
+    capture
+}
+
+/// The second program's sets and its table say the same.
+#[test]
+fn it_agrees_with_the_second_program() {
+    let folder = Folder::new();
+    let dice = &mut Dice(9);
+    for round in 0..120 {
+        let capture = match round % 3 {
+            0 => damaged(dice),
+            _ => many_channels(dice),
+        };
+        let mut lines = String::new();
+        for gap in gaps(&capture).iter().take(32) {
+            let (floor, top, missing) = (gap.floor.0, gap.top.0, gap.missing);
+            let mut line = format!(
+                "channel {}: floor {floor}, top {top}, missing {missing}",
+                gap.channel.0
+            );
+            for (i, run) in gap.ranges.iter().take(20).enumerate() {
+                line += [" ", ": "][usize::from(i == 0)];
+                line += &match (run.first.0, run.last.0) {
+                    (first, last) if first == last => first.to_string(),
+                    (first, last) => format!("{first}-{last}"),
+                };
+            }
+            if gap.ranges.len() > 20 {
+                line += &format!(" and {} more", gap.ranges.len() - 20);
+            }
+            lines += &format!("{line}\n");
+        }
+        lines += &match next_request(&capture, true) {
+            None => "next request: none\n".to_string(),
+            Some((channel, run)) => format!(
+                "next request: channel {}, {} to {}\n",
+                channel.0, run.first.0, run.last.0
+            ),
+        };
+        let ran = run_on(&folder, &["gaps"], &capture);
+        assert_eq!(ran.out(), lines, "{round}");
     }
 }

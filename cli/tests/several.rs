@@ -184,7 +184,7 @@ impl Following {
         let mut child = command(folder)
             .args(["list", "--follow"])
             .args(words)
-            .stdin(Stdio::null())
+            .stdin(Stdio::piped())
             .stdout(Stdio::piped())
             .stderr(Stdio::piped())
             .spawn()
@@ -200,9 +200,7 @@ impl Following {
     }
 
     fn end(mut self, signal: &str) -> (Option<i32>, String, String) {
-        let id = self.child.id().to_string();
-        let sent = Command::new("kill").args(["-s", signal, &id]).status();
-        assert!(sent.unwrap().success());
+        assert!(send(signal, self.child.id()));
         self.rest()
     }
 
@@ -248,6 +246,23 @@ fn a_file_that_grows() {
     }
 }
 
+/// Of a pipe too the last line is printed when the end is asked for.
+#[test]
+fn a_pipe_that_is_broken_off() {
+    let folder = Folder::new();
+    let mut following = Following::new(&folder, &[]);
+    let mut input = following.child.stdin.take().unwrap();
+    input.write_all(&heartbeats(1)).unwrap();
+    assert_eq!(following.line(), "0 S003 0 1 0 0 0 0\n");
+    assert!(send("INT", following.child.id()));
+    // if the signal came just before it began to wait
+    let _ = input.write_all(b"S");
+    let (status, rest, error) = following.rest();
+    assert!(rest.ends_with(" floor 0 top 0 missing 0\n"), "{rest}");
+    assert_eq!((rest.lines().count() < 3, error.as_str()), (true, ""));
+    assert!(status.is_some());
+}
+
 /// Bytes that wait are listed as the end of a capture when the end is asked for.
 #[test]
 fn half_a_frame_at_the_end_of_a_file_that_grows() {
@@ -258,8 +273,7 @@ fn half_a_frame_at_the_end_of_a_file_that_grows() {
     let (status, rest, _) = following.end("INT");
     assert_eq!(status, Some(1));
     let last = "frames 1 refused 1 floor 0 top 0 missing 0\n";
-    // it may have been asked before it saw them
-    assert!(rest == format!("28 ---- 1 0 0 0 0 0\n{last}") || rest.contains("refused 0"));
+    assert_eq!(rest, format!("28 ---- 1 0 0 0 0 0\n{last}"));
 }
 
 #[test]

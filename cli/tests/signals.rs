@@ -76,12 +76,6 @@ fn scrub(folder: &Folder, library: &PathBuf, way: Way, out: &str) -> Child {
         .unwrap()
 }
 
-fn send(signal: &str, child: &Child) {
-    let id = child.id().to_string();
-    let sent = Command::new("kill").args(["-s", signal, &id]).status();
-    assert!(sent.unwrap().success());
-}
-
 fn beside(folder: &Folder) -> bool {
     folder.names().iter().any(|name| name.starts_with('.'))
 }
@@ -112,7 +106,7 @@ fn a_signal_leaves_nothing() {
                 input.write_all(&logon("A", "B")).unwrap();
                 wait_for_file(&folder, &child);
                 assert_eq!(beside(&folder), way == Way::Named, "{signal}");
-                send(signal, &child);
+                assert!(send(signal, child.id()));
                 let ended = child.wait().unwrap();
                 assert_eq!(ended.signal(), Some(number), "{signal}");
                 assert_eq!(folder.names(), ["old"], "{signal}");
@@ -146,20 +140,15 @@ fn a_signal_at_any_moment() {
             drop(input);
         }
         thread::sleep(Duration::from_micros(moment));
-        send_if_alive(signal, &mut child);
+        // it may have ended by itself
+        if child.try_wait().unwrap().is_none() {
+            send(signal, child.id());
+        }
         let ended = child.wait().unwrap();
         whole_or_not(&folder, ended, number, &pieces.concat());
         done[usize::from(ended.success())] += 1;
     }
     assert!(done[0] > 0, "none was broken off");
-}
-
-/// It may have ended by itself.
-fn send_if_alive(signal: &str, child: &mut Child) {
-    if child.try_wait().unwrap().is_none() {
-        let id = child.id().to_string();
-        let _ = Command::new("kill").args(["-s", signal, &id]).status();
-    }
 }
 
 fn whole_or_not(folder: &Folder, ended: ExitStatus, number: i32, all: &[u8]) {
@@ -189,8 +178,7 @@ fn an_ignored_signal_stays_ignored() {
     let mut input = child.stdin.take().unwrap();
     input.write_all(&heartbeats(1)).unwrap();
     wait_for_file(&folder, &child);
-    send("HUP", &child);
-    send("INT", &child);
+    assert!(send("HUP", child.id()) && send("INT", child.id()));
     input.write_all(&heartbeats(1)).unwrap();
     drop(input);
     assert_eq!(child.wait().unwrap().code(), Some(0));

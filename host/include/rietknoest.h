@@ -7,7 +7,7 @@
  * Those for market files return a code of their own table and a place, by value. rk_channels puts
  * its code beside the call.
  * The library keeps no pointer, allocates nothing and has no state of its own. Functions may be
- * called from several threads at once. A call takes at most 1 KB of stack; where it takes more, its
+ * called from several threads at once. A call takes at most 2 KB of stack; where it takes more, its
  * comment says so.
  *
  * A refusal (any code but 0) writes nothing. One exception: a tick's 12 raises the ledger's

@@ -1,6 +1,7 @@
-/* Calls every function of the header, but those for market files (market.c), channels (channels.c) and a month (month.c), as the lines on standard input ask, and prints each answer
- * with what was told. Each line is a function's name, its numbers, and its bytes in hexadecimal (- for none). Rows and buffers are lent with
- * known bytes in them and around them; a byte that changes where the header says that none does ends the program with status 3. */
+/* Calls every function of the header, but those for market files (market.c), the table of channels (channels.c) and a month (month.c), as the
+ * lines on standard input ask, and prints each answer with what was told. Each line is a function's name, its numbers, and its bytes in
+ * hexadecimal (- for none). Rows and buffers are lent with known bytes in them and around them; a byte that changes where the header says
+ * that none does ends the program with status 3. */
 #include "rietknoest.h"
 #include <inttypes.h>
 #include <stdio.h>

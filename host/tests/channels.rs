@@ -127,7 +127,7 @@ fn scripts_made_by_hand() {
 fn generated_scripts() {
     let ours = |seed, n| generated(&Library, seed, n);
     let theirs = |seed, n| generated(&Oracle, seed, n);
-    compare(&NUMBERS, 10, ours, theirs);
+    compare(&NUMBERS, 20, ours, theirs);
 }
 
 // TABLES THAT BREAK THEIR RULES
@@ -172,7 +172,8 @@ fn thirteen_where_a_call_looks() {
     let again: Call = &|t| t.open(ChannelNumber::new(7));
     let renew: Call = &Channels::renew;
     let state = Err(Refusal::State);
-    let cases: [(&[(usize, u64)], Call, Result<(), Refusal>); 20] = [
+    type Case<'a> = (&'a [(usize, u64)], Call<'a>, Result<(), Refusal>);
+    let cases: [Case; 20] = [
         (&[], seven, Ok(())),
         (&[], request, Ok(())),
         (&[(USED, 3 | 1 << 32)], seven, state),

@@ -374,6 +374,50 @@ fn a_record_has_the_numbers_of_its_line() {
     assert_eq!(listing.lines().count(), lines.lines().count() + 1);
 }
 
+/// What the header says on the stack of a call at its declaration, in KB.
+fn stack_of(header: &str, name: &str) -> usize {
+    let declared = header.find(&format!(" {name}(")).expect(name);
+    let comment = header[..declared].rfind("/*").expect("a comment");
+    let words: Vec<_> = header[comment..declared].split_whitespace().collect();
+    let said = words.windows(4).find(|w| w[1..] == ["KB", "of", "stack."]);
+    said.map_or(2, |w| w[0].parse().expect("a number"))
+}
+
+/// Each call takes no more stack than the header says, and one that takes much is not said to take
+/// little. Symbols are bound before the first call, which takes stack too.
+#[test]
+fn the_header_says_how_much_stack_a_call_takes() {
+    let program = Path::new(env!("CARGO_TARGET_TMPDIR")).join("stack");
+    let mut cc = Command::new("cc");
+    cc.args([
+        "-std=gnu11",
+        "-Wall",
+        "-Wextra",
+        "-Werror",
+        "-Wl,-z,now",
+        "-I",
+    ])
+    .arg(root().join("host/include"))
+    .arg(root().join("host/tests/stack.c"))
+    .arg(root().join("build/librietknoest.a"))
+    .args(["-lpthread", "-o"])
+    .arg(&program);
+    run(&mut cc, b"");
+    let sample = fs::read(root().join("crates/listing/stdin")).expect("the sample");
+    let taken = String::from_utf8(run(&mut Command::new(program), &sample)).expect("text");
+    let header = text_of("host/include/rietknoest.h");
+    let mut called = BTreeSet::new();
+    for line in taken.lines() {
+        let (name, bytes) = line.split_once(' ').expect("a name and a number");
+        let bytes: usize = bytes.parse().expect("a number");
+        assert!(bytes <= 1024 * stack_of(&header, name), "{line}");
+        called.insert(name.to_string());
+    }
+    let all: BTreeSet<_> = of_header().into_keys().collect();
+    assert_eq!(called, all);
+    assert_eq!(stack_of(&header, "rk_stream_feed"), 135);
+}
+
 /// The header's version is that of all crates, as the pkg-config file and the command have it.
 #[test]
 fn the_header_has_the_version() {

@@ -132,6 +132,13 @@ pub fn run_on<S: AsRef<OsStr>>(folder: &Folder, words: &[S], input: &[u8]) -> Ra
     finish(command, input)
 }
 
+/// Sends a signal, and says whether there was a program to get it.
+pub fn send(signal: &str, run: u32) -> bool {
+    let line = format!("kill -s {signal} {run} 2>/dev/null");
+    let sent = Command::new("sh").args(["-c", &line]).status();
+    sent.unwrap().success()
+}
+
 /// The files in a folder that a running program has open, with a name or without one.
 pub fn open_files(run: u32, folder: &Folder) -> Vec<PathBuf> {
     let Ok(entries) = fs::read_dir(format!("/proc/{run}/fd")) else {

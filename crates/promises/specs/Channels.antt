@@ -36,8 +36,8 @@ use Rattle.promises.specs.Calls.{Promises}
 
 -- what the promise of rk_channels allows, to a table and to the call and answer lent beside it, is
 -- such a call
-pub exchange-serves : (was : Channels) (asks : Exchange) (next : Channels) (told : Exchange) → Exchanges was asks next told → Serves was (asks .call) (told .told) next
-exchange-serves was asks next told p = p .serves
+pub exchange-serves : (was : Channels) (lent : Exchange) (next : Channels) (told : Exchange) → Exchanges was lent next told → Serves was (lent .call) (told .told) next
+exchange-serves was lent next told p = p .serves
 
 -- the table that a program starts from: no channel is open, and no call was made
 pub starts-empty : Promises _ none-kinds.ps none-kinds.r none.Post (λ κs a x s. LentRan start x)

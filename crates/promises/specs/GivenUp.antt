@@ -1,10 +1,9 @@
 -- Request 7, sentence by sentence: when the exchange has no data. Of every row of calls of the
 -- code on a ledger that it opened, and of whatever the promise of a further call allows; then of
--- the calls through the host. `only-4-gives-up` and `asks-no-more` are over the definitions that
--- the promises cite (`answerTo`, `trace`), and not over calls of the code. The words are those of
--- GivenUp.antt and Words.antt of `ledger_spec`, told from the calls and answers alone.
+-- the calls through the host. The words are those of GivenUp.antt and Words.antt of `ledger_spec`,
+-- told from the calls and answers alone.
 use Prim.Native.Nat.{ℕ, _≤_}
-use mathlib.Core.Path.{_≡_}
+use mathlib.Core.Path.{_≡_, sym, ap, _∙_}
 use mathlib.Core.Logic.{_↔_}
 use mathlib.Core.Bool.{true, false}
 use mathlib.Core.List.{List}
@@ -14,14 +13,19 @@ use Rattle.ledger_spec.specs.Calls.{Tick, Request, Reply, answerTo, nextOf}
 use Rattle.ledger_spec.specs.Trace.{Calls, _▸_, after, History, _▸_⇒_, trace}
 use Rattle.ledger_spec.specs.Words.{answered, received, givesUp, givenUp}
 use Rattle.ledger_spec.specs.GivenUp.{reply, InRange, NamesApart, FloorStands, OnlyClears, then, AsksNoMore}
+use Rattle.ledger_spec.proofs.Agree.{agrees}
 use Rattle.ledger_spec.proofs.GivenUp as Book
 use Rattle.ledger.specs.State.{bookOf}
-use Rattle.ledger.specs.Trace.{Promise, Ran}
+use Rattle.ledger.specs.Trace.{Promise, Ran, one-more}
 use Rattle.ledger.specs.declared.Ledger.{Ledger}
-use Rattle.ledger.proofs.Promised.{ran-demand-3}
+use Rattle.ledger.proofs.Seam.{book-of}
+use Rattle.ledger.proofs.Promised.{ran-is-trace, ran-demand-3}
 use Rattle.ledger.proofs.RanAnswers as Ran
 use Rattle.host_ledger.specs.Called.{Called, HostRan}
 use Rattle.host_ledger.proofs.Promised as Hosted
+
+same-book : (channel : ℕ) → channel ≤ 9999 → {calls : Calls} {l : Ledger} {h : History} → Ran channel calls l h → bookOf l ≡ after channel calls
+same-book channel opens {calls} ran = ap bookOf (ran-is-trace channel opens ran .0) ∙ book-of (after channel calls) (agrees channel opens calls .rules .places)
 
 module _ (channel : ℕ) (opens : channel ≤ 9999) {calls : Calls} {l : Ledger} {h : History} (ran : Ran channel calls l h) where
   -- status 4 gives up the numbers of the pending range "not received so far", and the
@@ -47,13 +51,28 @@ module _ (channel : ℕ) (opens : channel ≤ 9999) {calls : Calls} {l : Ledger}
   pub never-both : (n : ℕ) → received h n ≡ true → givenUp h n ≡ false
   never-both = ran-demand-3 channel opens ran .deliveries .never-both
 
--- status 3 "only clears", and so do 1, 2, 5 and 99: on every sound state
+  -- status 3 "only clears", and so do 1, 2, 5 and 99
+  pub others-only-clear : (first status : ℕ) (next : Ledger) (paper : Paper) → Promise l (Reply channel first status) next paper → answered paper 0 ≡ true → (status ≡ 4 → ⊥)
+      → OnlyClears (bookOf l) paper (bookOf next)
+  others-only-clear first status next paper p z s =
+      let call = Reply channel first status in
+      let here : bookOf l ≡ after channel calls = same-book channel opens ran in
+      let there : bookOf next ≡ nextOf (bookOf l) call = same-book channel opens (one-more call ran p) ∙ ap (λ (b : Book). nextOf b call) (sym here) in
+      let rules : StateRules (bookOf l) = rw here (agrees channel opens calls .rules) in
+      rw (there, p .paper-is) (Book.only-4-gives-up (bookOf l) channel first status rules (rw (p .paper-is) at z) s)
+
+-- no asking "for ever": after a reply of status 4 no request of the code names a number of its range
+pub code-asks-no-more : (channel : ℕ) → channel ≤ 9999 → (calls : Calls) (first : ℕ) → answered (reply channel calls first 4) 0 ≡ true → (more : Calls)
+    → {l : Ledger} {h : History} → Ran channel (then (calls ▸ Reply channel first 4) more) l h → (next : Ledger) (paper : Paper) → Promise l (Request channel) next paper
+    → AsksNoMore (trace channel calls) paper
+code-asks-no-more channel opens calls first z more ran next paper p =
+    rw (Ran.ran-paper channel opens ran (Request channel) next paper p) (Book.asks-no-more channel opens calls first z more)
+
+-- The same two of the definitions that the promises cite: the first on every sound state
 pub only-4-gives-up : (b : Book) (channel first status : ℕ) → StateRules b → answered (answerTo b (Reply channel first status)) 0 ≡ true → (status ≡ 4 → ⊥)
     → OnlyClears b (answerTo b (Reply channel first status)) (nextOf b (Reply channel first status))
 only-4-gives-up = Book.only-4-gives-up
 
--- no asking "for ever": after a reply of status 4 no later request names a number of its range
--- (`code-answers` of Demand3.antt has it of the code)
 pub asks-no-more : (channel : ℕ) → channel ≤ 9999 → (calls : Calls) (first : ℕ) → answered (reply channel calls first 4) 0 ≡ true → (more : Calls)
     → AsksNoMore (trace channel calls) (answerTo (after channel (then (calls ▸ Reply channel first 4) more)) (Request channel))
 asks-no-more = Book.asks-no-more

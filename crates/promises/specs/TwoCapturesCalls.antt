@@ -34,6 +34,15 @@ use Rattle.scrub.proofs.scrub.Kinds as scrub-kinds
 use Rattle.ledger.proofs.Ledger.request.Reads as request
 use Rattle.ledger.proofs.Ledger.request.Kinds as request-kinds
 use Rattle.ledger.specs.Papers.{request-paper-one}
+use Rattle.month_spec.specs.Calls as month
+use Rattle.month.specs.declared.Month.{Month}
+use Rattle.month.specs.State.{pageIn, monthOf, addedPaper}
+use Rattle.month.proofs.Month.added.Reads as added
+use Rattle.month.proofs.Month.added.Kinds as added-kinds
+use Rattle.host_month.specs.Words as month-words
+use Rattle.host_month.specs.Words.{pageWords}
+use Rattle.host_month.proofs.rk_month_add.Reads as rk-month-add
+use Rattle.host_month.proofs.rk_month_add.Kinds as rk-month-add-kinds
 use Rattle.host_captures.proofs.rk_walk.Reads as rk-walk
 use Rattle.host_captures.proofs.rk_walk.Kinds as rk-walk-kinds
 use Rattle.host_captures.proofs.rk_listing.Reads as rk-listing
@@ -90,6 +99,14 @@ clean-cant-tell κs a b x y s t g p q =
       p .1 ∙ o .same-clean _ ∙ ap (cleanLeaves (now (b .0))) (g .1) ∙ sym (q .1),
     )
 
+-- `Month::added`, on the same page: the figures, and the page after it
+pub added-cant-tell : CantTell _ added-kinds.ps added-kinds.r added.Post (λ κs a b. (a .0 ≡ b .0) × TwoCaptures (now (a .1 .0)) (now (b .1 .0))) (λ κs s. [])
+added-cant-tell κs a b x y s t g p q =
+    let o = same-outside (now (a .1 .0)) (now (b .1 .0)) (g .1) in
+    let e : addedPaper x ≡ addedPaper y = p .0 ∙ o .same-added (pageIn (a .0)) ∙ ap (λ (m : Month). month.answerTo (pageIn m) (now (b .1 .0))) (g .0) ∙ sym (q .0) in
+    let f : x .page ≡ y .page = p .1 ∙ ap monthOf (o .same-page (pageIn (a .0)) ∙ ap (λ (m : Month). month.nextOf (pageIn m) (now (b .1 .0))) (g .0)) ∙ sym (q .1) in
+    (ap₂ (λ (r : Paper) (m : Month). record { answer = r .number; figures = r .values; page = m }) e f, refl)
+
 -- THROUGH C: every number told and every byte written. What a function is lent is put in one list.
 
 told-same : {p q : Paper} {was is : List ℕ} {n m : ℕ} {row other : List ℕ} → p ≡ q → was ≡ is → Tells p was n row → Tells q is m other → (n ≡ m) × (row ≡ other)
@@ -142,3 +159,15 @@ rk-clean-cant-tell κs a b x y s t g p q =
     let o = same-outside (now (a .0)) (now (b .0)) (g .0 .0) in
     let r = told-same (o .same-cleaned _ ∙ ap (λ (d : List ℕ). cleanAnswer (now (b .0)) (length d)) (g .0 .1)) (g .1) (p .0) (q .0) in
     (r .0, ap₂ both (r .1) (p .1 ∙ o .same-clean _ ∙ ap (cleanLeaves (now (b .0))) (g .0 .1) ∙ sym (q .1)))
+
+-- `rk_month_add`, on the same page: the figures told, and the words
+same-month : (s t : List ℕ) → SameOutside s t → (w v : List ℕ) → w ≡ v → month-words.wordsAfter w s ≡ month-words.wordsAfter v t
+unfolding month-words.wordsAfter month.answerTo
+same-month s t o w v e = rw (ap (λ (r : Paper). r .number) (o .same-added (pageWords w)), o .same-page (pageWords w), e)
+
+pub rk-month-add-cant-tell : CantTell _ rk-month-add-kinds.ps rk-month-add-kinds.r rk-month-add.Post (λ κs a b. (now (a .0) ≡ now (b .0)) × (TwoCaptures (now (a .1 .0)) (now (b .1 .0)) × (now (a .1 .1 .0) ≡ now (b .1 .1 .0))))
+    (λ κs s. both (now (s .1 .1 .0)) (now (s .0)))
+rk-month-add-cant-tell κs a b x y s t g p q =
+    let o = same-outside (now (a .1 .0)) (now (b .1 .0)) (g .1 .0) in
+    let r = told-same (o .same-added (pageWords (now (a .0))) ∙ ap (λ (w : List ℕ). month.answerTo (pageWords w) (now (b .1 .0))) (g .0)) (g .1 .1) (p .0) (q .0) in
+    (r .0, ap₂ both (r .1) (p .1 ∙ same-month _ _ o _ _ (g .0) ∙ sym (q .1)))

@@ -27,7 +27,7 @@ use Rattle.private.specs.Laws.{Alike, spans-within, scrub-message, scrub-keeps,
 use Rattle.walk_laws.specs.Walk.{frame}
 use Rattle.walk_laws.specs.Account as Account
 use Rattle.walk_laws.specs.Account.{accountOf}
-use Rattle.walk_laws.specs.Frames.{joined, eachOf, Frames, f-nil, f-cons, Alike as SeenAlike, a-nil, a-cons, alike as seen-joined}
+use Rattle.walk_laws.specs.Frames.{joined, eachOf, Frames, f-nil, f-cons, ReadAlike as SeenAlike, a-nil, a-cons, alike as seen-joined}
 use Rattle.reading.specs.Seen.{seenOf, saysOf}
 use Rattle.reading.specs.SeenLaws.{seen-answer, seen-size, says-frame, seen-kept, seen-fits}
 use Rattle.reading.specs.Private.{seen-alike}
