@@ -4,12 +4,14 @@
 //!     cargo run --release -p bench -- small   without the captures of 10 and 100 MB
 //!     cargo run --release -p bench -- session the rows of a session alone
 //!     cargo run --release -p bench -- channels those of a table of channels
+//!     cargo run --release -p bench -- month   those of a page over captures
 //!
 //! Each job runs both ways in turn several times, and the best time of each counts. The answers are compared first.
 
 mod channels;
 mod made;
 mod market;
+mod month;
 mod plain;
 mod plain_step;
 mod session;
@@ -643,6 +645,10 @@ fn main() {
         channels::rows();
         return;
     }
+    if std::env::args().any(|a| a == "month") {
+        month::rows();
+        return;
+    }
     sum_and_fill();
     times::row();
     replies();
@@ -651,6 +657,7 @@ fn main() {
     session::rows();
     channels::rows();
     captures("64 KiB", KIB_64);
+    month::rows();
     market::race();
     if !small {
         captures("100 MB", 100 * MB);

@@ -106,7 +106,8 @@ fn channel_100_is_that_of_the_walk_and_scrubbing_changes_nothing() {
 fn thirteen_for_a_page_of_other_hands() {
     let mut two = page_of(&[7, 8]);
     two.add(b"").expect("it is taken");
-    let cases: [(&[(usize, u64)], Result<(), Refusal>); 14] = [
+    type Changes<'a> = &'a [(usize, u64)];
+    let cases: [(Changes, Result<(), Refusal>); 14] = [
         (&[], Ok(())),
         (&[(33, 500)], Err(Refusal::Captures)),
         (&[(33, 501)], Err(Refusal::State)),

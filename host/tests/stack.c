@@ -54,6 +54,9 @@ static void *calls(void *unused) {
     static rk_arrival arrival;
     static rk_table table;
     static rk_exchange exchange;
+    static rk_month month;
+    static rk_month_figures figures;
+    static const uint16_t named[] = {100, 101};
     static uint64_t number;
     static const uint8_t logon[] = "8=FIXT.1.1\0019=5\00135=0\00110=161\001";
     /* the sample's M201 at 823 and M102 at 416 */
@@ -99,6 +102,8 @@ static void *calls(void *unused) {
     CALL(rk_session_may_send, &session, 4);
     CALL(rk_session_ask, &session, 5, &turn);
     CALL(rk_session_leave, &session, 6, &turn);
+    CALL(rk_month_start, named, 2, &month);
+    CALL(rk_month_add, &month, capture, len, &figures);
     rk_channels_none(&table);
     rk_channels_open(&table, 100);
     exchange.code = 2;
