@@ -25,6 +25,21 @@ enum Part<'a> {
 /// At least so many bytes are there before one is read: those of a frame, and a piece.
 const ROOM: usize = LONGEST + 65_536;
 
+/// How many bytes tell a BINARY frame's type and length.
+const HEADER: usize = 24;
+
+/// An error where the first bytes are a BINARY frame, or the front of one. In a private text of it
+/// a STEP frame may stand, of which only STEP's own private fields would be painted.
+fn no_binary(name: &str, bytes: &[u8]) -> Result<(), Trouble> {
+    hint::hint_for_step(name, bytes);
+    let front = rietknoest_host::read(bytes, 0).map(|_| ());
+    if front.is_ok() || (front == Err(Refusal::More) && bytes.len() >= HEADER) {
+        let what = "this begins with a BINARY frame: leave out --step";
+        return Err(Trouble::File(name.to_string(), what.to_string()));
+    }
+    Ok(())
+}
+
 /// Passes on what is at each place in turn, the end last, until enough was told. The bytes are
 /// those from the place on that are there; of a frame all are.
 fn walk(
@@ -35,6 +50,11 @@ fn walk(
     // what is there stands from `at` to `end`, and `at` is at `place` of the capture
     let (mut at, mut end, mut place) = (0, 0, 0);
     let mut ended = false;
+    while !ended && end < HEADER {
+        let read = source.piece(&mut bytes[end..])?;
+        (end, ended) = (end + read, read == 0);
+    }
+    no_binary(&source.name, &bytes[..end])?;
     loop {
         let rest = &bytes[at..end];
         let answer = Frame::read(rest, 0);
@@ -42,9 +62,6 @@ fn walk(
             bytes.copy_within(at..end, 0);
             (at, end) = (0, end - at);
             let read = source.piece(&mut bytes[end..])?;
-            if place == 0 && end == 0 {
-                hint::hint_for_step(&source.name, &bytes[..read]);
-            }
             (end, ended) = (end + read, read == 0);
             continue;
         }

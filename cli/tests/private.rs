@@ -346,3 +346,47 @@ fn private_bytes_leave_no_trace() {
     let [one, other] = folders.map(|folder| fs::read(folder.path("out")).unwrap());
     assert!(one == other && !one.is_empty());
 }
+
+/// Generated pairs of captures of all types, up to 64 KiB, that the second program finds to differ
+/// in private fields and checksums alone (CR 13).
+#[test]
+fn generated_pairs_are_told_alike() {
+    for (case, about) in [(0, 300), (1, 3_000), (2, 20_000), (3, 60_000)] {
+        let mut d = oracle::made::Dice::new(13, case);
+        let (one, other) = oracle::alike::pair_of_captures(&mut d, about, 600);
+        assert!(oracle::alike::captures_alike(&one, &other) && one != other);
+        let folders = [one, other].map(|capture| Folder::new().with("in", &capture));
+        for line in [
+            "list in",
+            "list --json in",
+            "list --summary in",
+            "gaps in",
+            "gaps --json in",
+            "scrub in -o out",
+            "scrub in -o -",
+            "list out",
+            "month --channels 100,101 out",
+        ] {
+            let words: Vec<_> = line.split(' ').collect();
+            let [one, other] = [&folders[0], &folders[1]].map(|folder| run(folder, &words));
+            assert_eq!(one.status, other.status, "case {case}: {line}");
+            assert!(one.out == other.out, "case {case}: {line}");
+            assert!(one.error == other.error, "case {case}: {line}");
+        }
+        let [one, other] = folders.map(|folder| fs::read(folder.path("out")).unwrap());
+        assert!(one == other, "case {case}: what scrub wrote");
+    }
+}
+
+/// `month` counts clean captures alone, so it tells a clean one from its unscrubbed pair: docs/PRIVATE.md
+/// names it.
+#[test]
+fn month_tells_a_clean_capture_from_another() {
+    let capture = logon("MADE-UP SENDER", "MADE-UP TARGET");
+    let folder = Folder::new().with("in", &capture);
+    assert_eq!(run(&folder, &["scrub", "in", "-o", "out"]).status, Some(0));
+    let clean = run(&folder, &["month", "--channels", "100", "out"]);
+    let other = run(&folder, &["month", "--channels", "100", "in"]);
+    assert!(clean.out().contains("sums of 1 captures"));
+    assert!(other.out().contains("sums of 0 captures"));
+}

@@ -175,3 +175,20 @@ fn a_capture_of_the_other_line_is_told_of() {
         }
     }
 }
+
+/// In a BINARY text a STEP frame may stand: of a BINARY capture `--step` takes nothing.
+#[test]
+fn a_binary_capture_is_refused() {
+    let folder = Folder::new().with("in", &sample());
+    for words in [
+        &["scrub", "--step", "in", "-o", "out"][..],
+        &["check", "--step", "in"],
+        &["explain", "--step", "in", "0"],
+    ] {
+        let refused = run(&folder, words);
+        assert_eq!(refused.status, Some(2), "{words:?}");
+        assert!(refused.out().is_empty());
+        assert!(refused.error().contains("leave out --step"), "{words:?}");
+    }
+    assert_eq!(folder.names(), ["in"]);
+}

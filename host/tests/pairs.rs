@@ -5,8 +5,8 @@
 use oracle::alike::{captures_alike, pair, pair_of_captures};
 use oracle::made::Dice;
 use rietknoest_host::{
-    clean, listing, scrub, walk, ChannelNumber, Cleaned, Ledger, Refusal, Request, Stream, Walked,
-    RECORD,
+    clean, listing, private_spans, read, scrub, tail_fields, walk, ChannelNumber, Cleaned, Figures,
+    Ledger, Month, Refusal, Request, Session, Stream, Walked, HEADER, RECORD,
 };
 
 /// All that a walk, its listing, a request on its ledger and a cleaning give, with buffers of
@@ -20,6 +20,8 @@ struct Outcome {
     request: Option<(Result<Request, Refusal>, Ledger)>,
     cleaned: Result<Cleaned, Refusal>,
     scrubbed: Vec<u8>,
+    figures: Result<Vec<Figures>, Refusal>,
+    page: Month,
 }
 
 fn outcome(capture: &[u8], room: usize) -> Outcome {
@@ -34,6 +36,8 @@ fn outcome(capture: &[u8], room: usize) -> Outcome {
         (ledger.request(ChannelNumber::new(100)), ledger)
     });
     let cleaned = clean(capture, &mut scrubbed);
+    let mut page = Month::start(&[100, 7].map(ChannelNumber::new)).unwrap();
+    let figures = page.add(capture);
     Outcome {
         walked,
         records,
@@ -42,6 +46,8 @@ fn outcome(capture: &[u8], room: usize) -> Outcome {
         request,
         cleaned,
         scrubbed,
+        figures,
+        page,
     }
 }
 
@@ -68,12 +74,29 @@ fn pairs_that_differ_in_private_bytes_alone_come_out_alike() {
     assert!(differing > 250, "most pairs differ: {differing}");
 }
 
+/// What the calls on one frame tell: the reading, its private places, the fields of an extension,
+/// and how a session that awaits its logon answer takes it.
+fn told(frame: &[u8]) -> String {
+    let at = read(frame, 0).unwrap();
+    let body = &frame[HEADER..HEADER + at.body_len as usize];
+    let spans = private_spans(at.msg_type as u32, body);
+    let fields = tail_fields(body);
+    let mut session = Session::open();
+    let begun = session.begin(0);
+    let received = session.receive(1, frame);
+    format!(
+        "{at:?} {spans:?} {fields:?} {begun:?} {received:?} {:?}",
+        session.to_words()
+    )
+}
+
 #[test]
 fn paired_frames_scrub_to_the_same_bytes() {
     for case in 0..200 {
         let mut d = Dice::new(14, case);
         let (ones, others) = pair(&mut d, 4_000, 600);
         for (one, other) in ones.into_iter().zip(others) {
+            assert_eq!(told(&one), told(&other), "case {case}");
             let (mut a, mut b) = (one, other);
             assert_eq!(scrub(&mut a), scrub(&mut b), "case {case}");
             assert!(a == b, "case {case}: scrubbed frames differ");
