@@ -258,7 +258,7 @@ fn scrub(words: Words) -> Result<Command, Trouble> {
 fn month(mut words: Words) -> Result<Command, Trouble> {
     let sums = words.has("--sums");
     let Some(list) = words.out.take() else {
-        return wrong("month: --channels is missing");
+        return wrong_in("month", "--channels is missing");
     };
     let files = words.files()?;
     let channel = |word: &str| {
@@ -275,7 +275,7 @@ fn month(mut words: Words) -> Result<Command, Trouble> {
             channels,
             sums,
         }),
-        None => wrong(format!("month: {}: not a list of channels", shown(&list))),
+        None => wrong_in("month", format!("{}: not a list of channels", shown(&list))),
     }
 }
 

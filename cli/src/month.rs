@@ -16,8 +16,10 @@ pub fn month(
     sums: bool,
 ) -> Result<Status, Trouble> {
     let page = Month::start(channels);
-    let mut page =
-        page.map_err(|refusal| Trouble::Usage(format!("month: --channels: refused, {refusal}")))?;
+    let mut page = page.map_err(|refusal| {
+        let what = format!("month: --channels: refused, {refusal}");
+        Trouble::Usage(what, Some("month"))
+    })?;
     let read = each(files, |file| one(file, &mut page, sums))?;
     let text = format!(
         "sums of {} captures\n{}",
