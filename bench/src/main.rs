@@ -3,6 +3,7 @@
 //!     cargo run --release -p bench            everything
 //!     cargo run --release -p bench -- small   without the captures of 10 and 100 MB
 //!     cargo run --release -p bench -- session the rows of a session alone
+//!     cargo run --release -p bench -- ledger  the rows of a ledger alone
 //!
 //! Each job runs both ways in turn several times, and the best time of each counts. The answers are compared first.
 
@@ -635,6 +636,13 @@ fn main() {
     println!("|---|---|---|---|---|---|");
     if std::env::args().any(|a| a == "session") {
         session::rows();
+        return;
+    }
+    if std::env::args().any(|a| a == "ledger") {
+        replies();
+        spans();
+        println!();
+        ledgers();
         return;
     }
     sum_and_fill();
