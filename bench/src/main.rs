@@ -5,6 +5,7 @@
 //!     cargo run --release -p bench -- session the rows of a session alone
 //!     cargo run --release -p bench -- channels those of a table of channels
 //!     cargo run --release -p bench -- month   those of a page over captures
+//!     cargo run --release -p bench -- ledger  the rows of a ledger alone
 //!
 //! Each job runs both ways in turn several times, and the best time of each counts. The answers are compared first.
 
@@ -647,6 +648,13 @@ fn main() {
     }
     if std::env::args().any(|a| a == "month") {
         month::rows();
+        return;
+    }
+    if std::env::args().any(|a| a == "ledger") {
+        replies();
+        spans();
+        println!();
+        ledgers();
         return;
     }
     sum_and_fill();

@@ -4,11 +4,9 @@
 ghost use mathlib.Core.Path.{_≡_};
 ghost use mathlib.Core.List.{[], _∷_};
 ghost use Rattle.ledger_spec.specs.Calls.{Tick, Announce, Request, Reply, Ask, Between, Renew, openNumber};
-ghost use Rattle.ledger.specs.Papers.{paperOf};
 ghost use Rattle.host_words.specs.Told.{Tells};
-ghost use Rattle.host_words.specs.Calls.{keptBy, callTold, wordsAfter};
+ghost use Rattle.host_words.specs.Calls.{callTold, wordsAfter};
 ghost use Rattle.host_ledger.specs.Words.{openWords, ledgerTold, rowOf, replyTold};
-use ledger::Answer;
 use ledger::Ledger;
 use ledger::ReplyAnswer;
 use ledger::RequestAnswer;
@@ -16,27 +14,6 @@ use ledger::TickAnswer;
 use terms::ChannelNumber;
 use terms::TickNumber;
 use tick_map::Map;
-
-fn number_of(a: Answer) -> u32
-    ensures { λ r. ⌜ r ≡ paperOf a .number ⌝ }
-{
-    match a {
-        Answer::Done => 0,
-        Answer::Refused(why) => why.number(),
-    }
-}
-
-// Keeps the ledger that stands beside an answer: 0 and 12 store it, any other refusal leaves the
-// words as they were.
-fn keep(state: &mut [u64; 9], answer: u32, next: Ledger)
-    ensures { λ _. ⌜ now (state .exit) ≡ keptBy answer next (now (state .entry)) ⌝ }
-{
-    if answer == 0 {
-        *state = host_words::state_of(next);
-    } else if answer == 12 {
-        *state = host_words::state_of(next);
-    }
-}
 
 // A fresh ledger for a channel; or 10, and the words stay as they were.
 #[no_mangle]
@@ -46,8 +23,8 @@ pub extern "C" fn rk_ledger_open(channel: u16, state: &mut [u64; 9]) -> u32
     let opened = Ledger::opened(ChannelNumber::new(channel));
     let fresh = opened.next;
     let given = opened.answer;
-    let answer = number_of(given);
-    keep(state, answer, fresh);
+    let answer = host_words::number_of(given);
+    host_words::keep(state, answer, fresh);
     answer
 }
 
@@ -72,11 +49,11 @@ pub extern "C" fn rk_ledger_tick(
     match answer {
         TickAnswer::Refused(why) => {
             let n = why.number();
-            keep(state, n, next);
+            host_words::keep(state, n, next);
             n
         }
         TickAnswer::Passed { first, count } => {
-            keep(state, 0, next);
+            host_words::keep(state, 0, next);
             *told = [first.value(), count];
             0
         }
@@ -95,8 +72,8 @@ pub extern "C" fn rk_ledger_announce(state: &mut [u64; 9], channel: u16, last: u
     );
     let next = noted.next;
     let given = noted.answer;
-    let answer = number_of(given);
-    keep(state, answer, next);
+    let answer = host_words::number_of(given);
+    host_words::keep(state, answer, next);
     answer
 }
 
@@ -112,11 +89,11 @@ pub extern "C" fn rk_ledger_request(state: &mut [u64; 9], channel: u16, told: &m
     match answer {
         RequestAnswer::Refused(why) => {
             let n = why.number();
-            keep(state, n, asking);
+            host_words::keep(state, n, asking);
             n
         }
         RequestAnswer::Granted { first, last } => {
-            keep(state, 0, asking);
+            host_words::keep(state, 0, asking);
             *told = [first.value(), last.value()];
             0
         }
@@ -169,11 +146,11 @@ pub extern "C" fn rk_ledger_reply(
     match answer {
         ReplyAnswer::Refused(why) => {
             let n = why.number();
-            keep(state, n, next);
+            host_words::keep(state, n, next);
             n
         }
         ReplyAnswer::Cleared => {
-            keep(state, 0, next);
+            host_words::keep(state, 0, next);
             *told = settled_row(from, given_up, passed);
             0
         }
@@ -189,8 +166,8 @@ pub extern "C" fn rk_ledger_renew(state: &mut [u64; 9]) -> u32
     let noted = host_words::ledger_in(state).renewed();
     let next = noted.next;
     let given = noted.answer;
-    let answer = number_of(given);
-    keep(state, answer, next);
+    let answer = host_words::number_of(given);
+    host_words::keep(state, answer, next);
     answer
 }
 
@@ -204,7 +181,7 @@ pub extern "C" fn rk_ledger_told(state: &[u64; 9], told: &mut [u64; 7]) -> u32
     let missing = ledger.missing();
     let held = ledger.held();
     let given = missing.answer;
-    let answer = number_of(given);
+    let answer = host_words::number_of(given);
     let channel = ledger.channel;
     let floor = ledger.floor;
     let top = ledger.top;
@@ -240,7 +217,7 @@ pub extern "C" fn rk_ledger_missing(
         TickNumber::new(b),
     );
     let given = counted.answer;
-    let answer = number_of(given);
+    let answer = host_words::number_of(given);
     if answer == 0 {
         *told = counted.count;
     }

@@ -7,13 +7,13 @@ use Prim.Native.Nat.{ℕ, _+_, _-_, _/_, _%_, _^_, _≤_, _<_, min, max}
 use native.Mathlib.Nat.{add-zero, mod-le, lt-of-le-of-lt, mod-lt, le-of-lt, mod-eq-of-lt, div-eq-of-lt, div-one, zero-div}
 use native.Mathlib.Decide.{decLt, decLe}
 use native.Mathlib.Omega.{arith}
-use borrow.Author.Tests.{eq-eqb, ne-eqb}
+use borrow.Author.Tests.{eq-eqb, ne-eqb, eqb-false}
 use lib.Bits.{bitOr, or-lt}
 use lib.Count.{ones, trailingZeros}
 use lib.Dec.{eqb, leb, ltb}
 use lib.Pow.{pow-lt, pow-pos, shr-le, ones-sub-lt}
 use Rattle.terms.specs.Paper.{answer, pick}
-use Rattle.terms.specs.Cases.{two}
+use Rattle.terms.specs.Cases.{two, less, same}
 use Rattle.terms.specs.Counters.{tickOf}
 use Rattle.terms.specs.Refusals.{numberOf, refusal-not-0}
 use Rattle.terms.specs.declared.TickNumber.{TickNumber}
@@ -22,11 +22,11 @@ use Rattle.terms.specs.declared.Refusal.{Refusal}
 use Rattle.tick_map.specs.Bits.{Words, bit, isSet, bitsIn, mapOf, run}
 use Rattle.tick_map.specs.Ring.{rotated, laid, without, only, lacking}
 use Rattle.tick_map.specs.declared.Map.{Map}
-use Rattle.tick_map.proofs.Laws.{run-le}
-use Rattle.tick_map.proofs.Digits.{bit-above, bit-ext, bit-shr, run-passed, run-stopped}
-use Rattle.tick_map.proofs.Words.{map-of, value-of, list-lt}
-use Rattle.tick_map.proofs.Ring.{bit-mod, rotated-round, rotated-none, none-outside, rotated-lt, rotated-bit, rotated-ones, rotated-zero, rotated-set, rotated-laid, laid-rotated}
-use Rattle.tick_map.proofs.Stretch.{without-down, only-lt, only-read}
+use Rattle.tick_map.proofs.Laws.{run-le, lt-of-shr}
+use Rattle.tick_map.proofs.Digits.{bit-lt, bit-none, bit-above, bit-ext, bit-shr, bit-set-same, bit-set-other, lt-of-clear, run-passed, run-stopped}
+use Rattle.tick_map.proofs.Words.{map-of, map-at, value-of, list-lt}
+use Rattle.tick_map.proofs.Ring.{bit-mod, rotated-round, rotated-none, rotated-ext, rotated-lt, rotated-bit, rotated-ones, rotated-zero, rotated-set, rotated-laid, laid-rotated}
+use Rattle.tick_map.proofs.Stretch.{without-lt, without-in, without-out, without-is, without-down, only-lt, only-read}
 use Rattle.ledger_spec.specs.State.{Asked, nothing, range, Book, largest, mapRules, soundOf, StateRules}
 use Rattle.ledger.specs.State.{askedOf, pendingOf, bookOf, ledgerOf, topped, nextBy, nextIn, laidFrom}
 use Rattle.ledger_spec.specs.Calls.{Call, Announce, Request, Reply, Question, Ask, Missing, Held, Between, Renew, tickNumber, replyStatus, isPending, startsAt, elsewhere, ownNumber, checkedOf, marked, passes, taken, covered, leaps, gaveUp, handed, replied, betweenCount, waiting, fresh, done, raised, offered, valuesOf, beside, numberTo, answerTo, nextOf}
@@ -176,19 +176,26 @@ module _ (l : Ledger) (w : Words (l .map .words)) (from to low high : ℕ) (low-
 
 -- ---- the state rules of a map, by what the code asks it
 
+-- a digit that is not set
+clear-bit : (x : ℕ) → x < 2 → eqb x 1 ≡ false → x ≡ 0
+clear-bit x l e = ⊎-elim (λ (q : x < 1). omega arith) (λ (q : 1 ≤ x). absurd (eqb-false x 1 e (omega arith))) (less x 1)
+
 module _ (s known m : ℕ) (h : m < 2 ^ 256) where
-  pub rules-empty : m ≡ 0 → true ≡ mapRules (rotated s m) known
+  rules-empty : m ≡ 0 → true ≡ mapRules (rotated s m) known
   unfolding mapRules
   rules-empty e = rw (e, rotated-zero s, zero-div (2 ^ min known 256))
 
   -- held, and nothing known
-  pub rules-none : (m ≡ 0 → ⊥) → known ≡ 0 → false ≡ mapRules (rotated s m) known
+  rules-none : (m ≡ 0 → ⊥) → known ≡ 0 → false ≡ mapRules (rotated s m) known
   unfolding mapRules
   rules-none n e =
       let k : min known 256 ≡ 0 = omega arith in
       let z : eqb (rotated s m / 2 ^ min known 256) 0 ≡ false =
       ne-eqb (rotated s m / 2 ^ min known 256) 0 (λ g. n (rotated-none s m h (sym (ap (λ (x : ℕ). rotated s m / 2 ^ x) k ∙ div-one (rotated s m)) ∙ g))) in
       sym (ap (λ (x : Bool). not (isSet (rotated s m) 0) && x) z ∙ and-false (not (isSet (rotated s m) 0)))
+
+  pub rules-known-none : known ≡ 0 → eqb m 0 ≡ mapRules (rotated s m) known
+  rules-known-none e = ⊎-elim (λ (z : m ≡ 0). eq-eqb m 0 z ∙ rules-empty z) (λ (n : m ≡ 0 → ⊥). ne-eqb m 0 n ∙ rules-none n e) (same m 0)
 
   pub rules-all : 256 ≤ known → not (isSet m (s % 256)) ≡ mapRules (rotated s m) known
   unfolding mapRules
@@ -199,13 +206,67 @@ module _ (s known m : ℕ) (h : m < 2 ^ 256) where
       sym (ap (λ (x : ℕ). eqb x 1) (rotated-bit s m h 0 (omega arith) ∙ ap (λ (x : ℕ). bit m (x % 256)) (add-zero s))) in
       ap not e ∙ sym (ap (λ (x : Bool). not (isSet (rotated s m) 0) && x) z ∙ and-true (not (isSet (rotated s m) 0)))
 
-  pub rules-scan : 0 < known → known < 256 → leb (257 - known) (trailingZeros 256 (rotated (s % 256 + known) m)) ≡ mapRules (rotated s m) known
+  -- what is left without the known places after the first: that first place, and all beyond
+  rest-bit : known < 256 → (i : ℕ) → 0 < known → i < 256 → (0 < i → known ≤ i) → bit (without (s % 256 + 1) (known - 1) m) ((s + i) % 256) ≡ bit (rotated s m) i
+  rest-bit few i some l far =
+      let j = (i + 255) % 256 in
+      let lj : j < 256 = omega arith in
+      let out : known - 1 ≤ j = beyond in
+      let e : (s % 256 + 1 + j) % 256 ≡ (s + i) % 256 = omega arith in
+      ap (bit (without (s % 256 + 1) (known - 1) m)) (sym e) ∙ without-out (s % 256 + 1) (known - 1) m h j lj out ∙ ap (bit m) e ∙ sym (rotated-bit s m h i l)
+    where
+      beyond : known - 1 ≤ (i + 255) % 256
+      beyond = elim (decLt 0 i) [ yes p ↦ omega (arith, far p) | no p ↦ omega arith ]
+
+  pub rules-few : 0 < known → known < 256 → eqb (without (s % 256 + 1) (known - 1) m) 0 ≡ mapRules (rotated s m) known
   unfolding mapRules
-  rules-scan some few =
-      let k : known ≡ min known 256 = omega arith in
-      let at : (s % 256 + known) % 256 ≡ (s + known) % 256 = omega arith in
-      ap (λ (x : ℕ). leb (257 - known) (trailingZeros 256 x)) (rotated-round (s % 256 + known) (s + known) m at) ∙ none-outside s known m h some (le-of-lt few)
-      ∙ ap (λ (x : ℕ). not (isSet (rotated s m) 0) && eqb (rotated s m / 2 ^ x) 0) k
+  rules-few some few = ⊎-elim none held (same (without (s % 256 + 1) (known - 1) m) 0)
+    where
+      k : min known 256 ≡ known
+      k = omega arith
+
+      none : without (s % 256 + 1) (known - 1) m ≡ 0 → eqb (without (s % 256 + 1) (known - 1) m) 0 ≡ not (isSet (rotated s m) 0) && eqb (rotated s m / 2 ^ min known 256) 0
+      none e =
+          let clear : (i : ℕ) → i < 256 → (0 < i → known ≤ i) → bit (rotated s m) i ≡ 0 = λ i l f. sym (rest-bit few i some l f) ∙ ap (λ (x : ℕ). bit x ((s + i) % 256)) e ∙ bit-none ((s + i) % 256) in
+          let first : isSet (rotated s m) 0 ≡ false = ap (λ (x : ℕ). eqb x 1) (clear 0 (omega arith) (λ q. absurd (never q))) in
+          let lt : rotated s m < 2 ^ known = lt-of-clear (rotated s m) 256 known (rotated-lt s m h) (λ i q. elim (decLt i 256) [ yes l ↦ clear i l (λ z. q) | no l ↦ bit-above 256 i (rotated-lt s m h) (omega arith) ]) in
+          let up : eqb (rotated s m / 2 ^ min known 256) 0 ≡ true = eq-eqb _ 0 (ap (λ (x : ℕ). rotated s m / 2 ^ x) k ∙ div-eq-of-lt lt) in
+          eq-eqb _ 0 e ∙ sym (ap₂ (λ (x y : Bool). not x && y) first up)
+        where
+          never : 0 < 0 → ⊥
+          never q = omega arith
+
+      held : (without (s % 256 + 1) (known - 1) m ≡ 0 → ⊥) → eqb (without (s % 256 + 1) (known - 1) m) 0 ≡ not (isSet (rotated s m) 0) && eqb (rotated s m / 2 ^ min known 256) 0
+      held n =
+          ne-eqb _ 0 n
+          ∙ sym (⊎-elim (λ (t : isSet (rotated s m) 0 ≡ true). ap (λ (x : Bool). not x && eqb (rotated s m / 2 ^ min known 256) 0) t)
+          (λ (f : isSet (rotated s m) 0 ≡ false). ap (λ (x : Bool). not x && eqb (rotated s m / 2 ^ min known 256) 0) f ∙ ne-eqb _ 0 (λ z. n (empty f z)))
+          (two (isSet (rotated s m) 0)))
+        where
+          empty : isSet (rotated s m) 0 ≡ false → rotated s m / 2 ^ min known 256 ≡ 0 → without (s % 256 + 1) (known - 1) m ≡ 0
+          empty f z =
+              rotated-ext (s % 256 + 1) _ 0 (without-lt (s % 256 + 1) (known - 1) m h) (pow-pos 256)
+              (λ i l. elim (decLt i (known - 1)) [
+                | yes b ↦ without-in (s % 256 + 1) (known - 1) m h i l b ∙ sym (bit-none ((s % 256 + 1 + i) % 256))
+                | no b ↦ without-out (s % 256 + 1) (known - 1) m h i l (omega arith) ∙ beyond i l (omega arith) ∙ sym (bit-none ((s % 256 + 1 + i) % 256))
+              ])
+            where
+              lt : rotated s m < 2 ^ known
+              lt = lt-of-shr (rotated s m) known (ap (λ (x : ℕ). rotated s m / 2 ^ x) (sym k) ∙ z)
+
+              first : bit (rotated s m) 0 ≡ 0
+              first = clear-bit (bit (rotated s m) 0) (bit-lt (rotated s m) 0) f
+
+              beyond : (i : ℕ) → i < 256 → known - 1 ≤ i → bit m ((s % 256 + 1 + i) % 256) ≡ 0
+              beyond i l b =
+                  let j = (i + 1) % 256 in
+                  let e : (s % 256 + 1 + i) % 256 ≡ (s + (i + 1) % 256) % 256 = omega arith in
+                  let lj : (i + 1) % 256 < 256 = omega arith in
+                  ap (bit m) e ∙ sym (rotated-bit s m h ((i + 1) % 256) lj)
+                  ∙ elim (decLt i 255) [
+                    | yes y ↦ bit-above known ((i + 1) % 256) lt (omega arith)
+                    | no y ↦ (let g : (i + 1) % 256 ≡ 0 = omega arith in ap (bit (rotated s m)) g ∙ first)
+                  ]
 
 -- ---- the states that the code makes
 
@@ -270,9 +331,99 @@ run-is k m z h passed stopped =
     late : run k m < z → ⊥
     late l = let b : run k m < k = omega arith in omega (arith, passed (run k m) l, run-stopped k m b)
 
+-- ---- a tick that the floor does not pass, and one that it passes alone
+
+module _ (l : Ledger) (w : Words (l .map .words)) (r : StateRules (bookOf l)) where
+  small-of : bitsIn (l .map) < 2 ^ 256
+  small-of = list-lt (l .map .words) w
+
+  -- floor + 1 is not held
+  next-clear : bit (rotated (l .floor .0 + 1) (bitsIn (l .map))) 0 ≡ 0
+  unfolding bookOf
+  next-clear = r .next-not-held
+
+  pub held-back-of : (n : ℕ) (t : TickNumber) (m : Map) → l .floor .0 + 1 < n → n ≤ l .floor .0 + 256 → m ≡ mapOf (bitOr (bitsIn (l .map)) (2 ^ (n % 256)) % 2 ^ 256)
+      → t ≡ tickOf (max (l .top .0) n)
+      → (0 ≡ passes (bookOf l) n) × (_≡_ {A = Ledger} (record { channel = l .channel; floor = l .floor; top = t; map = m; pending = l .pending }) (ledgerOf (taken (bookOf l) n)))
+  unfolding passes bookOf
+  held-back-of n t m lo hi e y =
+      let p = marked-of l w n m (omega arith) hi e in
+      let far : 0 ≡ n - l .floor .0 - 1 → ⊥ = λ q. omega arith in
+      let stop : bit (marked (bookOf l) n) 0 ≡ 0 = bit-set-other (bookOf l .bits) (n - l .floor .0 - 1) 0 far ∙ next-clear in
+      let z : 0 ≡ run 256 (marked (bookOf l) n) = run-is 256 (marked (bookOf l) n) 0 (omega arith) (λ i q. absurd (never i q)) (λ q. stop) in
+      let lt : bitOr (bitsIn (l .map)) (2 ^ (n % 256)) % 2 ^ 256 < 2 ^ 256 = mod-lt _ (pow-pos 256) in
+      let is : m ≡ mapOf (bitsIn m) = e ∙ ap mapOf (sym (ap bitsIn e ∙ value-of _ lt)) in
+      let d : bitsIn m ≡ without (l .floor .0 + 1) 0 (bitsIn m) = without-is (l .floor .0 + 1) 0 (bitsIn m) (bitsIn m) (p .0) (p .0) (λ i a b. absurd (never i b)) (λ i a b. refl) in
+      (z, taken-of l w n 0 (l .floor) t m m (p .0) (p .1) (z ∙ ap (run 256) (sym (p .1))) (ap tickOf (sym (add-zero (l .floor .0)))) y (is ∙ ap mapOf d))
+    where
+      never : (i : ℕ) → i < 0 → ⊥
+      never i q = omega arith
+
+  pub passed-one-of : (n : ℕ) (f t : TickNumber) → n ≡ l .floor .0 + 1 → isSet (bitsIn (l .map)) ((n + 1) % 256) ≡ false → f ≡ tickOf n → t ≡ tickOf (max (l .top .0) n)
+      → (1 ≡ passes (bookOf l) n) × (_≡_ {A = Ledger} (record { channel = l .channel; floor = f; top = t; map = l .map; pending = l .pending }) (ledgerOf (taken (bookOf l) n)))
+  unfolding passes bookOf
+  passed-one-of n f t is next x y =
+      let v = bitOr (bitsIn (l .map)) (2 ^ (n % 256)) in
+      let m = mapOf (v % 2 ^ 256) in
+      let p = marked-of l w n m (omega arith) (omega arith) refl in
+      let pl : n % 256 < 256 = omega arith in
+      let lt : v < 2 ^ 256 = or-lt 256 _ _ small-of (pow-lt pl) in
+      let bits : bitsIn m ≡ v = ap (λ (q : ℕ). bitsIn (mapOf q)) (mod-eq-of-lt lt) ∙ value-of v lt in
+      let none : n - l .floor .0 - 1 ≡ 0 = omega arith in
+      let begins : bit (marked (bookOf l) n) 0 ≡ 1 = ap (bit (marked (bookOf l) n)) (sym none) ∙ bit-set-same (bookOf l .bits) (n - l .floor .0 - 1) in
+      let other : 1 ≡ n - l .floor .0 - 1 → ⊥ = λ q. omega arith in
+      let at : (l .floor .0 + 1 + 1) % 256 ≡ (n + 1) % 256 = omega arith in
+      let ends : bit (marked (bookOf l) n) 1 ≡ 0 =
+      bit-set-other (bookOf l .bits) (n - l .floor .0 - 1) 1 other ∙ rotated-bit (l .floor .0 + 1) (bitsIn (l .map)) small-of 1 (omega arith) ∙ ap (bit (bitsIn (l .map))) at
+      ∙ clear-bit _ (bit-lt (bitsIn (l .map)) ((n + 1) % 256)) next in
+      let z : 1 ≡ run 256 (marked (bookOf l) n) =
+      run-is 256 (marked (bookOf l) n) 1 (omega arith) (λ i q. let e : i ≡ 0 = omega arith in ap (bit (marked (bookOf l) n)) e ∙ begins) (λ q. ends) in
+      let clear : (i : ℕ) → i < 256 → i < 1 → bit (bitsIn (l .map)) ((l .floor .0 + 1 + i) % 256) ≡ 0 =
+      λ i a b. let e : i ≡ 0 = omega arith in ap (λ (q : ℕ). bit (bitsIn (l .map)) ((l .floor .0 + 1 + q) % 256)) e ∙ sym (rotated-bit (l .floor .0 + 1) (bitsIn (l .map)) small-of 0 (omega arith)) ∙ next-clear in
+      let keep : (i : ℕ) → i < 256 → 1 ≤ i → bit (bitsIn (l .map)) ((l .floor .0 + 1 + i) % 256) ≡ bit (bitsIn m) ((l .floor .0 + 1 + i) % 256) =
+      λ i a b. let ne : (l .floor .0 + 1 + i) % 256 ≡ n % 256 → ⊥ = λ q. omega arith in
+      sym (ap (λ (q : ℕ). bit q ((l .floor .0 + 1 + i) % 256)) bits ∙ bit-set-other (bitsIn (l .map)) (n % 256) ((l .floor .0 + 1 + i) % 256) ne) in
+      let d : bitsIn (l .map) ≡ without (l .floor .0 + 1) 1 (bitsIn m) = without-is (l .floor .0 + 1) 1 (bitsIn m) (bitsIn (l .map)) (p .0) small-of clear keep in
+      (z, taken-of l w n 1 f t m (l .map) (p .0) (p .1) (z ∙ ap (run 256) (sym (p .1))) (x ∙ ap tickOf is) y (map-at (l .map) _ w d))
+
+-- ---- the code's checks, the outer ones before a call's own
+
+pub checked-bad : (b : Book) (other : Bool) (own k : ℕ) → k ≡ checkedOf b other 0 → eqb k 0 ≡ false → k ≡ checkedOf b other own
+unfolding checkedOf
+checked-bad b other own k e n =
+    ⊎-elim (λ (t : soundOf b ≡ true). ⊎-elim
+    (λ (o : other ≡ true). e ∙ rw (t, o) refl)
+    (λ (o : other ≡ false). let z : k ≡ 0 = e ∙ rw (t, o) refl in absurd (eqb-false k 0 n z))
+    (two other))
+    (λ (f : soundOf b ≡ false). e ∙ rw f refl)
+    (two (soundOf b))
+
+pub checked-fine : (b : Book) (other : Bool) (own : ℕ) → 0 ≡ checkedOf b other 0 → own ≡ checkedOf b other own
+unfolding checkedOf
+checked-fine b other own e =
+    ⊎-elim (λ (t : soundOf b ≡ true). ⊎-elim
+    (λ (o : other ≡ true). absurd (apart18 (e ∙ rw (t, o) refl)))
+    (λ (o : other ≡ false). rw (t, o) refl)
+    (two other))
+    (λ (f : soundOf b ≡ false). absurd (apart13 (e ∙ rw f refl)))
+    (two (soundOf b))
+  where
+    apart18 : _≡_ {A = ℕ} 0 18 → ⊥
+    apart18 z = omega arith
+
+    apart13 : _≡_ {A = ℕ} 0 13 → ⊥
+    apart13 z = omega arith
+
 -- a set beside an answer is laid as it is read
 pub laid-kept : (first : TickNumber) (v : ℕ) → v < 2 ^ 256 → mapOf v ≡ laidFrom first (mapOf v)
 laid-kept first v h = sym (ap (λ (x : ℕ). mapOf (laid (first .0) (rotated (first .0) x))) (value-of v h) ∙ ap mapOf (laid-rotated (first .0) v h))
+
+-- an empty one reads as no number, wherever it is read from
+pub empty-set : (first : TickNumber) (m : Map) → m ≡ mapOf 0 → (rotated (first .0) (bitsIn m) ≡ 0) × (m ≡ laidFrom first m)
+empty-set first m e = (
+  ap (λ (x : Map). rotated (first .0) (bitsIn x)) e ∙ ap (rotated (first .0)) (value-of 0 (pow-pos 256)) ∙ rotated-zero (first .0),
+  e ∙ laid-kept first 0 (pow-pos 256) ∙ ap (laidFrom first) (sym e),
+)
 
 -- what the code needs of a sound state's numbers
 pub sound-low : (l : Ledger) → soundOf (bookOf l) ≡ true → (l .floor .0 ≤ l .top .0) × (l .top .0 ≤ largest)
@@ -374,12 +525,12 @@ module _ (l : Ledger) (ws : Words (l .map .words)) (r : StateRules (bookOf l)) (
   -- the two sets, read round from floor + 1
   pub given-lt : lacking (l .floor .0 + 1) w (bitsIn (l .map)) < 2 ^ 256
   unfolding lacking
-  given-lt = only-lt s w w _ (ones-sub-lt 256 m) (omega arith)
+  given-lt = only-lt s w _ (ones-sub-lt 256 m)
 
   pub given-of : rotated (l .floor .0 + 1) (bitsIn (mapOf (lacking (l .floor .0 + 1) w (bitsIn (l .map))))) ≡ gaveUp (bookOf l) w
   unfolding lacking gaveUp
   given-of =
-      ap (rotated s) (value-of _ given-lt) ∙ only-read s w w _ (ones-sub-lt 256 m) (omega arith)
+      ap (rotated s) (value-of _ given-lt) ∙ only-read s w _ (ones-sub-lt 256 m)
       ∙ bit-ext w _ _ (mod-lt _ (pow-pos w)) (ones-sub-lt w (b .bits % 2 ^ w))
       (λ i q.
       let p : (l .floor .0 + 1 + i) % 256 < 256 = omega arith in
@@ -389,11 +540,11 @@ module _ (l : Ledger) (ws : Words (l .map .words)) (r : StateRules (bookOf l)) (
       ∙ sym (bit-not w i (b .bits % 2 ^ w) (mod-lt _ (pow-pos w)) q ∙ ap (λ (x : ℕ). 1 - x) (bit-mod (b .bits) w i q)))
 
   pub passed-lt : (k : ℕ) → only (l .floor .0 + 1) k (bitsIn (l .map)) < 2 ^ 256
-  passed-lt k = only-lt s k (min k 256) m small refl
+  passed-lt k = only-lt s k m small
 
   pub passed-of : (k : ℕ) → k ≡ leaps (bookOf l) w → rotated (l .floor .0 + 1) (bitsIn (mapOf (only (l .floor .0 + 1) k (bitsIn (l .map))))) ≡ handed (bookOf l) w
   unfolding handed
-  passed-of k q = ap (rotated s) (value-of _ (passed-lt k)) ∙ only-read s k (min k 256) m small refl ∙ ap₂ (λ (x j : ℕ). x % 2 ^ j) (sym bits-is) q
+  passed-of k q = ap (rotated s) (value-of _ (passed-lt k)) ∙ only-read s k m small ∙ ap₂ (λ (x j : ℕ). x % 2 ^ j) (sym bits-is) q
 
 -- ---- an answer by its number
 

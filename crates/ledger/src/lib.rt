@@ -2,13 +2,13 @@
 // to ask for. Every call takes the ledger, sound or not, and gives back the next one
 // beside its answer.
 ghost use mathlib.Core.Path.{_≡_};
-ghost use mathlib.Core.Bool.{true, _&&_, not};
+ghost use mathlib.Core.Bool.{true, false, _&&_, not};
 ghost use mathlib.Core.List.{[], _∷_};
-ghost use Prim.Native.Nat.{_+_, _-_, _≤_, _<_, min, max};
+ghost use Prim.Native.Nat.{_+_, _-_, _%_, _≤_, _<_, min, max};
 ghost use lib.Dec.{eqb};
 ghost use Rattle.terms.specs.Paper.{answer, refusal, pick};
 ghost use Rattle.terms.specs.Refusals.{numberOf};
-ghost use Rattle.tick_map.specs.Bits.{bitsIn};
+ghost use Rattle.tick_map.specs.Bits.{isSet, bitsIn};
 ghost use Rattle.tick_map.specs.Ring.{rotated};
 ghost use Rattle.ledger_spec.specs.State.{range, largest, rangeRules, mapRules, soundOf};
 ghost use Rattle.ledger.specs.State.{askedOf, bookOf, ledgerOf, topped, nextIn, laidFrom};
@@ -151,21 +151,18 @@ fn right(first: u64, last: u64, floor: u64, top: u64) -> bool
 }
 
 // Whether the map, read round from `from`, keeps the state rules, where `known` numbers lie above
-// the floor and not above the top. A map has 256 places: where fewer numbers are known, one scan
-// from the place after them round to `from` finds all places clear.
+// the floor and not above the top. A map has 256 places: where fewer numbers are known, nothing is
+// left of it without the places of those after the first.
 fn map_sound(map: Map, from: u64, known: u64) -> bool
     ensures { λ r. ⌜ r ≡ mapRules (rotated from (bitsIn map)) known ⌝ }
 {
     if 256 <= known {
         return !map.holds(from % 256);
     }
-    if map.empty() {
-        return true;
-    }
     if known == 0 {
-        return false;
+        return map.empty();
     }
-    257 - known <= map.first_from(from % 256 + known)
+    map.cleared(from % 256 + 1, known - 1).empty()
 }
 
 // A number of 1 to 18 digits.
@@ -324,6 +321,17 @@ impl Ledger {
         }
     }
 
+    // 10 or 11 of a number up to the floor.
+    fn below_floor(self, n: u64) -> Verdict
+        requires { ⌜ (1 ≤ n) × (n ≤ self .floor .0) ⌝ }
+        ensures { λ r. ⌜ verdictNumber r ≡ ownNumber (bookOf self) (Tick 0 n) ⌝ }
+    {
+        if LARGEST < n {
+            return Verdict::Bad(Refusal::Range);
+        }
+        Verdict::Bad(Refusal::Repeat)
+    }
+
     // 10, 11, 12 of a tick. Beyond floor + 256 its place is another number's, and it is not held.
     fn tick_verdict(self, n: u64) -> Verdict
         ensures { λ r. ⌜ verdictNumber r ≡ ownNumber (bookOf self) (Tick 0 n) ⌝ }
@@ -333,11 +341,11 @@ impl Ledger {
         if n < 1 {
             return Verdict::Bad(Refusal::Range);
         }
+        if n <= floor {
+            return self.below_floor(n);
+        }
         if LARGEST < n {
             return Verdict::Bad(Refusal::Range);
-        }
-        if n <= floor {
-            return Verdict::Bad(Refusal::Repeat);
         }
         if 256 < n - floor {
             return Verdict::Bad(Refusal::Far);
@@ -348,9 +356,9 @@ impl Ledger {
         Verdict::Fine
     }
 
-    // A tick that is taken: its place is marked, and the floor passes the run of held places above
-    // it, which are then free for the numbers 256 above.
-    fn taken(self, n: u64) -> Ticked
+    // A tick whose place is marked: the floor passes the run of held places above it, which are then
+    // free for the numbers 256 above.
+    fn passed_run(self, n: u64) -> Ticked
         requires { ⌜ (self .floor .0 < n) × (n ≤ self .floor .0 + 256) × (n ≤ largest) ⌝ }
         ensures { λ r. ⌜ (tickPaper (r .answer) ≡ answer 0 ((self .floor .0 + 1) ∷ passes (bookOf self) n ∷ []))
             × (r .next ≡ ledgerOf (taken (bookOf self) n)) ⌝ }
@@ -377,6 +385,70 @@ impl Ledger {
         }
     }
 
+    // A tick above floor + 1: the floor stays below that number, which is not held.
+    fn held_back(self, n: u64) -> Ticked
+        requires { ⌜ (self .floor .0 + 1 < n) × (n ≤ self .floor .0 + 256) × (n ≤ largest) × (soundOf (bookOf self) ≡ true) ⌝ }
+        ensures { λ r. ⌜ (tickPaper (r .answer) ≡ answer 0 ((self .floor .0 + 1) ∷ passes (bookOf self) n ∷ []))
+            × (r .next ≡ ledgerOf (taken (bookOf self) n)) ⌝ }
+    {
+        let channel = self.channel;
+        let map = self.map;
+        let pending = self.pending;
+        let floor = self.floor;
+        let top = self.top.value();
+        let first = TickNumber::new(floor.value() + 1);
+        Ticked {
+            next: Ledger {
+                channel,
+                floor,
+                top: TickNumber::new(larger(top, n)),
+                map: map.with(n % 256),
+                pending,
+            },
+            answer: TickAnswer::Passed { first, count: 0 },
+        }
+    }
+
+    // The tick of floor + 1, where the number after it is not held: one is passed, and the map stays.
+    fn passed_one(self, n: u64) -> Ticked
+        requires { ⌜ (n ≡ self .floor .0 + 1) × (n ≤ largest) × (soundOf (bookOf self) ≡ true) × (isSet (bitsIn (self .map)) ((n + 1) % 256) ≡ false) ⌝ }
+        ensures { λ r. ⌜ (tickPaper (r .answer) ≡ answer 0 ((self .floor .0 + 1) ∷ passes (bookOf self) n ∷ []))
+            × (r .next ≡ ledgerOf (taken (bookOf self) n)) ⌝ }
+    {
+        let channel = self.channel;
+        let map = self.map;
+        let pending = self.pending;
+        let top = self.top.value();
+        let first = TickNumber::new(n);
+        Ticked {
+            next: Ledger {
+                channel,
+                floor: first,
+                top: TickNumber::new(larger(top, n)),
+                map,
+                pending,
+            },
+            answer: TickAnswer::Passed { first, count: 1 },
+        }
+    }
+
+    // A tick that is taken. In order, and with nothing held behind it, no place need be looked for.
+    fn taken(self, n: u64) -> Ticked
+        requires { ⌜ (self .floor .0 < n) × (n ≤ self .floor .0 + 256) × (n ≤ largest) × (soundOf (bookOf self) ≡ true) ⌝ }
+        ensures { λ r. ⌜ (tickPaper (r .answer) ≡ answer 0 ((self .floor .0 + 1) ∷ passes (bookOf self) n ∷ []))
+            × (r .next ≡ ledgerOf (taken (bookOf self) n)) ⌝ }
+    {
+        let floor = self.floor.value();
+        let map = self.map;
+        if floor + 1 < n {
+            return self.held_back(n);
+        }
+        if map.holds((n + 1) % 256) {
+            return self.passed_run(n);
+        }
+        self.passed_one(n)
+    }
+
     // A tick that is refused: 12 raises the top, any other refusal changes nothing.
     fn tick_refused(self, n: u64, why: Refusal) -> Ticked
         ensures { λ r. ⌜ (tickPaper (r .answer) ≡ refusal (numberOf why))
@@ -394,6 +466,18 @@ impl Ledger {
         }
     }
 
+    // 13, then 18, then what the tick itself has found: it is looked at last, so that each refusal
+    // ends the checks.
+    fn tick_checked(self, channel: ChannelNumber, n: u64) -> Verdict
+        ensures { λ r. ⌜ verdictNumber r ≡ checkedOf (bookOf self) (not (eqb (channel .0) (bookOf self .channel))) (ownNumber (bookOf self) (Tick 0 n)) ⌝ }
+    {
+        let outer = self.checked(channel, Verdict::Fine);
+        match outer {
+            Verdict::Bad(why) => Verdict::Bad(why),
+            Verdict::Fine => self.tick_verdict(n),
+        }
+    }
+
     // Marks the tick received, and moves the floor up as far as no number is missing. Refusals 13,
     // 18, 10, 11, 12.
     pub fn tick(self, channel: ChannelNumber, number: TickNumber) -> Ticked
@@ -401,7 +485,7 @@ impl Ledger {
             × (r .next ≡ nextIn self (Tick (channel .0) (number .0))) ⌝ }
     {
         let n = number.value();
-        let verdict = self.checked(channel, self.tick_verdict(n));
+        let verdict = self.tick_checked(channel, n);
         match verdict {
             Verdict::Bad(why) => self.tick_refused(n, why),
             Verdict::Fine => self.taken(n),
@@ -520,7 +604,7 @@ impl Ledger {
     // The pending request is cleared, and the floor passes the w numbers above it and the run of
     // held ones after them: floor + 1 is not held, so that run ends before it comes round. Those of
     // the w not held are given up; the held ones passed are named apart.
-    fn replied(self, w: u64) -> Replied
+    fn given_up(self, w: u64) -> Replied
         requires { ⌜ (soundOf (bookOf self) ≡ true) × (w ≤ 256) × (w ≤ self .top .0 - self .floor .0) ⌝ }
         ensures { λ r. ⌜ (replyPaper (r .answer) (r .first) (r .«given_up») (r .passed) ≡ answer 0 ((self .floor .0 + 1) ∷ gaveUp (bookOf self) w ∷ handed (bookOf self) w ∷ []))
             × (r .next ≡ ledgerOf (replied (bookOf self) w))
@@ -544,6 +628,37 @@ impl Ledger {
             given_up: map.lacking(floor + 1, w),
             passed: map.only(floor + 1, count),
         }
+    }
+
+    // The pending request is cleared, and the range reaches no number above the floor: floor + 1 is
+    // not held, so that nothing is passed.
+    fn settled(self) -> Replied
+        requires { ⌜ soundOf (bookOf self) ≡ true ⌝ }
+        ensures { λ r. ⌜ (replyPaper (r .answer) (r .first) (r .«given_up») (r .passed) ≡ answer 0 ((self .floor .0 + 1) ∷ gaveUp (bookOf self) 0 ∷ handed (bookOf self) 0 ∷ []))
+            × (r .next ≡ ledgerOf (replied (bookOf self) 0))
+            × (r .«given_up» ≡ laidFrom (r .first) (r .«given_up»)) × (r .passed ≡ laidFrom (r .first) (r .passed)) ⌝ }
+    {
+        let floor = self.floor.value();
+        Replied {
+            next: self.waiting(Pending::Nothing),
+            answer: ReplyAnswer::Cleared,
+            first: TickNumber::new(floor + 1),
+            given_up: Map::new(),
+            passed: Map::new(),
+        }
+    }
+
+    // The pending request is cleared, and the floor goes on over the w numbers above it, perhaps none.
+    fn replied(self, w: u64) -> Replied
+        requires { ⌜ (soundOf (bookOf self) ≡ true) × (w ≤ 256) × (w ≤ self .top .0 - self .floor .0) ⌝ }
+        ensures { λ r. ⌜ (replyPaper (r .answer) (r .first) (r .«given_up») (r .passed) ≡ answer 0 ((self .floor .0 + 1) ∷ gaveUp (bookOf self) w ∷ handed (bookOf self) w ∷ []))
+            × (r .next ≡ ledgerOf (replied (bookOf self) w))
+            × (r .«given_up» ≡ laidFrom (r .first) (r .«given_up»)) × (r .passed ≡ laidFrom (r .first) (r .passed)) ⌝ }
+    {
+        if w == 0 {
+            return self.settled();
+        }
+        self.given_up(w)
     }
 
     // A reply that is refused names no number.

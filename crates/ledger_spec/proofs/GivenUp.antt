@@ -234,13 +234,13 @@ leaps-0 b r = ap (run 256) (covered-0 b) ∙ elim (decLe 1 (run 256 (b .bits))) 
     never : bit (b .bits) 0 ≡ 1 → ⊥
     never e = omega (arith, r .next-not-held)
 
-replied-0 : (b : Book) → StateRules b → replied b 0 ≡ waiting b nothing
+pub replied-0 : (b : Book) → StateRules b → replied b 0 ≡ waiting b nothing
 unfolding replied waiting
 replied-0 b r =
     ap₂ (λ (k m : ℕ). record { channel = b .channel; floor = b .floor + k; top = b .top; bits = m / 2 ^ k; pending = nothing }) (leaps-0 b r) (covered-0 b)
     ∙ ap₂ (λ (f m : ℕ). record { channel = b .channel; floor = f; top = b .top; bits = m; pending = nothing }) (add-zero (b .floor)) (div-one (b .bits))
 
-values-0 : (b : Book) → StateRules b → (gaveUp b 0 ≡ 0) × (handed b 0 ≡ 0)
+pub values-0 : (b : Book) → StateRules b → (gaveUp b 0 ≡ 0) × (handed b 0 ≡ 0)
 unfolding gaveUp handed
 values-0 b r = (omega arith, ap (λ (k : ℕ). b .bits % 2 ^ k) (leaps-0 b r) ∙ mod-one (b .bits))
 

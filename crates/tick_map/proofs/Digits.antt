@@ -2,17 +2,17 @@
 -- digit. Assumes nothing.
 use mathlib.Core.Path.{_≡_, refl, sym, ap, ap₂, _∙_, subst}
 use mathlib.Core.Logic.{_⊎_, inl, inr}
-use Prim.Native.Nat.{ℕ, zero, suc, _+_, _-_, _*_, _/_, _%_, _^_, _≤_, _<_, suc-le-suc, max}
-use native.Mathlib.Nat.{lt-of-lt-of-le, suc-add, add-assoc, le-of-suc-le-suc, not-suc-le-zero, zero-lt-suc, zero-add, mod-lt, div-one, div-self, div-eq-of-lt, div-add-mod', pow-suc, le-dest, mul-mod-left, lt-of-le-of-lt}
+use Prim.Native.Nat.{ℕ, zero, suc, _+_, _-_, _*_, _/_, _%_, _^_, _≤_, _<_, suc-le-suc, min, max}
+use native.Mathlib.Nat.{add-zero, lt-of-lt-of-le, suc-add, add-assoc, le-of-suc-le-suc, not-suc-le-zero, zero-lt-suc, zero-add, mod-lt, div-one, div-self, div-eq-of-lt, div-add-mod', pow-suc, le-dest, mul-mod-left, lt-of-le-of-lt}
 use native.Mathlib.Decide.{decLt}
 use native.Mathlib.Omega.{arith}
 use native.Mathlib.Numerals.{one-add}
 use lib.Arith.{lt-one, digits-mod}
-use lib.Pow.{pow-pos, pow-mono, pow-lt, pow-add, shr-shr, shl-shr, shr-le}
-use lib.Bits.{bitOr, or-shr, or-step}
+use lib.Pow.{pow-pos, pow-mono, pow-lt, pow-add, shr-shr, shl-shr, shr-le, ones-split, ones-lt}
+use lib.Bits.{differ, bitAnd, bitOr, bitXor, and-shr, and-step, or-shr, or-step, xor-shr, xor-step}
 use lib.Count.{under, trailingZeros, ones, ones-step}
 use Rattle.tick_map.specs.Bits.{bit, onward, run, tally}
-use Rattle.tick_map.proofs.Laws.{half-lt, lt-of-shr}
+use Rattle.tick_map.proofs.Laws.{half-lt, lt-of-shr, bit-high}
 
 two-pos : zero < 2
 two-pos = zero-lt-suc 1
@@ -60,6 +60,42 @@ pub bit-or : (a b i : ℕ) → bit (bitOr a b) i ≡ max (bit a i) (bit b i)
 bit-or a b i =
     ap (λ (x : ℕ). x % 2) (or-shr a b i ∙ or-step (a / 2 ^ i) (b / 2 ^ i))
     ∙ digits-mod (bitOr (a / 2 ^ i / 2) (b / 2 ^ i / 2)) (max-lt (bit a i) (bit b i) (bit-lt a i) (bit-lt b i))
+
+-- ---- `bitAnd`, `bitXor`, and a number whose low digits are all set
+
+min-lt : (x y : ℕ) → x < 2 → y < 2 → min x y < 2
+min-lt x y h l = omega arith
+
+pub bit-and : (a b i : ℕ) → bit (bitAnd a b) i ≡ min (bit a i) (bit b i)
+bit-and a b i =
+    ap (λ (x : ℕ). x % 2) (and-shr a b i ∙ and-step (a / 2 ^ i) (b / 2 ^ i))
+    ∙ digits-mod (bitAnd (a / 2 ^ i / 2) (b / 2 ^ i / 2)) (min-lt (bit a i) (bit b i) (bit-lt a i) (bit-lt b i))
+
+differ-lt : (x y : ℕ) → x < 2 → y < 2 → differ x y < 2
+differ-lt zero y h l = l
+differ-lt (suc x) zero h l = h
+differ-lt (suc x) (suc y) h l = differ-lt x y (omega arith) (omega arith)
+
+pub bit-xor : (a b i : ℕ) → bit (bitXor a b) i ≡ differ (bit a i) (bit b i)
+bit-xor a b i =
+    ap (λ (x : ℕ). x % 2) (xor-shr a b i ∙ xor-step (a / 2 ^ i) (b / 2 ^ i))
+    ∙ digits-mod (bitXor (a / 2 ^ i / 2) (b / 2 ^ i / 2)) (differ-lt (bit a i) (bit b i) (bit-lt a i) (bit-lt b i))
+
+pub bit-none : (i : ℕ) → bit 0 i ≡ 0
+bit-none i = bit-above 0 i (pow-pos 0) (omega arith)
+
+pub bit-all : (k i : ℕ) → i < k → bit (2 ^ k - 1) i ≡ 1
+bit-all k i h =
+    let d = le-dest h in
+    let e : k ≡ suc (d .0) + i = omega (arith, d .1) in
+    ap (λ (x : ℕ). bit (2 ^ x - 1) i) e ∙ ap₂ bit (ones-split (suc (d .0)) i) (sym (add-zero i))
+    ∙ bit-high (2 ^ suc (d .0) - 1) i 0 (ones-lt i) ∙ bit-zero (2 ^ suc (d .0) - 1) ∙ odd (d .0)
+  where
+    odd : (n : ℕ) → (2 ^ suc n - 1) % 2 ≡ 1
+    odd n = omega (arith, pow-suc 2 n, pow-pos n)
+
+pub bit-all-out : (k i : ℕ) → k ≤ i → bit (2 ^ k - 1) i ≡ 0
+bit-all-out k i h = bit-above k i (ones-lt k) h
 
 pub bit-pow-same : (i : ℕ) → bit (2 ^ i) i ≡ 1
 bit-pow-same i = ap (λ (x : ℕ). x % 2) (div-self (pow-pos i))

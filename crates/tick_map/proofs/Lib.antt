@@ -2,6 +2,7 @@ pub mod Digits
 pub mod Laws
 pub mod OneAnswer
 pub mod Ones
+pub mod Places
 pub mod Ring
 pub mod Stretch
 pub mod Words

@@ -43,7 +43,7 @@ as-four (a ∷ b ∷ c ∷ d ∷ x ∷ w) e = absurd (no (length w) e)
     no : (n : ℕ) → suc (suc (suc (suc (suc n)))) ≡ 4 → ⊥
     no n e = omega arith
 
-over-four : (j : ℕ) → suc (suc (suc (suc j))) < 4 → ⊥
+pub over-four : (j : ℕ) → suc (suc (suc (suc j))) < 4 → ⊥
 over-four j h = omega arith
 
 module _ (a b c d : ℕ) (ha : a < 2 ^ 64) (hb : b < 2 ^ 64) (hc : c < 2 ^ 64) where
@@ -162,18 +162,6 @@ word-of w (suc zero) l = refl
 word-of w (suc (suc zero)) l = refl
 word-of w (suc (suc (suc zero))) l = refl
 word-of w (suc (suc (suc (suc j)))) l = absurd (over-four j l)
-
--- and put by tests
-pub put-of : (w : List ℕ) (j x : ℕ) → length w ≡ 4 → j < 4
-    → pick (eqb j 0) x (getD w 0 0) ∷ pick (eqb j 1) x (getD w 1 0) ∷ pick (eqb j 2) x (getD w 2 0) ∷ pick (eqb j 3) x (getD w 3 0) ∷ [] ≡ set w j x
-put-of w j x e l = of-four (getD w 0 0) (getD w 1 0) (getD w 2 0) (getD w 3 0) j l ∙ ap (λ (v : List ℕ). set v j x) (sym (as-four w e))
-  where
-    of-four : (a b c d j : ℕ) → j < 4 → pick (eqb j 0) x a ∷ pick (eqb j 1) x b ∷ pick (eqb j 2) x c ∷ pick (eqb j 3) x d ∷ [] ≡ set (a ∷ b ∷ c ∷ d ∷ []) j x
-    of-four a b c d zero l = refl
-    of-four a b c d (suc zero) l = refl
-    of-four a b c d (suc (suc zero)) l = refl
-    of-four a b c d (suc (suc (suc zero))) l = refl
-    of-four a b c d (suc (suc (suc (suc j)))) l = absurd (over-four j l)
 
 -- a word put for another
 pub words-set : (w : List ℕ) (j x : ℕ) → Words w → Fits w64 x → Words (set w j x)

@@ -1,13 +1,13 @@
 // 256 bits in four words, as one number: place i is digit i of it, bit i % 64 (the low bit first)
 // of word i / 64. A map is read round from any place: the place after 255 is 0.
 ghost use mathlib.Core.Path.{_≡_};
-ghost use Prim.Native.Nat.{_+_, _-_, _*_, _/_, _%_, _^_, _<_, _≤_, min};
+ghost use Prim.Native.Nat.{ℕ, _+_, _-_, _*_, _/_, _%_, _^_, _<_, _≤_, min};
 ghost use lib.Bits.{bitOr};
 ghost use lib.Count.{ones, trailingZeros};
-ghost use lib.Dec.{eqb};
-ghost use lib.ListN.{getD, set};
+ghost use lib.Dec.{eqb, ltb};
+ghost use lib.ListN.{getD};
 ghost use Rattle.terms.specs.Paper.{pick};
-ghost use Rattle.tick_map.specs.Bits.{isSet, run, bitsIn, mapOf};
+ghost use Rattle.tick_map.specs.Bits.{bit, isSet, run, bitsIn, mapOf};
 ghost use Rattle.tick_map.specs.Ring.{rotated, without, only, lacking};
 
 // How many digits of a word are set.
@@ -38,11 +38,19 @@ fn bit_in(w: u64, i: u64) -> bool
     w >> i & 1 == 1
 }
 
-fn set_in(w: u64, i: u64) -> u64
+// Digit i of a word alone.
+fn digit(i: u64) -> u64
     requires { ⌜ i < 64 ⌝ }
-    ensures { λ r. ⌜ r ≡ bitOr w (2 ^ i) ⌝ }
+    ensures { λ r. ⌜ r ≡ 2 ^ i ⌝ }
 {
-    w | 1u64 << i
+    1u64 << i
+}
+
+// Word j of the map that holds place i alone.
+fn place(i: u64, j: u64) -> u64
+    ensures { λ r. ⌜ r ≡ pick (eqb j (i / 64)) (2 ^ (i % 64)) 0 ⌝ }
+{
+    either(j == i / 64, digit(i % 64), 0)
 }
 
 fn smaller(a: u64, b: u64) -> u64
@@ -51,20 +59,25 @@ fn smaller(a: u64, b: u64) -> u64
     if a < b { a } else { b }
 }
 
-// The n digits of a word from digit q on. A shift by 64 is none, so n is not 0.
-fn part_of(w: u64, q: u64, n: u64) -> u64
-    requires { ⌜ (0 < n) × (q + n ≤ 64) ⌝ }
-    ensures { λ r. ⌜ r ≡ w / 2 ^ q % 2 ^ n ⌝ }
+// All digits of a word.
+const ALL: u64 = 0xFFFF_FFFF_FFFF_FFFF;
+
+// Word j of the map that holds the places below x.
+fn below(x: u64, j: u64) -> u64
+    ensures { λ r. ⌜ ((q : ℕ) → q < 64 → bit r q ≡ pick (ltb (64 * j + q) x) 1 0) ⌝ }
 {
-    w >> q << (64 - n) >> (64 - n)
+    let own = digit(x % 64) - 1;
+    either(j < x / 64, ALL, either(j == x / 64, own, 0))
 }
 
-// The word without its n digits from digit q on.
-fn part_out(w: u64, q: u64, n: u64) -> u64
-    requires { ⌜ (0 < n) × (q + n ≤ 64) ⌝ }
-    ensures { λ r. ⌜ r ≡ w - (w / 2 ^ q % 2 ^ n) * 2 ^ q ⌝ }
+// Word j of the map that holds the k places from s on, counted round: those below one end and not
+// below the other, and where the stretch comes round all others.
+fn span(s: u64, k: u64, j: u64) -> u64
+    requires { ⌜ (k ≤ 256) × (j < 4) ⌝ }
+    ensures { λ r. ⌜ ((q : ℕ) → q < 64 → bit r q ≡ pick (ltb ((64 * j + q + (256 - s % 256)) % 256) k) 1 0) ⌝ }
 {
-    w - (part_of(w, q, n) << q)
+    let e = s % 256 + k;
+    below(s % 256, j) ^ below(e % 256, j) ^ either(256 <= e, ALL, 0)
 }
 
 // The lowest word first.
@@ -88,21 +101,6 @@ impl Map {
         let low = either(j == 0, self.words[0], self.words[1]);
         let high = either(j == 2, self.words[2], self.words[3]);
         either(j < 2, low, high)
-    }
-
-    // The map with x for word j.
-    fn put(self, j: u64, x: u64) -> Map
-        requires { ⌜ j < 4 ⌝ }
-        ensures { λ r. ⌜ r .words ≡ set (self .words) j x ⌝ }
-    {
-        Map {
-            words: [
-                either(j == 0, x, self.words[0]),
-                either(j == 1, x, self.words[1]),
-                either(j == 2, x, self.words[2]),
-                either(j == 3, x, self.words[3]),
-            ],
-        }
     }
 
     // How many places are held.
@@ -133,7 +131,15 @@ impl Map {
         if 256 <= i {
             return self;
         }
-        self.put(i / 64, set_in(self.word(i / 64), i % 64))
+        let w = self.words;
+        Map {
+            words: [
+                w[0] | place(i, 0),
+                w[1] | place(i, 1),
+                w[2] | place(i, 2),
+                w[3] | place(i, 3),
+            ],
+        }
     }
 
     // The complement: held where this map is not.
@@ -195,43 +201,34 @@ impl Map {
     pub fn held_from(self, s: u64, k: u64) -> u64
         ensures { λ r. ⌜ r ≡ ones (rotated s (bitsIn self) % 2 ^ k) ⌝ }
     {
-        let m = self;
-        let mut at = s % 256;
-        let mut left = smaller(k, 256);
-        let mut count = 0;
-        while 0 < left {
-            let q = at % 64;
-            let n = smaller(64 - q, left);
-            count += ones_in(part_of(m.word(at / 64), q, n));
-            at = (at + n) % 256;
-            left -= n;
-        }
-        count
+        self.only(s, k).held()
     }
 
     // The map without the k places from s on, counted round; beyond 256 nothing is left.
     pub fn cleared(self, s: u64, k: u64) -> Map
         ensures { λ r. ⌜ r ≡ mapOf (without s k (bitsIn self)) ⌝ }
     {
-        let mut m = self;
-        let mut at = s % 256;
-        let mut left = smaller(k, 256);
-        while 0 < left {
-            let q = at % 64;
-            let n = smaller(64 - q, left);
-            m = m.put(at / 64, part_out(m.word(at / 64), q, n));
-            at = (at + n) % 256;
-            left -= n;
+        let w = self.words;
+        let o = self.only(s, k).words;
+        Map {
+            words: [w[0] ^ o[0], w[1] ^ o[1], w[2] ^ o[2], w[3] ^ o[3]],
         }
-        m
     }
 
     // The k places from s on alone, counted round: what lies outside them is cleared.
     pub fn only(self, s: u64, k: u64) -> Map
         ensures { λ r. ⌜ r ≡ mapOf (only s k (bitsIn self)) ⌝ }
     {
+        let w = self.words;
         let n = smaller(k, 256);
-        self.cleared(s % 256 + n, 256 - n)
+        Map {
+            words: [
+                w[0] & span(s, n, 0),
+                w[1] & span(s, n, 1),
+                w[2] & span(s, n, 2),
+                w[3] & span(s, n, 3),
+            ],
+        }
     }
 
     // Those of the k places from s on that are not held, counted round.

@@ -1,16 +1,16 @@
--- With 256 numbers known the first place alone decides; nothing held keeps the rules, something
--- held where nothing is known breaks them; else the scan from behind what is known tells.
--- Assumes nothing.
-use mathlib.Core.Path.{sym, ap, _∙_}
+-- With 256 numbers known the first place alone decides; where nothing is known nothing may be held;
+-- else nothing is left without the known places after the first. Assumes nothing.
+use mathlib.Core.Path.{_≡_, sym, ap, _∙_}
 use mathlib.Core.Bool.{not}
-use Prim.Native.Nat.{_-_, _<_}
+use Prim.Native.Nat.{ℕ, _+_, _-_, _%_, _<_}
 use native.Mathlib.Omega.{arith}
-use borrow.Author.Tests.{eqb-true, eqb-false}
+use lib.Dec.{eqb}
+use Rattle.tick_map.specs.Bits.{Words, bitsIn}
+use Rattle.tick_map.specs.declared.Map.{Map}
+use Rattle.tick_map.proofs.Words.{list-lt, value-of}
+use Rattle.tick_map.proofs.Stretch.{without-lt}
+use Rattle.ledger.proofs.Seam.{rules-known-none, rules-all, rules-few}
 use borrow.Author.Needs.{needs}
-use lib.Dec.{leb}
-use Rattle.tick_map.specs.Bits.{Words}
-use Rattle.tick_map.proofs.Words.{list-lt}
-use Rattle.ledger.proofs.Seam.{rules-empty, rules-none, rules-all, rules-scan}
 use Rattle.ledger.proofs.map_sound.Statement.{statement}
 use Rattle.ledger.proofs.map_sound.Tie as tie
 
@@ -31,28 +31,29 @@ empty-requires c κs = search needs
 returns-2 : tie.Need-returns-2
 returns-2 c =
     let s = c .before .before .before in
-    rules-empty (s .args .from) (s .args .known) _ (list-lt _ (words s)) (eqb-true _ 0 (sym (c .before .empty .ensures) ∙ c .if2 .taken))
+    c .empty .ensures ∙ rules-known-none (s .args .from) (s .args .known) _ (list-lt _ (words s)) (c .before .if2 .taken)
+
+add-cleared : tie.Need-add-cleared
+add-cleared c = search needs
+
+sub-cleared : tie.Need-sub-cleared
+sub-cleared c = search needs
+
+cleared-requires : tie.Need-cleared-requires
+cleared-requires c κs = search needs
+
+empty-requires-2 : tie.Need-empty-requires-2
+empty-requires-2 c κs = search needs
 
 returns-3 : tie.Need-returns-3
 returns-3 c =
     let s = c .before .before .before .before in
-    rules-none (s .args .from) (s .args .known) _ (list-lt _ (words s)) (eqb-false _ 0 (sym (c .before .before .empty .ensures) ∙ c .before .if2 .left)) (c .if3 .taken)
-
-sub-result : tie.Need-sub-result
-sub-result c = search needs
-
-add-first-from : tie.Need-add-first-from
-add-first-from c = search needs
-
-first-from-requires : tie.Need-first-from-requires
-first-from-requires c κs = search needs
-
-returns-4 : tie.Need-returns-4
-returns-4 c =
-    let s = c .before .before .before .before .before in
     let some : 0 < s .args .known = omega arith in
     let few : s .args .known < 256 = omega arith in
-    ap (leb (257 - s .args .known)) (c .«first-from» .ensures) ∙ rules-scan (s .args .from) (s .args .known) _ (list-lt _ (words s)) some few
+    c .empty2 .ensures
+    ∙ ap (λ (m : Map). eqb (bitsIn m) 0) (c .before .cleared .ensures)
+    ∙ ap (λ (x : ℕ). eqb x 0) (value-of _ (without-lt (s .args .from % 256 + 1) (s .args .known - 1) _ (list-lt _ (words s))))
+    ∙ rules-few (s .args .from) (s .args .known) _ (list-lt _ (words s)) some few
 
 pub map-sound-spec : {M : Type 1} → statement M
 map-sound-spec =
@@ -62,8 +63,8 @@ map-sound-spec =
     returns
     empty-requires
     returns-2
-    returns-3
-    sub-result
-    add-first-from
-    first-from-requires
-    returns-4)
+    add-cleared
+    sub-cleared
+    cleared-requires
+    empty-requires-2
+    returns-3)

@@ -1,4 +1,4 @@
--- Each return is one check: 10, 10, 11, 12, 11, none. Above the floor, received is held, and
+-- Each return is one check: 10, those of a number up to the floor, 10, 12, 11, none. Above the floor, received is held, and
 -- nothing beyond floor + 256 is. Assumes nothing.
 use mathlib.Core.Path.{_≡_, sym, ap, _∙_}
 use mathlib.Core.Bool.{true, false}
@@ -22,16 +22,15 @@ returns : tie.Need-returns
 unfolding ownNumber
 returns c = simp (lt-leb _ _ (c .if1 .taken))
 
+below-floor-requires : tie.Need-below-floor-requires
+below-floor-requires c κs = search needs
+
 returns-2 : tie.Need-returns-2
-unfolding ownNumber
-returns-2 c = simp (le-leb _ _ (c .before .if1 .left), lt-leb _ _ (c .if2 .taken))
+returns-2 c = c .«below-floor» .ensures
 
 returns-3 : tie.Need-returns-3
-unfolding ownNumber has bookOf
-returns-3 c =
-    let s = c .before .before .before .before .before in
-    let h : s .args .n ≤ s .args .self .floor .0 = omega arith in
-    simp (le-leb _ _ (c .before .before .if1 .left), le-leb _ _ (c .before .if2 .left), le-leb _ _ h)
+unfolding ownNumber
+returns-3 c = simp (le-leb _ _ (c .before .before .if1 .left), lt-leb _ _ (c .if3 .taken))
 
 sub-if4 : tie.Need-sub-if4
 sub-if4 c = search needs
@@ -48,7 +47,7 @@ returns-4 c =
     let h : l .floor .0 < s .args .n = omega arith in
     let g : l .floor .0 + 256 < s .args .n = omega arith in
     let e : isSet (bookOf l .bits) (s .args .n - l .floor .0 - 1) ≡ false = ap (λ (x : ℕ). eqb x 1) (place-none l (words s) (s .args .n) g) in
-    simp (le-leb _ _ (c .before .before .before .if1 .left), le-leb _ _ (c .before .before .if2 .left), lt-leb _ _ h, e, lt-ltb _ _ g)
+    simp (le-leb _ _ (c .before .before .before .if1 .left), le-leb _ _ (c .before .if3 .left), lt-leb _ _ h, e, lt-ltb _ _ g)
 
 holds-requires : tie.Need-holds-requires
 holds-requires c κs = search needs
@@ -71,7 +70,7 @@ returns-5 c =
     let s = start (c .before) in
     let h : s .args .self .floor .0 < s .args .n = omega arith in
     let e : isSet (bookOf (s .args .self) .bits) (s .args .n - s .args .self .floor .0 - 1) ≡ true = held-is (c .before) ∙ c .if5 .taken in
-    simp (le-leb _ _ (c .before .before .before .before .before .if1 .left), le-leb _ _ (c .before .before .before .before .if2 .left), lt-leb _ _ h, e)
+    simp (le-leb _ _ (c .before .before .before .before .before .if1 .left), le-leb _ _ (c .before .before .before .if3 .left), lt-leb _ _ h, e)
 
 returns-6 : tie.Need-returns-6
 unfolding ownNumber has bookOf
@@ -80,7 +79,7 @@ returns-6 c =
     let h : s .args .self .floor .0 < s .args .n = omega arith in
     let e : isSet (bookOf (s .args .self) .bits) (s .args .n - s .args .self .floor .0 - 1) ≡ false = held-is (c .before) ∙ c .if5 .left in
     let g : s .args .n ≤ s .args .self .floor .0 + 256 = omega arith in
-    simp (le-leb _ _ (c .before .before .before .before .before .if1 .left), le-leb _ _ (c .before .before .before .before .if2 .left), lt-leb _ _ h, e, le-ltb _ _ g)
+    simp (le-leb _ _ (c .before .before .before .before .before .if1 .left), le-leb _ _ (c .before .before .before .if3 .left), lt-leb _ _ h, e, le-ltb _ _ g)
 
 pub tick-verdict-spec : {M : Type 1} → statement M
 tick-verdict-spec =
@@ -88,6 +87,7 @@ tick-verdict-spec =
     (tie.spec
     value-requires
     returns
+    below-floor-requires
     returns-2
     returns-3
     sub-if4
