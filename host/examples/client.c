@@ -27,6 +27,14 @@ static void send_frame(uint64_t type, uint64_t seq) {
     if (write(1, out, len) != (ssize_t)len) _exit(1);
 }
 
+/* Lets time pass: a heartbeat if one is due. 0 once the line is dead. */
+static int pass(rk_session *s, uint64_t now) {
+    rk_turn t;
+    if (rk_session_time(s, now, &t) != RK_DONE || t.dead) return 0;
+    send_frame(t.msg_type, t.seq);
+    return 1;
+}
+
 int main(void) {
     static uint8_t in[16384];
     size_t have = 0;
@@ -43,16 +51,18 @@ int main(void) {
             have += (size_t)n;
         }
         uint32_t code;
-        while ((code = rk_session_receive(&s, clock_ms(), in, have, &a)) == RK_DONE) {
+        uint64_t now = clock_ms();
+        while ((code = rk_session_receive(&s, now, in, have, &a)) == RK_DONE) {
             rk_frame f;
             rk_read(in, have, 0, &f);
             send_frame(a.msg_type, a.seq);
             memmove(in, in + a.len, have -= a.len);
             if (f.msg_type == LOGOUT) return 0;
-            if (f.msg_type == LOGON && rk_session_ask(&s, clock_ms(), &t) == RK_DONE) send_frame(t.msg_type, t.seq);
-            if (f.msg_type != LOGON && rk_session_leave(&s, clock_ms(), &t) == RK_DONE) send_frame(t.msg_type, t.seq);
+            if (!pass(&s, now)) return 1;
+            /* a host with a ledger calls rk_session_may_send and rk_ledger_request before this */
+            if (f.msg_type == LOGON && rk_session_ask(&s, now, &t) == RK_DONE) send_frame(t.msg_type, t.seq);
+            if (f.msg_type != LOGON && rk_session_leave(&s, now, &t) == RK_DONE) send_frame(t.msg_type, t.seq);
         }
-        if (code != RK_MORE || rk_session_time(&s, clock_ms(), &t) != RK_DONE || t.dead) return 1;
-        send_frame(t.msg_type, t.seq);
+        if (code != RK_MORE || !pass(&s, now)) return 1;
     }
 }

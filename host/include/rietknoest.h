@@ -62,7 +62,7 @@ enum rk_answer {
     RK_STATE = 13,   /* the state breaks its rules: you see it only if other code wrote it */
     RK_BUSY = 14,    /* a request is pending */
     RK_WHOLE = 15,   /* nothing is missing */
-    RK_UNASKED = 16, /* reply with no request pending, or with another first number */
+    RK_UNASKED = 16, /* reply with none pending, another first number, or on a channel not asked */
     RK_STATUS = 17,  /* reply status not 1 to 5 or 99 */
     RK_CHANNEL = 18, /* call names another channel, or one that is not open in the table */
     RK_CLOSED = 19,  /* the stream is closed already */
@@ -627,8 +627,9 @@ uint32_t rk_month_add(rk_month *state, const uint8_t *capture, size_t len, rk_mo
  * each frame.
  *
  * Keep and copy the words as you like, but do not read or make them. A call on words that break the
- * state rules returns 13. A new session is rk_session_open again, and rk_ledger_renew for each
- * ledger that you keep. */
+ * state rules returns 13. A new session is rk_session_open again, and before rk_session_begin
+ * rk_channels_renew for a table of channels that you keep, rk_ledger_renew for each ledger that
+ * stands alone. Never rk_ledger_renew on a row of a table: the table would be broken (13). */
 typedef struct {
     uint64_t words[8];
 } rk_session;
@@ -666,7 +667,8 @@ uint32_t rk_session_time(rk_session *state, uint64_t time, rk_turn *told);
  * Returns 0, 13, 30, 32. 0 writes *state and *told. */
 uint32_t rk_session_leave(rk_session *state, uint64_t time, rk_turn *told);
 
-/* Asks for a resend: send the P002 of rk_ledger_request. Call rk_session_may_send before that one.
+/* Asks for a resend: send the P002 of rk_ledger_request or rk_channels_request. Call
+ * rk_session_may_send before that one.
  * Returns 0, 13, 30, 32. 0 writes *state and *told. */
 uint32_t rk_session_ask(rk_session *state, uint64_t time, rk_turn *told);
 

@@ -72,8 +72,9 @@ pub struct Arrival {
 }
 
 impl Session {
-    /// A new session: both counters at 1. Renew each ledger that is kept from an earlier one
-    /// ([`Ledger::renew`](crate::Ledger::renew)).
+    /// A new session: both counters at 1. Renew what is kept from an earlier one: a table of
+    /// channels as a whole ([`Channels::renew`](crate::Channels::renew)), and each ledger that
+    /// stands alone ([`Ledger::renew`](crate::Ledger::renew)).
     #[must_use]
     pub fn open() -> Session {
         let mut session = Session { words: [0; 8] };
@@ -113,7 +114,7 @@ impl Session {
     }
 
     /// Asks for a resend: returns the P002 to send. Call [`may_send`](Session::may_send) before
-    /// the ledger is asked for its request.
+    /// the ledger, or the table of channels, is asked for its request.
     pub fn ask(&mut self, time: u64) -> Result<ToSend, Refusal> {
         let row = self.turn(raw::session_ask, time)?;
         Ok(ToSend::from_row(row.msg_type, row.seq))

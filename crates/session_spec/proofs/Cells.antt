@@ -9,6 +9,7 @@ use Rattle.terms.specs.RuledOut.{split}
 use Rattle.session_spec.specs.Table.{State, new, waiting, active, leaving, over, Event, Begin, Time, Leave, Ask, Logon, Logout, Other, Faulty, rowOf, isFrame, sends}
 use Rattle.session_spec.specs.Calls.{one, countersRight, resolved, numberIn, kindIn, isDeath, stateIn}
 use Rattle.session_spec.specs.Words.{isLogon, isLogout, isS001, isS002}
+use Rattle.session_spec.specs.Given.{Counters}
 use Rattle.session_spec.proofs.Faults.{fault-pos}
 
 -- the stage by what is sent and taken is the state that the cell names
@@ -62,14 +63,7 @@ stage-step over (Logout number) dead due z = absurd (omega arith)
 stage-step over (Other number) dead due z = absurd (omega arith)
 stage-step over (Faulty why) dead due z = absurd (fault-pos why z)
 
--- the state rules of the counters, as facts
-abbrev pub Counters : State → ℕ → ℕ → Type 0
-Counters new out into = (out ≡ 1) × (into ≡ 1)
-Counters waiting out into = (out ≡ 2) × (into ≡ 1)
-Counters active out into = (2 ≤ out) × (2 ≤ into)
-Counters leaving out into = (3 ≤ out) × (2 ≤ into)
-Counters over out into = (1 ≤ out) × (1 ≤ into)
-
+-- the state rules of the counters, both ways
 pub counters-fact : (s : State) (out into : ℕ) → countersRight s out into ≡ true → Counters s out into
 counters-fact new out into e = let q = split _ _ e in (eqb-true _ _ (q .0), eqb-true _ _ (q .1))
 counters-fact waiting out into e = let q = split _ _ e in (eqb-true _ _ (q .0), eqb-true _ _ (q .1))

@@ -8,5 +8,7 @@ pub mod Simple
 pub mod Views
 pub mod Theorems
 pub mod Order
+pub mod Plain
 pub mod Given
+pub mod FromCells
 pub mod Logout

@@ -10,22 +10,21 @@ use Rattle.session_spec.specs.Table.{State, new, waiting, active, over, 
 use Rattle.session_spec.specs.Calls.{Line, soundOf, clockOf, listening, deadAt, dueAt, resolved, cellOf, numberIn, kindIn, isDeath, stateIn, answerTo, nextOf, opened}
 use Rattle.session_spec.specs.Trace.{Call, Calls, no-call, _▸_, after, answerAfter, trace}
 use Rattle.session_spec.specs.Words.{accepted, isLogon, isS001, isS002, stage, logonSent, loggedOn, logoutSent, calledDead}
-use Rattle.session_spec.specs.Given.{begun}
-use Rattle.session_spec.proofs.Cells.{Counters}
+use Rattle.session_spec.specs.Given.{Counters, begun}
 use Rattle.session_spec.proofs.Steps.{rules, step}
 use Rattle.session_spec.proofs.Agree.{agrees}
 use Rattle.session_spec.proofs.Views.{ended, ended-cell, logout-cell, first-cell, reach-cell, begun-cell}
 use Rattle.session_spec.proofs.Views as views
 use Rattle.session_spec.proofs.Theorems.{Refuses, Goes, outcome, kind-goes, kind-refuses, state-goes, death-of, dead-goes, dead-refuses}
 
-or-cases : (a b : Bool) → a || b ≡ true → (a ≡ true) ⊎ (b ≡ true)
+pub or-cases : (a b : Bool) → a || b ≡ true → (a ≡ true) ⊎ (b ≡ true)
 or-cases true b e = inl refl
 or-cases false b e = inr e
 
-or-left : (a b : Bool) → a ≡ true → a || b ≡ true
+pub or-left : (a b : Bool) → a ≡ true → a || b ≡ true
 or-left a b e = rw e
 
-or-right : (a b : Bool) → b ≡ true → a || b ≡ true
+pub or-right : (a b : Bool) → b ≡ true → a || b ≡ true
 or-right true b e = refl
 or-right false b e = e
 

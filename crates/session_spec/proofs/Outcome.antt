@@ -1,13 +1,15 @@
 -- A call's answer and the session after it, by the way that its checks go. Assumes nothing.
 use mathlib.Core.Path.{_≡_, sym, ap, _∙_}
 use mathlib.Core.Bool.{Bool, true, false, _||_}
+use mathlib.Core.Logic.{⊎-elim}
 use Prim.Native.Nat.{ℕ}
 use native.Mathlib.Omega.{arith}
 use borrow.Author.Tests.{eq-eqb, ne-eqb}
 use lib.Dec.{eqb}
+use Rattle.terms.specs.Cases.{same}
 use Rattle.terms.specs.Paper.{pick}
 use Rattle.session_spec.specs.Table.{Event, Cell, Kind}
-use Rattle.session_spec.specs.Calls.{Line, numberIn, kindIn, misnumbered, gone, spent, soundOf, clockOf, cellOf, ownNumber, numberTo, refused, told, done, answerTo, nextOf}
+use Rattle.session_spec.specs.Calls.{Line, Answer, numberIn, kindIn, misnumbered, gone, spent, soundOf, clockOf, cellOf, ownNumber, numberTo, refused, told, done, answerTo, nextOf}
 
 pub number-sound : (l : Line) (now : ℕ) (e : Event) → soundOf l ≡ true → numberTo l now e ≡ ownNumber l (clockOf l now) e (cellOf l (clockOf l now) e)
 unfolding numberTo
@@ -24,6 +26,14 @@ answer-zero l now e n = (rw (eq-eqb (numberTo l now e) 0 n), rw (eq-eqb (numberT
 pub answer-not-zero : (l : Line) (now : ℕ) (e : Event) → (numberTo l now e ≡ 0 → ⊥) → (answerTo l now e ≡ refused (numberTo l now e)) × (nextOf l now e ≡ l)
 unfolding answerTo nextOf
 answer-not-zero l now e n = (rw (ne-eqb (numberTo l now e) 0 n), rw (ne-eqb (numberTo l now e) 0 n))
+
+-- the answer's number is the call's
+pub number-is : (l : Line) (now : ℕ) (e : Event) → answerTo l now e .number ≡ numberTo l now e
+number-is l now e =
+    ⊎-elim
+    (λ (z : numberTo l now e ≡ 0). ap (λ (a : Answer). a .number) (answer-zero l now e z .0) ∙ sym z)
+    (λ (p : numberTo l now e ≡ 0 → ⊥). ap (λ (a : Answer). a .number) (answer-not-zero l now e p .0))
+    (same (numberTo l now e) 0)
 
 own-at : (l : Line) (now : ℕ) (e : Event) (t : ℕ) (cell : Cell) → t ≡ clockOf l now → cell ≡ cellOf l t e → ownNumber l t e cell ≡ ownNumber l (clockOf l now) e (cellOf l (clockOf l now) e)
 own-at l now e t cell p q = rw (q, p)

@@ -2,7 +2,7 @@
 -- Assumes nothing.
 use mathlib.Core.Path.{_≡_, refl, sym, _∙_}
 use mathlib.Core.Bool.{Bool, true, false, _&&_, not}
-use mathlib.Core.Logic.{_⊎_, ⊎-elim}
+use mathlib.Core.Logic.{_⊎_, ⊎-elim, _↔_}
 use Prim.Native.Nat.{ℕ, _+_, _≤_, max}
 use native.Mathlib.Nat.{add-zero}
 use native.Mathlib.Omega.{arith}
@@ -15,9 +15,10 @@ use Rattle.session_spec.specs.Table.{Event, isFrame, seqOf, agreed, send
 use Rattle.session_spec.specs.Calls.{Line, Answer, one, soundOf, countersRight, clockOf, cellOf, deadAt, dueAt, kindIn, stateIn, numberTo, refused, told, done, answerTo, nextOf}
 use Rattle.session_spec.specs.Trace.{Call}
 use Rattle.session_spec.specs.Words.{accepted, takes, stageBy}
+use Rattle.session_spec.specs.Given.{Counters, Rules}
 use Rattle.session_spec.proofs.Fine.{Fine, fine}
 use Rattle.session_spec.proofs.Outcome.{number-sound, answer-zero, answer-not-zero}
-use Rattle.session_spec.proofs.Cells.{Counters, stage-step, counters-fact, counters-test, counters-step}
+use Rattle.session_spec.proofs.Cells.{stage-step, counters-fact, counters-test, counters-step}
 
 pub record Step (l : Line) (call : Call) (a : Answer) (n : Line) : Type 0 where
   pub state-is : n .state ≡ stageBy call a (l .state)
@@ -59,17 +60,20 @@ pick-le : (b : Bool) (t x : ℕ) → x ≤ t → pick b t x ≤ t
 pick-le true t x h = omega arith
 pick-le false t x h = h
 
-pub record Rules (l : Line) : Type 0 where
-  pub sent-past : l .sent ≤ l .last
-  pub heard-past : l .heard ≤ l .last
-  pub counters : Counters (l .state) (l .sending) (l .expecting)
-
 pub rules : (l : Line) → soundOf l ≡ true → Rules l
 unfolding soundOf
 rules l s =
     let q = split (leb (l .sent) (l .last)) _ s in
     let r = split (leb (l .heard) (l .last)) _ (q .1) in
     record { sent-past = leb-true _ _ (q .0); heard-past = leb-true _ _ (r .0); counters = counters-fact (l .state) (l .sending) (l .expecting) (r .1) }
+
+pub rules-test : (l : Line) → Rules l → soundOf l ≡ true
+unfolding soundOf
+rules-test l r = simp (le-leb _ _ (r .sent-past), le-leb _ _ (r .heard-past), counters-test (l .state) (l .sending) (l .expecting) (r .counters))
+
+-- a session is sound exactly where the rules hold
+pub sound-exactly : (l : Line) → (soundOf l ≡ true) ↔ Rules l
+sound-exactly l = (rules l, rules-test l)
 
 later : (x last now : ℕ) → x ≤ last → x ≤ max last now
 later x last now h = omega arith

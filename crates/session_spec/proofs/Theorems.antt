@@ -54,23 +54,23 @@ beats : (l : Line) (t : ℕ) (e : Event) → isS003 (kindIn (cellOf l t e)) ≡ 
 unfolding cellOf
 beats l t e h = beat-cell (l .state) e (deadAt l t) (dueAt l t) h
 
-beat-is : (l : Line) (t : ℕ) → l .state ≡ active → deadAt l t ≡ false → dueAt l t ≡ true → cellOf l t Time ≡ does S003 active
+pub beat-is : (l : Line) (t : ℕ) → l .state ≡ active → deadAt l t ≡ false → dueAt l t ≡ true → cellOf l t Time ≡ does S003 active
 unfolding cellOf
 beat-is l t s d u = rw (d, u, s)
 
-alive-fact : (l : Line) (t : ℕ) → l .state ≡ active → deadAt l t ≡ false → t - l .heard ≤ 2 * l .interval
+pub alive-fact : (l : Line) (t : ℕ) → l .state ≡ active → deadAt l t ≡ false → t - l .heard ≤ 2 * l .interval
 unfolding deadAt
 alive-fact l t s d = let q : longerThanTwo (l .interval) (t - l .heard) ≡ false = rw s at d in ltb-false _ _ q
 
-alive-test : (l : Line) (t : ℕ) → l .state ≡ active → t - l .heard ≤ 2 * l .interval → deadAt l t ≡ false
+pub alive-test : (l : Line) (t : ℕ) → l .state ≡ active → t - l .heard ≤ 2 * l .interval → deadAt l t ≡ false
 unfolding deadAt
 alive-test l t s h = rw (s, le-ltb _ _ h)
 
-due-fact : (l : Line) (t : ℕ) → dueAt l t ≡ true → l .interval ≤ t - l .sent
+pub due-fact : (l : Line) (t : ℕ) → dueAt l t ≡ true → l .interval ≤ t - l .sent
 unfolding dueAt
 due-fact l t u = leb-true _ _ u
 
-due-test : (l : Line) (t : ℕ) → l .interval ≤ t - l .sent → dueAt l t ≡ true
+pub due-test : (l : Line) (t : ℕ) → l .interval ≤ t - l .sent → dueAt l t ≡ true
 unfolding dueAt
 due-test l t h = le-leb _ _ h
 
@@ -145,15 +145,15 @@ deaths : (l : Line) (t : ℕ) (e : Event) → isDeath (cellOf l t e) ≡ true �
 unfolding cellOf
 deaths l t e h = death-cell (l .state) e (deadAt l t) (dueAt l t) h
 
-dead-facts : (l : Line) (t : ℕ) → deadAt l t ≡ true → 2 * l .interval < t - l .heard
+pub dead-facts : (l : Line) (t : ℕ) → deadAt l t ≡ true → 2 * l .interval < t - l .heard
 unfolding deadAt
 dead-facts l t d = ltb-true _ _ (split (listening (l .state)) _ d .1)
 
-dead-test : (l : Line) (t : ℕ) → listening (l .state) ≡ true → 2 * l .interval < t - l .heard → deadAt l t ≡ true
+pub dead-test : (l : Line) (t : ℕ) → listening (l .state) ≡ true → 2 * l .interval < t - l .heard → deadAt l t ≡ true
 unfolding deadAt
 dead-test l t s h = rw (s, lt-ltb _ _ h)
 
-which : (s : State) → listening s ≡ true → (s ≡ active) ⊎ (s ≡ leaving)
+pub which : (s : State) → listening s ≡ true → (s ≡ active) ⊎ (s ≡ leaving)
 which active h = inl refl
 which leaving h = inr refl
 which new h = absurd (clash h refl)
@@ -192,7 +192,7 @@ called-where l now s k h =
     let z : numberTo l now Time ≡ 0 = number-sound l now Time s ∙ own-death l t (cellOf l t Time) c in
     ap (λ (a : Answer). a .dead) (answer-zero l now Time z .0) ∙ ap isDeath c
 
-listens-of : (s : State) → (s ≡ active) ⊎ (s ≡ leaving) → listening s ≡ true
+pub listens-of : (s : State) → (s ≡ active) ⊎ (s ≡ leaving) → listening s ≡ true
 listens-of s (inl e) = rw e
 listens-of s (inr e) = rw e
 
