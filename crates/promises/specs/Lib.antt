@@ -17,3 +17,5 @@ pub mod SameMap
 pub mod GivenUp
 pub mod Session
 pub mod Between
+pub mod Arriving
+pub mod HostHeard
