@@ -12,6 +12,7 @@ use Rattle.stream_spec.specs.Trace.{none}
 use Rattle.host_stream_spec.specs.Lent.{lent}
 use Rattle.host_stream_spec.specs.Calls.{Called}
 use Rattle.host_stream_spec.specs.Rows.{Followed, opening}
+use Rattle.host_stream_spec.specs.Washes.{WashCalled}
 use Rattle.host_stream_spec.specs.Rules.{LentRules}
 use Rattle.host_stream_spec.proofs.Given.{lent-given-13}
 use Rattle.host_stream.proofs.rk_stream_open.Reads as opens
@@ -20,6 +21,10 @@ use Rattle.host_stream.proofs.rk_stream_feed.Reads as feed
 use Rattle.host_stream.proofs.rk_stream_feed.Kinds as feed-kinds
 use Rattle.host_stream.proofs.rk_stream_close.Reads as close
 use Rattle.host_stream.proofs.rk_stream_close.Kinds as close-kinds
+use Rattle.host_stream.proofs.rk_stream_clean.Reads as clean
+use Rattle.host_stream.proofs.rk_stream_clean.Kinds as clean-kinds
+use Rattle.host_stream.proofs.rk_stream_clean_close.Reads as clean-close
+use Rattle.host_stream.proofs.rk_stream_clean_close.Kinds as clean-close-kinds
 
 pub open-is-opening : (κs : Lfts 3) (a : Dens κs opens-kinds.ps) (x : resT opens-kinds.r κs .Denot) (s : AtExit (endedOf 3 opens-kinds.ps opens-kinds.r) κs) → opens.Post κs a x s
     → Followed none (lent (now (s .0)) (now (s .1 .0)) (now (s .1 .1 .0)))
@@ -46,3 +51,14 @@ feed-given-13 κs a x s p = lent-given-13 _ (Feed (now (a .1 .1 .1 .0))) _ _ _ _
 pub close-given-13 : (κs : Lfts 5) (a : Dens κs close-kinds.ps) (x : resT close-kinds.r κs .Denot) (s : AtExit (endedOf 5 close-kinds.ps close-kinds.r) κs) → close.Post κs a x s
     → (x ≡ 13) ↔ (LentRules (lent (now (a .0)) (now (a .1 .0)) (now (a .1 .1 .0))) → ⊥)
 close-given-13 κs a x s p = lent-given-13 _ Close _ _ _ _ _ _ (close-is-call κs a x s p)
+
+-- the calls that clean lengthen a row of their own
+pub clean-is-call : (κs : Lfts 6) (a : Dens κs clean-kinds.ps) (x : resT clean-kinds.r κs .Denot) (s : AtExit (endedOf 6 clean-kinds.ps clean-kinds.r) κs) → clean.Post κs a x s
+    → WashCalled (lent (now (a .0)) (now (a .1 .0)) (now (a .1 .1 .0))) (Feed (now (a .1 .1 .1 .0))) (now (a .1 .1 .1 .1 .1 .0)) (now (a .1 .1 .1 .1 .0)) x
+    (lent (now (s .0)) (now (s .1 .0)) (now (s .1 .1 .0))) (now (s .1 .1 .1 .1 .1 .0)) (now (s .1 .1 .1 .1 .0))
+clean-is-call κs a x s p = p
+
+pub clean-close-is-call : (κs : Lfts 5) (a : Dens κs clean-close-kinds.ps) (x : resT clean-close-kinds.r κs .Denot) (s : AtExit (endedOf 5 clean-close-kinds.ps clean-close-kinds.r) κs) → clean-close.Post κs a x s
+    → WashCalled (lent (now (a .0)) (now (a .1 .0)) (now (a .1 .1 .0))) Close (now (a .1 .1 .1 .1 .0)) (now (a .1 .1 .1 .0)) x
+    (lent (now (s .0)) (now (s .1 .0)) (now (s .1 .1 .0))) (now (s .1 .1 .1 .1 .0)) (now (s .1 .1 .1 .0))
+clean-close-is-call κs a x s p = p

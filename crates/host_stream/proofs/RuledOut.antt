@@ -13,9 +13,12 @@ use lib.ListN.{length, take, drop, replicate}
 use Rattle.octets.specs.Octets.{numeral, digitsOf, laid, sum8, sumOf}
 use Rattle.calendar.specs.Calendar.{leap, daysIn, realParts, realTime}
 use Rattle.rules.specs.Table.{kindOf, suits, measureOf}
-use Rattle.rules.specs.Fields.{p001Ok, fieldsOk, judgeOf}
+use Rattle.rules.specs.Fields.{p001Ok, p002Ok, fieldsOk, judgeOf}
 use Rattle.frame_spec.specs.Frame.{checked, readOf, bodyRead}
-use Rattle.frame_spec.specs.Examples.{startOfA, frameA, frameB, A}
+use Rattle.frame_spec.specs.Write.{plainOf, frameOf}
+use Rattle.frame_spec.specs.Examples.{startOfA, frameA, frameB, A, heartbeat, resend}
+use Rattle.octets.specs.Papers.{laidIfRoom}
+use Rattle.private.specs.Scrub.{painted, summed, scrubbed}
 use Rattle.frame_view.specs.View.{viewOf}
 use Rattle.tick_map.specs.Bits as Bits
 use Rattle.tick_map.specs.Ring.{rotated}
@@ -41,12 +44,19 @@ use Rattle.host_words.specs.Words.{wordsOf, pendingIn, ledgerIn}
 use Rattle.host_words.specs.Told.{toldBy, Tells}
 use Rattle.host_stream_spec.specs.Lent.{Lent, lent, stateOf, lentOf, waitingIn, streamIn}
 use Rattle.host_stream_spec.specs.Calls.{callTold, keptBeside, lentAfter}
+use Rattle.stream_clean_spec.specs.Wash as Wash
+use Rattle.stream_clean_spec.specs.Calls as Clean
+use Rattle.host_stream_spec.specs.Washes.{washTold, washAfter}
 use Rattle.host_stream.proofs.rk_stream_open.Reads as rk-open
 use Rattle.host_stream.proofs.rk_stream_open.Kinds as rk-open-kinds
 use Rattle.host_stream.proofs.rk_stream_feed.Reads as rk-feed
 use Rattle.host_stream.proofs.rk_stream_feed.Kinds as rk-feed-kinds
 use Rattle.host_stream.proofs.rk_stream_close.Reads as rk-close
 use Rattle.host_stream.proofs.rk_stream_close.Kinds as rk-close-kinds
+use Rattle.host_stream.proofs.rk_stream_clean.Reads as rk-clean
+use Rattle.host_stream.proofs.rk_stream_clean.Kinds as rk-clean-kinds
+use Rattle.host_stream.proofs.rk_stream_clean_close.Reads as rk-clean-close
+use Rattle.host_stream.proofs.rk_stream_clean_close.Kinds as rk-clean-close-kinds
 
 -- what is seen of a stream: its six words, the ledger's channel, floor and top, and the first 20 of
 -- the bytes that wait
@@ -109,3 +119,34 @@ rk-stream-close-wrong =
 pub rk-stream-close-rules-out : RulesOut (Kept _ rk-close-kinds.ps rk-close-kinds.r rk-close.Post) (λ c. (lent (now (c .args .0)) (now (c .args .1 .0)) (now (c .args .1 .1 .0)), (Close, (now (c .args .1 .1 .1 .0), now (c .args .1 .1 .1 .1 .0))))) (λ c. shown (c .result) (now (c .exit .1 .1 .1 .1 .0)) (lent (now (c .exit .0)) (now (c .exit .1 .0)) (now (c .exit .1 .1 .0))) (now (c .exit .1 .1 .1 .0))) rk-stream-close-wrong
 unfolding frameA startOfA frameB checked readOf bodyRead numeral digitsOf laid sum8 sumOf kindOf suits measureOf p001Ok fieldsOk realTime realParts daysIn leap judgeOf viewOf Bits.valueOf Bits.mapOf rotated rangeRules mapRules soundOf Book.ownNumber Book.checkedOf Book.numberTo Book.raised Book.done Book.nextOf Book.fresh bookOf ledgerOf after next found noted joined eachOf Account.accountOf firstHalf secondHalf recordOf blankOf seenOf saysOf callsBy offering offerOf madeOf recordBy bookBy accepts refuses opened State.headOf State.isSeeking State.meantBy State.valueOf State.allZero State.waitsRight State.soundOf Tally.tallyWith Tally.recordAt Tally.tallyAfter Tally.ledgerRight Tally.tallyRight Calls.givenOf Calls.behindOf Calls.numberFor Calls.answerFor Calls.nextFor Calls.leavesFor Cuts.feedOf Waits.waits Waits.ranOf wordsOf pendingIn ledgerIn toldBy stateOf waitingIn streamIn keptBeside lentAfter
 rk-stream-close-rules-out = ruled (beside numbers (beside lists (beside lists lists))) answered-by (λ c p. said p) _ refl
+
+-- CLEAN: what is told has six numbers
+abbrev cleaned-by : Input → Outcome
+cleaned-by i =
+    shown (washTold (i .0) (i .1 .0) (length (i .1 .1 .0)) .number) (toldBy (washTold (i .0) (i .1 .0) (length (i .1 .1 .0))) (i .1 .1 .1))
+    (washAfter (i .0) (i .1 .0) (length (i .1 .1 .0)))
+    (Clean.leaves (streamIn (i .0)) (i .1 .0) (i .1 .1 .0))
+
+abbrev begun : Lent
+begun = washAfter (lentOf opened) (Feed (take 50 (resend 1 0x41))) 0
+
+abbrev pub rk-stream-clean-wrong : List (Row Input Outcome)
+rk-stream-clean-wrong =
+    (begun, (Feed (drop 50 (resend 1 0x41)), (replicate 81 7, replicate 6 7))) only (0, (80 ∷ 1 ∷ 0 ∷ 0 ∷ 80 ∷ 0 ∷ [], (80 ∷ 0 ∷ 0 ∷ 0 ∷ 0 ∷ 0 ∷ 100 ∷ 0 ∷ 0 ∷ replicate 20 0, resend 1 0x20 ++ (7 ∷ []))))  -- no private byte left, and none kept
+    ∷ (lentOf opened, (Feed heartbeat, (replicate 27 7, replicate 6 7))) only (8, (replicate 6 7, (0 ∷ 0 ∷ 0 ∷ 0 ∷ 0 ∷ 0 ∷ 100 ∷ 0 ∷ 0 ∷ replicate 20 0, replicate 27 7)))  -- nothing changes beside 8
+    ∷ (washAfter begun Close 0, (Feed heartbeat, (replicate 27 7, replicate 6 7))) never (8, (replicate 6 7, (50 ∷ 1 ∷ 1 ∷ 0 ∷ 0 ∷ 0 ∷ 100 ∷ 0 ∷ 0 ∷ replicate 20 0, replicate 27 7)))  -- 8 before 19
+    ∷ []
+
+pub rk-stream-clean-rules-out : RulesOut (Kept _ rk-clean-kinds.ps rk-clean-kinds.r rk-clean.Post) (λ c. (lent (now (c .args .0)) (now (c .args .1 .0)) (now (c .args .1 .1 .0)), (Feed (now (c .args .1 .1 .1 .0)), (now (c .args .1 .1 .1 .1 .0), now (c .args .1 .1 .1 .1 .1 .0))))) (λ c. shown (c .result) (now (c .exit .1 .1 .1 .1 .1 .0)) (lent (now (c .exit .0)) (now (c .exit .1 .0)) (now (c .exit .1 .1 .0))) (now (c .exit .1 .1 .1 .1 .0))) rk-stream-clean-wrong
+unfolding plainOf frameOf checked readOf bodyRead numeral digitsOf laid laidIfRoom painted summed scrubbed sum8 sumOf kindOf suits measureOf p002Ok fieldsOk realTime realParts daysIn leap judgeOf viewOf Bits.valueOf Bits.mapOf rotated rangeRules mapRules soundOf Book.ownNumber Book.checkedOf Book.numberTo Book.raised Book.done Book.nextOf Book.fresh bookOf ledgerOf after next found noted joined eachOf Account.accountOf firstHalf secondHalf recordOf blankOf seenOf saysOf callsBy answered offerOf madeOf recordBy bookBy accepts refuses opened State.headOf State.isSeeking State.meantBy State.valueOf State.allZero State.waitsRight State.soundOf Tally.tallyWith Tally.recordAt Tally.tallyAfter Tally.ledgerRight Tally.tallyRight Calls.givenOf Calls.behindOf Calls.numberFor Calls.answerFor Calls.nextFor Calls.leavesFor Cuts.feedOf Waits.waits Waits.ranOf wordsOf pendingIn ledgerIn toldBy stateOf waitingIn streamIn keptBeside lentAfter Calls.mayTake Wash.washed Wash.unjudgedBy Wash.plus Wash.oneOf Wash.sumsOf Wash.lays Clean.readsFor Clean.washBehind Clean.numberFor Clean.answerFor Clean.nextFor Clean.leavesFor washAfter
+rk-stream-clean-rules-out = ruled (beside numbers (beside lists (beside lists lists))) cleaned-by (λ c p. said p) _ refl
+
+abbrev pub rk-stream-clean-close-wrong : List (Row Input Outcome)
+rk-stream-clean-close-wrong =
+    (begun, (Close, (replicate 80 7, replicate 6 7))) only (0, (0 ∷ 0 ∷ 0 ∷ 0 ∷ 50 ∷ 0 ∷ [], (50 ∷ 1 ∷ 1 ∷ 0 ∷ 0 ∷ 0 ∷ 100 ∷ 0 ∷ 0 ∷ replicate 20 0, replicate 80 7)))  -- a private text that waits is neither passed on nor kept
+    ∷ (washAfter begun Close 0, (Close, (replicate 80 7, replicate 6 7))) only (19, (replicate 6 7, (50 ∷ 1 ∷ 1 ∷ 0 ∷ 0 ∷ 0 ∷ 100 ∷ 0 ∷ 0 ∷ replicate 20 0, replicate 80 7)))  -- not closed a second time
+    ∷ []
+
+pub rk-stream-clean-close-rules-out : RulesOut (Kept _ rk-clean-close-kinds.ps rk-clean-close-kinds.r rk-clean-close.Post) (λ c. (lent (now (c .args .0)) (now (c .args .1 .0)) (now (c .args .1 .1 .0)), (Close, (now (c .args .1 .1 .1 .0), now (c .args .1 .1 .1 .1 .0))))) (λ c. shown (c .result) (now (c .exit .1 .1 .1 .1 .0)) (lent (now (c .exit .0)) (now (c .exit .1 .0)) (now (c .exit .1 .1 .0))) (now (c .exit .1 .1 .1 .0))) rk-stream-clean-close-wrong
+unfolding plainOf frameOf checked readOf bodyRead numeral digitsOf laid laidIfRoom painted summed scrubbed sum8 sumOf kindOf suits measureOf p002Ok fieldsOk realTime realParts daysIn leap judgeOf viewOf Bits.valueOf Bits.mapOf rotated rangeRules mapRules soundOf Book.ownNumber Book.checkedOf Book.numberTo Book.raised Book.done Book.nextOf Book.fresh bookOf ledgerOf after next found noted joined eachOf Account.accountOf firstHalf secondHalf recordOf blankOf seenOf saysOf callsBy answered offerOf madeOf recordBy bookBy accepts refuses opened State.headOf State.isSeeking State.meantBy State.valueOf State.allZero State.waitsRight State.soundOf Tally.tallyWith Tally.recordAt Tally.tallyAfter Tally.ledgerRight Tally.tallyRight Calls.givenOf Calls.behindOf Calls.numberFor Calls.answerFor Calls.nextFor Calls.leavesFor Cuts.feedOf Waits.waits Waits.ranOf wordsOf pendingIn ledgerIn toldBy stateOf waitingIn streamIn keptBeside lentAfter Calls.mayTake Wash.washed Wash.unjudgedBy Wash.plus Wash.oneOf Wash.sumsOf Wash.lays Clean.readsFor Clean.washBehind Clean.numberFor Clean.answerFor Clean.nextFor Clean.leavesFor washAfter
+rk-stream-clean-close-rules-out = ruled (beside numbers (beside lists (beside lists lists))) cleaned-by (λ c p. said p) _ refl

@@ -1,6 +1,7 @@
-// A stream for C and Rust: bytes that arrive in cuts, to records, counts and ledger. Between two
-// calls the host keeps it as six numbers, the nine words of its ledger, and the bytes that wait.
-// Each call returns a code, 0 where all is well. A refusal writes nothing.
+// A stream for C and Rust: bytes that arrive in cuts, to records, counts and ledger; or, by the
+// calls that clean, to scrubbed frames. Between two calls the host keeps it as six numbers, the nine
+// words of its ledger, and the bytes that wait. Each call returns a code, 0 where all is well. A
+// refusal writes nothing.
 ghost use mathlib.Core.Path.{_≡_};
 ghost use lib.ListN.{length};
 ghost use Rattle.stream_spec.specs.State.{opened};
@@ -9,6 +10,10 @@ ghost use Rattle.terms.specs.Verdicts.{verdictNumber};
 ghost use Rattle.host_words.specs.Told.{Tells};
 ghost use Rattle.host_stream_spec.specs.Lent.{waitingIn, wordOf, lent, lentOf, streamIn};
 ghost use Rattle.host_stream_spec.specs.Calls.{toldWith, keptBeside, callTold, lentAfter};
+ghost use Rattle.stream_clean_spec.specs.Calls as Clean;
+ghost use Rattle.stream_clean_spec.specs.Calls.{washedPaper};
+ghost use Rattle.host_stream_spec.specs.Washes.{washWith, washTold, washAfter};
+use stream_clean_spec::Washed;
 use stream_spec::Fed;
 use stream_spec::Stream;
 use stream_spec::Tally;
@@ -154,4 +159,75 @@ pub extern "C" fn rk_stream_close(
 {
     let fed = stream::close(stream_in(state, ledger, kept), records);
     settle(state, ledger, kept, told, fed)
+}
+
+// What a call that cleans returns: its number; beside 0 the stream after it is kept, and its numbers
+// are the results.
+fn settle_washed(
+    state: &mut [u64; 6],
+    ledger: &mut [u64; 9],
+    kept: &mut [u8; 8191],
+    told: &mut [u64; 6],
+    washed: Washed,
+) -> u32
+    ensures { λ r. ⌜ Tells (washWith (washedPaper washed) (washed .stream)) (now (told .entry)) r (now (told .exit))
+        × (lent (now (state .exit)) (now (ledger .exit)) (now (kept .exit))
+        ≡ keptBeside (verdictNumber (washed .answer)) (washed .stream) (lent (now (state .entry)) (now (ledger .entry)) (now (kept .entry)))) ⌝ }
+{
+    let given = washed.answer;
+    let answer = given.number();
+    let next = washed.stream;
+    let sums = washed.sums;
+    if answer == 0 {
+        *told = [
+            sums.bytes as u64,
+            sums.frames as u64,
+            sums.found as u64,
+            sums.unjudged as u64,
+            next.place,
+            next.len as u64,
+        ];
+        keep(state, ledger, kept, next);
+    }
+    answer
+}
+
+// One more cut, perhaps of no bytes: writes the accepted frames that it decides at the front of
+// out, each scrubbed, one after the other. Results, of this call alone: how many bytes it wrote, how
+// many frames they are, how many of these the search found after damage, how many are M101 frames,
+// whose bodies are passed on unjudged; then the place of the first byte that waits, or of the next
+// to come, and how many bytes wait. Counts and ledger stay as they are. Refusals 13, 19, 29, 8.
+#[no_mangle]
+pub extern "C" fn rk_stream_clean(
+    state: &mut [u64; 6],
+    ledger: &mut [u64; 9],
+    kept: &mut [u8; 8191],
+    cut: &[u8],
+    out: &mut [u8],
+    told: &mut [u64; 6],
+) -> u32
+    ensures { λ r. ⌜ Tells (washTold (lent (now (state .entry)) (now (ledger .entry)) (now (kept .entry))) (Feed (now (cut .entry))) (length (now (out .entry)))) (now (told .entry)) r (now (told .exit))
+        × ((lent (now (state .exit)) (now (ledger .exit)) (now (kept .exit)) ≡ washAfter (lent (now (state .entry)) (now (ledger .entry)) (now (kept .entry))) (Feed (now (cut .entry))) (length (now (out .entry))))
+        × (now (out .exit) ≡ Clean.leaves (streamIn (lent (now (state .entry)) (now (ledger .entry)) (now (kept .entry)))) (Feed (now (cut .entry))) (now (out .entry)))) ⌝ }
+{
+    let washed = stream_clean::clean_cut(stream_in(state, ledger, kept), cut, out);
+    settle_washed(state, ledger, kept, told, washed)
+}
+
+// No more bytes come: what remains is cleaned as the end of a closed capture is. Results as for a
+// cut. Refusals 13, 19, 8.
+#[no_mangle]
+pub extern "C" fn rk_stream_clean_close(
+    state: &mut [u64; 6],
+    ledger: &mut [u64; 9],
+    kept: &mut [u8; 8191],
+    out: &mut [u8],
+    told: &mut [u64; 6],
+) -> u32
+    ensures { λ r. ⌜ Tells (washTold (lent (now (state .entry)) (now (ledger .entry)) (now (kept .entry))) Close (length (now (out .entry)))) (now (told .entry)) r (now (told .exit))
+        × ((lent (now (state .exit)) (now (ledger .exit)) (now (kept .exit)) ≡ washAfter (lent (now (state .entry)) (now (ledger .entry)) (now (kept .entry))) Close (length (now (out .entry))))
+        × (now (out .exit) ≡ Clean.leaves (streamIn (lent (now (state .entry)) (now (ledger .entry)) (now (kept .entry)))) Close (now (out .entry)))) ⌝ }
+{
+    let washed = stream_clean::clean_end(stream_in(state, ledger, kept), out);
+    settle_washed(state, ledger, kept, told, washed)
 }

@@ -1,3 +1,4 @@
 pub mod Back
 pub mod Given
 pub mod Cuttings
+pub mod Washings

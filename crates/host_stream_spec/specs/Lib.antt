@@ -2,3 +2,4 @@ pub mod Lent
 pub mod Calls
 pub mod Rows
 pub mod Rules
+pub mod Washes

@@ -52,6 +52,8 @@ use Rattle.ledger.specs.Papers.{tickPaper, requestPaper, replyPaper, paperOf}
 use Rattle.ledger.specs.Trace.{Promise}
 use Rattle.stream_spec.specs.declared.Fed.{Fed}
 use Rattle.stream_spec.specs.Calls.{fedPaper}
+use Rattle.stream_clean_spec.specs.declared.Washed.{Washed}
+use Rattle.stream_clean_spec.specs.Calls.{washedPaper}
 use Rattle.ledger_spec.specs.Words.{answered}
 use Rattle.ledger.proofs.Promised.{refused-gives-back, far-raises-top}
 use Rattle.terms.proofs.OneAnswer as terms
@@ -74,6 +76,7 @@ use Rattle.walk.proofs.OneAnswer as walk
 use Rattle.stream_spec.proofs.OneAnswer as stream_spec
 use Rattle.stream.proofs.OneAnswer as stream
 use Rattle.clean.proofs.OneAnswer as clean
+use Rattle.stream_clean.proofs.OneAnswer as stream_clean
 use Rattle.host_words.proofs.OneAnswer as host_words
 use Rattle.host_frames.proofs.OneAnswer as host_frames
 use Rattle.host_ledger.proofs.OneAnswer as host_ledger
@@ -279,6 +282,7 @@ flow-answers =
 -- stream
 stream-answers : Named
 stream-answers =
+    let may-take-one-answer = stream.may-take-one-answer in
     let feed-one-answer = stream.feed-one-answer in
     let close-one-answer = stream.close-one-answer in
     named
@@ -294,6 +298,13 @@ clean-answers : Named
 clean-answers =
     let clean-one-answer = clean.clean-one-answer in
     let is-clean-one-answer = clean.is-clean-one-answer in
+    named
+
+-- stream_clean
+stream-clean-answers : Named
+stream-clean-answers =
+    let clean-cut-one-answer = stream_clean.clean-cut-one-answer in
+    let clean-end-one-answer = stream_clean.clean-end-one-answer in
     named
 
 -- host_words
@@ -357,6 +368,8 @@ follow-answers =
     let rk-stream-open-one-answer = host_stream.rk-stream-open-one-answer in
     let rk-stream-feed-one-answer = host_stream.rk-stream-feed-one-answer in
     let rk-stream-close-one-answer = host_stream.rk-stream-close-one-answer in
+    let rk-stream-clean-one-answer = host_stream.rk-stream-clean-one-answer in
+    let rk-stream-clean-close-one-answer = host_stream.rk-stream-clean-close-one-answer in
     named
 
 -- digits
@@ -580,6 +593,9 @@ plain-numbered (plain.Refused w) = refused (refusal-in-table w)
 pub stream-numbered : (x : Fed) → Numbered (fedPaper x .number)
 stream-numbered x = verdict-numbered (x .answer)
 
+pub stream-clean-numbered : (x : Washed) → Numbered (washedPaper x .number)
+stream-clean-numbered x = verdict-numbered (x .answer)
+
 -- "A REFUSAL WRITES NOTHING INTO A LENT BUFFER": of each function that is lent one, that its later
 -- contents are fixed, and that a refusal leaves them.
 
@@ -666,6 +682,14 @@ words-buffers =
     let told-bytes-refused-keeps = host_words.told-bytes-refused-keeps in
     named
 
+stream-clean-buffers : Named
+stream-clean-buffers =
+    let clean-cut-one-buffer = stream_clean.clean-cut-one-buffer in
+    let clean-cut-refused-keeps = stream_clean.clean-cut-refused-keeps in
+    let clean-end-one-buffer = stream_clean.clean-end-one-buffer in
+    let clean-end-refused-keeps = stream_clean.clean-end-refused-keeps in
+    named
+
 -- of all that a function of host_frames, host_ledger and host_captures is lent: told row,
 -- words and buffer
 host-buffers : Named
@@ -733,6 +757,10 @@ follow-buffers =
     let rk-stream-feed-refused-keeps = host_stream.rk-stream-feed-refused-keeps in
     let rk-stream-close-one-buffer = host_stream.rk-stream-close-one-buffer in
     let rk-stream-close-refused-keeps = host_stream.rk-stream-close-refused-keeps in
+    let rk-stream-clean-one-buffer = host_stream.rk-stream-clean-one-buffer in
+    let rk-stream-clean-refused-keeps = host_stream.rk-stream-clean-refused-keeps in
+    let rk-stream-clean-close-one-buffer = host_stream.rk-stream-clean-close-one-buffer in
+    let rk-stream-clean-close-refused-keeps = host_stream.rk-stream-clean-close-refused-keeps in
     named
 
 -- host_step

@@ -25,3 +25,5 @@ pub mod TwoCaptures
 pub mod TwoCapturesHold
 pub mod TwoCapturesCalls
 pub mod Witness
+pub mod Arriving
+pub mod HostHeard

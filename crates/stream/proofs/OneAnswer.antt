@@ -7,10 +7,16 @@ use denote.Ref.{now}
 use Rattle.terms.specs.OneAnswer.{OneAnswer}
 use Rattle.terms.specs.OneBuffer.{OneBuffer, RefusedKeeps}
 use Rattle.stream_spec.specs.Answers.{fed-one, Refuses, refused-leaves}
+use Rattle.terms.specs.Verdicts.{verdict-one}
+use Rattle.stream.proofs.may_take.Reads as may-take
+use Rattle.stream.proofs.may_take.Kinds as may-take-kinds
 use Rattle.stream.proofs.feed.Reads as feed
 use Rattle.stream.proofs.feed.Kinds as feed-kinds
 use Rattle.stream.proofs.close.Reads as close
 use Rattle.stream.proofs.close.Kinds as close-kinds
+
+pub may-take-one-answer : OneAnswer _ may-take-kinds.ps may-take-kinds.r may-take.Post
+may-take-one-answer κs a x y s t p q = verdict-one x y (p ∙ sym q)
 
 pub feed-one-answer : OneAnswer _ feed-kinds.ps feed-kinds.r feed.Post
 feed-one-answer κs a x y s t p q = fed-one x y (p .0 ∙ sym (q .0)) (p .1 .0 ∙ sym (q .1 .0))

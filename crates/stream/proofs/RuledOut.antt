@@ -1,7 +1,7 @@
 -- For each public function: wrong answers that its promise rules out, as tables of what is given
 -- and what is then wrong. Assumes nothing.
 use Prim.Native.Nat.{ℕ, _-_}
-use mathlib.Core.Path.{_≡_, refl, ap₂}
+use mathlib.Core.Path.{_≡_, refl, ap, ap₂}
 use mathlib.Core.Bool.{Bool, true, false}
 use mathlib.Core.List.{List, [], _∷_, _++_}
 use denote.Ref.{now}
@@ -39,6 +39,9 @@ use Rattle.stream_spec.specs.State.{opened}
 use Rattle.stream_spec.specs.Tally as Tally
 use Rattle.stream_spec.specs.Calls as Calls
 use Rattle.stream_spec.specs.Calls.{Feed, Close, fedPaper, answerTo, nextOf, leaves}
+use Rattle.terms.specs.Verdicts.{verdictNumber}
+use Rattle.stream.proofs.may_take.Reads as may-take
+use Rattle.stream.proofs.may_take.Kinds as may-take-kinds
 use Rattle.stream.proofs.feed.Reads as feed
 use Rattle.stream.proofs.feed.Kinds as feed-kinds
 use Rattle.stream.proofs.close.Reads as close
@@ -92,6 +95,19 @@ longRecord =
 abbrev behindLongest : Record
 behindLongest =
     record { place = 8192; «msg_type» = 0x53303033; answer = 0; seq = sessionOf 1; tick = tickOf 0; channel = channelOf 0; «body_len» = 0; floor = tickOf 0; top = tickOf 0 }
+-- a stream, and how many bytes a call brings
+abbrev pub may-take-wrong : List (Row (Stream × ℕ) Paper)
+may-take-wrong =
+    (opened, 18446744073709551615) only answer 0 []  -- a cut too long
+    ∷ (moved 18446744073709551600 0, 16) only answer 29 []  -- a place past 64 bits
+    ∷ (closed, 18446744073709551600) only answer 19 []  -- 29 before 19
+    ∷ (moved 18446744073709551600 8192, 16) only answer 13 []  -- 29 before 13
+    ∷ []
+
+pub may-take-rules-out : RulesOut (Kept _ may-take-kinds.ps may-take-kinds.r may-take.Post) (λ c. (c .args .0, c .args .1 .0)) (λ c. answer (verdictNumber (c .result)) []) may-take-wrong
+unfolding frameA startOfA frameB checked readOf bodyRead numeral digitsOf laid sum8 sumOf kindOf suits measureOf p001Ok fieldsOk realTime realParts daysIn leap judgeOf viewOf Bits.valueOf Bits.mapOf rotated rangeRules mapRules soundOf Book.ownNumber Book.checkedOf Book.numberTo Book.raised Book.done Book.nextOf Book.fresh bookOf ledgerOf after next found noted joined eachOf Account.accountOf firstHalf secondHalf recordOf blankOf seenOf saysOf callsBy answered offerOf madeOf recordBy bookBy accepts refuses
+    opened State.headOf State.isSeeking State.meantBy State.valueOf State.allZero State.waitsRight State.soundOf Tally.tallyWith Tally.recordAt Tally.tallyAfter Tally.ledgerRight Tally.tallyRight Calls.mayTake Calls.givenOf Calls.behindOf Calls.numberFor Calls.answerFor Calls.nextFor Calls.leavesFor Cuts.feedOf Waits.waits Waits.ranOf
+may-take-rules-out = ruled papers (λ (i : Stream × ℕ). answer (Calls.mayTake (i .0) (i .1)) []) (λ c p. ap (λ (n : ℕ). answer n []) p) _ refl
 
 -- a stream, a cut, and a lent buffer
 abbrev pub feed-wrong : List (Row (Stream × (List ℕ × List ℕ)) Outcome)

@@ -10,7 +10,8 @@ ghost use Rattle.walk_spec.specs.Tables.{writtenFrom};
 ghost use Rattle.stream_spec.specs.Tally.{tallyWith, tallyRight, ledgerRight};
 ghost use Rattle.stream_spec.specs.State.{lastPlace, headOf, allZero, soundOf};
 ghost use Rattle.stream_spec.specs.Run.{waitsAt, passedOver, strideOf, accountedOf, RanIs};
-ghost use Rattle.stream_spec.specs.Calls.{Feed, Close, givenOf, answerFor, nextFor, leavesFor, answerTo, nextOf, leaves, fedPaper, refusedBy};
+ghost use Rattle.stream_spec.specs.Calls.{Feed, Close, mayTake, givenOf, answerFor, nextFor, leavesFor, answerTo, nextOf, leaves, fedPaper, refusedBy};
+ghost use Rattle.terms.specs.Verdicts.{verdictNumber};
 ghost use Rattle.stream.specs.Pieces.{Piece};
 ghost use Rattle.stream.specs.Pushed.{pushedOf};
 use ledger::Answer;
@@ -280,6 +281,22 @@ fn sound(st: Stream) -> bool
     }
     let seen = reading::see(&held[..n], 0);
     seen.answer == 1
+}
+
+// What goes before the room of a call that brings so many bytes: 13, 19, 29, or nothing.
+pub fn may_take(st: Stream, more: usize) -> Verdict
+    ensures { λ r. ⌜ verdictNumber r ≡ mayTake st more ⌝ }
+{
+    if !sound(st) {
+        return Verdict::Refused(Refusal::State);
+    }
+    if st.closed {
+        return Verdict::Refused(Refusal::Closed);
+    }
+    if !fits(st.place, st.len, more) {
+        return Verdict::Refused(Refusal::Places);
+    }
+    Verdict::Fine
 }
 
 // A refusal: the stream as it was.

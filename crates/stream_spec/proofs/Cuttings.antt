@@ -242,6 +242,10 @@ decided-more calls call n =
     ∙ length-append (whole false (taken calls) .records) (feedOf (closes call) (whole false (taken calls) .stream) (cutOf call) .records)
     ∙ rw (g, share-is calls call m)
 
+-- before the closing call: mode, place and kept bytes are those of the bytes taken, in one cut
+pub stands-for : (calls : Calls) → ended calls ≡ false → meantBy (after calls) ≡ feedOf false (Cuts.freshOf freshTally) (taken calls) .stream
+stands-for calls n = meant-open calls (same calls) n
+
 taken-length : (calls : Calls) → after calls .place + after calls .len ≡ length (taken calls)
 unfolding valueOf
 taken-length calls = rw (same calls .stream) (whole-place (ended calls) (taken calls))

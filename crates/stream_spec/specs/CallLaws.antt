@@ -7,7 +7,9 @@ use native.Mathlib.Omega.{arith}
 use lib.Dec.{eqb, leb}
 use lib.ListN.{length, length-append}
 use borrow.Author.Tests.{le-leb, leb-true}
+use mathlib.Core.Logic.{⊎-elim}
 use Rattle.terms.specs.Paper.{answer, pick}
+use Rattle.terms.specs.Cases.{two}
 use Rattle.walk_laws.specs.Walk.{frame}
 use Rattle.walk_laws.specs.Waits.{ranOf}
 use Rattle.walk_laws.specs.WaitLaws.{modeOf}
@@ -28,7 +30,7 @@ use Rattle.stream_spec.specs.Tally.{recordAt, tallyAfter}
 use Rattle.stream_spec.specs.State.{lastPlace, headOf, meantBy, soundOf}
 use Rattle.stream_spec.specs.Run.{saysIn}
 use Rattle.stream_spec.specs.Window.{length-head}
-use Rattle.stream_spec.specs.Calls.{givenOf, behindOf, numberFor, answerFor, nextFor, leavesFor, fedPaper, refusedBy}
+use Rattle.stream_spec.specs.Calls.{givenOf, behindOf, mayTake, numberFor, answerFor, nextFor, leavesFor, fedPaper, refusedBy}
 
 -- a frame that is read is 28 bytes or more, and all there, at the closing call or before it
 in-fits : (closing : Bool) (s : List ℕ) (n : ℕ) → saysIn closing (seenOf s) ≡ frame n → (28 ≤ n) × (n ≤ length s)
@@ -38,6 +40,36 @@ in-fits false s n e = seen-fits s n e
 wants-none : (seeking : Bool) (w : List ℕ) → wants (modeOf seeking) ≤ length w
 wants-none true w = omega arith
 wants-none false w = omega arith
+
+-- what goes before the room
+module _ (x : Stream) (n : ℕ) where
+  pub may-13 : soundOf x ≡ false → mayTake x n ≡ 13
+  unfolding mayTake
+  may-13 s = rw s
+
+  pub may-19 : soundOf x ≡ true → x .closed ≡ true → mayTake x n ≡ 19
+  unfolding mayTake
+  may-19 s c = rw (s, c)
+
+  pub may-29 : soundOf x ≡ true → x .closed ≡ false → leb (x .place + (x .len + n)) lastPlace ≡ false → mayTake x n ≡ 29
+  unfolding mayTake
+  may-29 s c f = rw (s, c, f)
+
+  pub may-0 : soundOf x ≡ true → x .closed ≡ false → leb (x .place + (x .len + n)) lastPlace ≡ true → mayTake x n ≡ 0
+  unfolding mayTake
+  may-0 s c f = rw (s, c, f)
+
+  -- where nothing of it refuses
+  pub may-facts : mayTake x n ≡ 0 → (soundOf x ≡ true) × ((x .closed ≡ false) × (x .place + (x .len + n) ≤ lastPlace))
+  may-facts z =
+      ⊎-elim
+      (λ (s : soundOf x ≡ true).
+      ⊎-elim (λ (c : x .closed ≡ true). absurd (omega (arith, z, may-19 s c)))
+      (λ (c : x .closed ≡ false).
+      ⊎-elim (λ (f : leb (x .place + (x .len + n)) lastPlace ≡ true). (s, (c, leb-true _ _ f))) (λ (f : leb (x .place + (x .len + n)) lastPlace ≡ false). absurd (omega (arith, z, may-29 s c f))) (two (leb (x .place + (x .len + n)) lastPlace)))
+      (two (x .closed)))
+      (λ (s : soundOf x ≡ false). absurd (omega (arith, z, may-13 s)))
+      (two (soundOf x))
 
 module _ (x : Stream) (closing : Bool) (cut : List ℕ) where
   -- no more than so many bytes can give

@@ -58,6 +58,13 @@ numberFor x closing cut room =
     (pick (not (leb (x .place + (x .len + length cut)) lastPlace)) 29
     (pick (not (leb (length (givenOf x closing cut)) (room / 64))) 8 0)))
 
+-- those that go before the room, where a call brings n bytes
+unfoldable pub mayTake : Stream → ℕ → ℕ
+mayTake x n =
+    pick (not (soundOf x)) 13
+    (pick (x .closed) 19
+    (pick (not (leb (x .place + (x .len + n)) lastPlace)) 29 0))
+
 -- the number, and how many records
 unfoldable pub answerFor : Stream → Bool → List ℕ → ℕ → Paper
 answerFor x closing cut room = answer (numberFor x closing cut room) (pick (eqb (numberFor x closing cut room) 0) (length (givenOf x closing cut)) 0 ∷ [])

@@ -30,16 +30,16 @@ use Rattle.stream_spec.specs.Run.{saysIn, waitsAt, passedOver, strideOf,
 
 -- WHAT A READING SAYS, at the closing call or before it
 
-in-frame : (closing : Bool) (x : Seen) → x .answer ≡ 0 → saysIn closing x ≡ frame (x .size)
+pub in-frame : (closing : Bool) (x : Seen) → x .answer ≡ 0 → saysIn closing x ≡ frame (x .size)
 in-frame true x z = ap final (says-frame x z)
 in-frame false x z = says-frame x z
 
-in-more : (closing : Bool) (x : Seen) → waitsAt closing (x .answer) ≡ true → saysIn closing x ≡ more
+pub in-more : (closing : Bool) (x : Seen) → waitsAt closing (x .answer) ≡ true → saysIn closing x ≡ more
 unfolding waitsAt
 in-more true x e = absurd (clash e refl)
 in-more false x e = says-more x (eqb-true _ _ e)
 
-in-bad : (closing : Bool) (x : Seen) → (x .answer ≡ 0 → ⊥) → waitsAt closing (x .answer) ≡ false → saysIn closing x ≡ bad
+pub in-bad : (closing : Bool) (x : Seen) → (x .answer ≡ 0 → ⊥) → waitsAt closing (x .answer) ≡ false → saysIn closing x ≡ bad
 unfolding waitsAt
 in-bad true x ne e = ⊎-elim (λ (o : x .answer ≡ 1). ap final (says-more x o)) (λ (nm : x .answer ≡ 1 → ⊥). ap final (says-bad x ne nm)) (same (x .answer) 1)
 in-bad false x ne e = says-bad x ne (eqb-false _ _ e)
@@ -50,7 +50,7 @@ note-bad : (p : ℕ) (r : Seen) → notes true bad p r ≡ []
 unfolding noted found
 note-bad p r = refl
 
-passed : (seeking : Bool) (a : ℕ) → passedOver seeking a ≡ true → (seeking ≡ true) × (a ≡ 0 → ⊥)
+pub passed : (seeking : Bool) (a : ℕ) → passedOver seeking a ≡ true → (seeking ≡ true) × (a ≡ 0 → ⊥)
 unfolding passedOver
 passed true a e = (refl, eqb-false a 0 (not-true _ e))
 passed false a e = absurd (clash e refl)
@@ -72,7 +72,7 @@ note-read : (w : Says) (p : ℕ) (r : Seen) → notes false w p r ≡ record { p
 unfolding noted
 note-read w p r = refl
 
-not-passed : (seeking : Bool) (a : ℕ) → passedOver seeking a ≡ false → (a ≡ 0 → ⊥) → seeking ≡ false
+pub not-passed : (seeking : Bool) (a : ℕ) → passedOver seeking a ≡ false → (a ≡ 0 → ⊥) → seeking ≡ false
 unfolding passedOver
 not-passed true a e h = absurd (h (eqb-true a 0 (not-false _ e)))
 not-passed false a e h = refl

@@ -1,0 +1,4 @@
+pub mod Readings
+pub mod OneAnswer
+pub mod Promised
+pub mod RuledOut

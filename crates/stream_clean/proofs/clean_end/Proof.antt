@@ -1,0 +1,24 @@
+-- `clean_end`: the closing call, which brings no byte. Assumes nothing.
+use borrow.Author.Needs.{needs}
+use Rattle.stream_clean.proofs.clean_end.Statement.{statement}
+use Rattle.stream_clean.proofs.clean_end.Tie as tie
+
+array-share-prefix-none : tie.Need-array-share-prefix-none
+array-share-prefix-none c = search needs
+
+slice-aggregate-call : tie.Need-slice-aggregate-call
+slice-aggregate-call c = search needs
+
+call-requires : tie.Need-call-requires
+call-requires c κs = search needs
+
+same-length : tie.Need-same-length
+same-length c = search needs
+
+returns : tie.Need-returns
+returns c = c .before .before .call .ensures
+
+pub clean-end-spec : {M : Type 1} → statement M
+clean-end-spec =
+    tie.close
+    (tie.spec array-share-prefix-none slice-aggregate-call call-requires same-length returns)
