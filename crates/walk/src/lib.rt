@@ -77,7 +77,8 @@ fn carried(floor: TickNumber, top: TickNumber, map: Map) -> Ledger
     }
 }
 
-// The walk from a ledger just opened. Its loop carries what of the ledger may change. It counts every record, and writes those that have room.
+// The walk from a ledger just opened. Its loop carries what of the ledger may change. It counts
+// every record, and writes those that have room.
 fn pass(capture: &[u8], start: Ledger, out: &mut [u8]) -> Passed
     requires { ⌜ start ≡ ledgerOf (fresh 100) ⌝ }
     ensures { λ r. ⌜ (r ≡ passedOf (now (capture .entry))) × (now (out .exit) ≡ writtenFrom 0 (walkOf (now (capture .entry)) .records) (now (out .entry))) ⌝ }
