@@ -101,8 +101,8 @@ impl Job<'_> {
 fn judged(ratio: f64, goal: Option<f64>) -> String {
     match goal {
         None => String::new(),
-        Some(goal) if ratio <= goal => format!("{goal:.1}x, met"),
-        Some(goal) => format!("{goal:.1}x, missed"),
+        Some(goal) if ratio <= goal => format!("{goal:.2}x, met"),
+        Some(goal) => format!("{goal:.2}x, missed"),
     }
 }
 
@@ -142,7 +142,7 @@ fn read(input: &str, capture: &[u8], places: &[usize]) {
         name: "read",
         input,
         bytes: capture.len(),
-        goal: Some(1.5),
+        goal: Some(1.15),
     };
     job.race(
         "byte",
@@ -195,10 +195,10 @@ fn sum_and_fill() {
     let body = d.bytes(8_164);
     let f = made::frame(plain::M101, 1, &body);
     let input = "a frame of 8,192 bytes, found where it is looked for";
-    search("sum", input, &f, Some(1.1));
+    search("sum", input, &f, Some(1.05));
     let f = made::frame(plain::M201, 1, &made::tick(d, 1, 8_119));
     let input = "an M201 of 8,192 bytes, scrubbed";
-    scrub("sum, fill and sum", input, &f, &[0], 1.1);
+    scrub("sum, fill and sum", input, &f, &[0], 1.05);
     let f = made::frame(plain::M101, 1, &body);
     nothing_private(&f);
     let orders: Vec<u8> = (1..=300)
@@ -208,7 +208,7 @@ fn sum_and_fill() {
         })
         .collect();
     let input = "300 orders of 212 bytes";
-    scrub("read and scrub", input, &orders, &places(&orders), 1.5);
+    scrub("read and scrub", input, &orders, &places(&orders), 1.15);
 }
 
 /// A frame with nothing private, beside the method that sums it once more (CR 4).
@@ -301,7 +301,7 @@ fn ledgers() {
     println!("| ns a tick | ours | plain ring | ratio | goal | plain shift | ratio to it | goal |");
     println!("|---|---|---|---|---|---|---|---|");
     let in_order: Vec<u64> = (1..=20_000).collect();
-    ledger("in order", &[], &in_order, Some(0.8));
+    ledger("in order", &[], &in_order, Some(1.0));
     let mut late = Vec::new();
     for n in 1..=20_000 {
         if n % 16 != 0 {
@@ -315,19 +315,24 @@ fn ledgers() {
         "every sixteenth comes 100 ticks late",
         &[],
         &late,
-        Some(0.8),
+        Some(1.0),
     );
     // the first of each 64 comes last
     let runs: Vec<u64> = (0..312)
         .flat_map(|i| (2..=64).chain([1]).map(move |n| 64 * i + n))
         .collect();
-    ledger("runs of 64 passed at once", &[], &runs, None);
+    ledger("runs of 64 passed at once", &[], &runs, Some(1.0));
     // 1 is missing, 2 to 256 are held; far or repeated
     let held: Vec<u64> = (2..=256).collect();
     let refused: Vec<u64> = (0..20_000)
         .map(|i| if i % 2 == 0 { 257 + i } else { 2 + i % 255 })
         .collect();
-    ledger("255 held, each tick far or repeated", &held, &refused, None);
+    ledger(
+        "255 held, each tick far or repeated",
+        &held,
+        &refused,
+        Some(1.0),
+    );
 }
 
 /// Replies of status 4 on one ledger, again and again.
@@ -452,7 +457,7 @@ fn walk(input: &str, capture: &[u8]) {
         name: "walk",
         input,
         bytes: capture.len(),
-        goal: Some(1.7),
+        goal: Some(1.15),
     };
     job.race(
         "byte",
@@ -471,7 +476,7 @@ fn clean(input: &str, capture: &[u8]) {
         name: "clean",
         input,
         bytes: capture.len(),
-        goal: Some(1.7),
+        goal: Some(1.15),
     };
     job.race(
         "byte",
@@ -485,20 +490,20 @@ fn captures(input: &str, size: usize) {
     let capture = made::capture(size);
     let places = places(&capture);
     read(input, &capture, &places);
-    scrub("read and scrub", input, &capture, &places, 1.6);
+    scrub("read and scrub", input, &capture, &places, 1.15);
     walk(input, &capture);
     clean(input, &capture);
-    search("search in noise", input, &Dice(2).bytes(size), Some(2.0));
+    search("search in noise", input, &Dice(2).bytes(size), Some(1.0));
     let name = "search among false headers";
     let bytes = made::false_headers(size, plain::S003, 0);
-    search(name, &format!("{input}, empty frames"), &bytes, None);
+    search(name, &format!("{input}, empty frames"), &bytes, Some(1.0));
     if size < MB {
         let bytes = made::false_headers(size, plain::M101, 8_164);
         search(
             name,
             &format!("{input}, frames of 8,192 bytes"),
             &bytes,
-            None,
+            Some(1.0),
         );
     }
 }

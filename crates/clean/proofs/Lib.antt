@@ -2,3 +2,4 @@ mod Keeps
 mod PassLaws
 pub mod OneAnswer
 pub mod RuledOut
+mod Eights

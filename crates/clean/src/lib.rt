@@ -6,12 +6,13 @@ ghost use Prim.Native.Nat.{ℕ, _+_, _-_, _≤_, _<_};
 ghost use lib.Dec.{leb, ltb};
 ghost use lib.ListN.{length, take, drop};
 ghost use Rattle.terms.specs.Paper.{pick};
-ghost use Rattle.octets.specs.Octets.{laid};
+ghost use Rattle.octets.specs.Octets.{be, laid};
 ghost use Rattle.octets.specs.Papers.{laidIfRoom};
 ghost use Rattle.private.specs.Scrub.{scrubbed};
 ghost use Rattle.reading.specs.Seen.{seenOf};
 ghost use Rattle.walk_spec.specs.Walk.{accepts};
 ghost use Rattle.clean_spec.specs.Clean.{cleanOf, differOf, foundBy, fitsIn, cleanAnswer, cleanLeaves, checkOf};
+ghost use Rattle.clean_spec.specs.Differ.{Alike};
 ghost use Rattle.clean_spec.specs.Steps.{Steps};
 ghost use Rattle.clean.specs.Papers.{cleanPaper, checkPaper};
 ghost use Rattle.clean.specs.Passes.{passedOf, keptOf};
@@ -161,14 +162,39 @@ pub fn clean(capture: &[u8], out: &mut [u8]) -> Cleaned
     }
 }
 
+// Eight bytes as one number: lent alone, so that nothing is asked but where they stand.
+fn word(s: &[u8], at: usize) -> u64
+    requires { ⌜ at + 8 ≤ length (now s) ⌝ }
+    ensures { λ r. ⌜ r ≡ be 8 at (now (s .entry)) ⌝ }
+{
+    let end = at + 8;
+    octets::u64_at(&s[at..end], 0)
+}
+
+// How many whole words of eight bytes at the front of one stand in the capture from n on, up to the
+// first that differs; in bytes, and size at most.
+fn words(capture: &[u8], n: usize, one: &[u8], size: usize) -> usize
+    requires { ⌜ (n + size ≤ length (now capture)) × (size ≤ length (now one)) ⌝ }
+    ensures { λ r. ⌜ Alike (now (capture .entry)) (now (one .entry)) n size r ⌝ }
+{
+    let mut i: usize = 0;
+    while 8 <= size - i {
+        if word(capture, n + i) != word(one, i) {
+            return i;
+        }
+        i += 8;
+    }
+    i
+}
+
 // How many bytes at the front of one stand in the capture from n on, up to the first that differs,
-// and size at most.
+// and size at most. Words are compared first.
 fn agreed(capture: &[u8], n: usize, one: &[u8], size: usize) -> usize
     requires { ⌜ (n + size ≤ length (now capture)) × (size ≤ length (now one)) ⌝ }
     ensures { λ r. ⌜ (r ≤ size) × ((rest : List ℕ) → differOf n (drop n (now (capture .entry))) (take size (now (one .entry)) ++ rest)
         ≡ pick (ltb r size) ((n + r) ∷ []) (differOf (n + size) (drop (n + size) (now (capture .entry))) rest)) ⌝ }
 {
-    let mut i: usize = 0;
+    let mut i = words(capture, n, one, size);
     while i < size {
         if capture[n + i] != one[i] {
             return i;

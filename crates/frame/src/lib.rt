@@ -40,7 +40,8 @@ enum Head {
 }
 
 // The checks up to the whole length, of the frame at a place. The type is tested before anything
-// after it is read.
+// after it is read, and its third letter, 0 in each, before the others: in noise that one byte
+// mostly tells.
 fn head_at(bytes: &[u8], at: usize) -> Head
     ensures { λ r. ⌜ HeadSays r (drop at (now (bytes .entry))) ⌝ }
 {
@@ -50,6 +51,9 @@ fn head_at(bytes: &[u8], at: usize) -> Head
     let left = bytes.len() - at;
     if left < 24 {
         return Head::Refused(Refusal::More);
+    }
+    if octets::u8_at(bytes, at + 2) != 0x30 {
+        return Head::Refused(Refusal::MsgType);
     }
     let kind = rules::kind_of(octets::u32_at(bytes, at));
     if !rules::is_known(kind) {

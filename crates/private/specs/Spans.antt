@@ -1,6 +1,6 @@
 -- Span number i of short rows, and all spans painted within a buffer.
 use Prim.Native.Nat.{ℕ, zero, suc, _+_, _-_, _≤_}
-use mathlib.Core.Path.{_≡_, sym, ap, _∙_}
+use mathlib.Core.Path.{_≡_, refl, sym, ap, _∙_}
 use mathlib.Core.Bool.{true}
 use mathlib.Core.List.{List, _∷_}
 use native.Mathlib.Omega.{arith}
@@ -8,7 +8,7 @@ use lib.ListN.{length, take, drop, replicate, length-replicate, length-drop, Lis
 use lib.Seq.{length-take-le}
 use Rattle.octets.specs.Octets.{laid, bytesOf, sum8}
 use Rattle.octets.specs.Numerals.{length-digits}
-use Rattle.octets.specs.Overlays.{laid-same, mid-laid, length-laid}
+use Rattle.octets.specs.Overlays.{laid-nil, laid-same, mid-laid, length-laid}
 use Rattle.rules.specs.declared.Kind.{Kind}
 use Rattle.rules.specs.Table.{suits}
 use Rattle.private.specs.declared.Span.{Span}
@@ -16,7 +16,8 @@ use Rattle.private.specs.Private.{spaces, privateOf, spanAt}
 use Rattle.private.specs.Scrub.{painted, summed}
 use Rattle.private.specs.Within.{bodyIn, spanIn, spanPainted, scrubbedAs}
 use Rattle.private.specs.Paint.{Within, length-painted, painted-more, painted-agrees, within-take, within-at}
-use Rattle.private.specs.PrivateLaws.{private-few, private-within, private-same}
+use Rattle.private.specs.PrivateLaws.{private-few, private-three, private-within, private-same}
+use Rattle.private.specs.Cover.{spans-cover}
 use Rattle.octets.specs.Places.{laid-inner}
 
 -- behind the last span stands an empty one
@@ -34,6 +35,10 @@ span-third (suc (suc i)) p q ps h = let e : suc (suc i) - 2 ≡ i = omega arith 
 
 pub span-second : (i : ℕ) (p q : Span) (ps : List Span) → i ≡ 1 → q ≡ spanAt i (p ∷ q ∷ ps)
 span-second i p q ps e = rw e
+
+-- an empty span painted
+pub empty-painted : (p : Span) (e : List ℕ) → p .len ≡ 0 → spanPainted p e ≡ e
+empty-painted p e z = rw z (laid-nil (24 + p .place) e)
 
 -- THE LOOP OVER THE SPANS, of a body of n bytes within d: after i of them, d is what it was with
 -- the body so far painted
@@ -86,6 +91,31 @@ module _ (k : Kind) (n : ℕ) (d : List ℕ) (h : 24 + n ≤ length d) (m : suit
         ∙ ap (spanPainted p) q
         ∙ laid-inner 24 (p .place) (replicate (p .len) (p .fill)) (soFar i) d (rw (length-replicate (p .len) (p .fill), so-long i) fits) (room i)
         ∙ ap (λ (b : List ℕ). laid 24 b d) (sym (painted-more i (privateOf k (bodyIn n d)) (bodyIn n d)))
+
+    -- the same of a span that was read from the body as it was
+    pub one-more-of : (p : Span) → p ≡ spanAt i (privateOf k (bodyIn n d)) → spanPainted p e ≡ laid 24 (soFar (i + 1)) d
+    one-more-of p r = ap (λ (x : Span). spanPainted x e) (r ∙ sym span-now) ∙ one-more
+
+    pub fits-of : (p : Span) → p ≡ spanAt i (privateOf k (bodyIn n d)) → p .place + p .len ≤ n
+    fits-of p r = rw r fits
+
+    -- an empty one changes nothing
+    empty-more : spanAt i (privateOf k (bodyIn n d)) .len ≡ 0 → e ≡ laid 24 (soFar (i + 1)) d
+    empty-more z = sym (empty-painted (spanAt i (privateOf k (bodyIn n d))) e z) ∙ one-more-of (spanAt i (privateOf k (bodyIn n d))) refl
+
+  -- three spans are all there are
+  pub three-spans : laid 24 (soFar 3) d ≡ laid 24 (painted (privateOf k (bodyIn n d)) (bodyIn n d)) d
+  three-spans = ap (λ (ps : List Span). laid 24 (painted ps (bodyIn n d)) d) (private-three k (bodyIn n d))
+
+  -- where the first is empty, so are all
+  pub none-private : (p : Span) → p ≡ spanAt 0 (privateOf k (bodyIn n d)) → p .len ≡ 0 → d ≡ laid 24 (painted (privateOf k (bodyIn n d)) (bodyIn n d)) d
+  none-private p r z =
+      let z0 : spanAt 0 (privateOf k (bodyIn n d)) .len ≡ 0 = rw r at z in
+      let ends = spans-cover k (bodyIn n d) (rw long m) .ends-there in
+      let e1 = empty-more 0 d (sym start) z0 in
+      let e2 = empty-more 1 d e1 (ends 0 1 (omega arith) z0) in
+      let e3 = empty-more 2 d e2 (ends 0 2 (omega arith) z0) in
+      e3 ∙ three-spans
 
   -- four spans are more than there are
   pub all-spans : laid 24 (soFar 4) d ≡ laid 24 (painted (privateOf k (bodyIn n d)) (bodyIn n d)) d

@@ -1,9 +1,10 @@
 -- Document 01's table of message types, and the checks 2, 3 and 4.
-use Prim.Native.Nat.{ℕ}
+use Prim.Native.Nat.{ℕ, _/_, _%_}
 use mathlib.Core.Path.{_≡_, refl, sym, ap, _∙_}
 use mathlib.Core.Bool.{Bool, true, false}
 use mathlib.Core.List.{[], _∷_}
 use lib.Dec.{ltb, leb, eqb}
+use borrow.Author.Tests.{ne-eqb}
 use lib.ListN.{getD}
 use Rattle.terms.specs.Paper.{Paper, answer, refusal, pick}
 use Rattle.rules.specs.declared.Kind.{Kind}
@@ -89,3 +90,21 @@ kind-one k l e = sym (kind-told k) ∙ ap toldKind e ∙ kind-told l
 pub kind-is : (k : Kind) (t : ℕ) → kindPaper k ≡ typeOf t → k ≡ kindOf t
 unfolding typeOf
 kind-is k t e = kind-one k (kindOf t) e
+
+-- the third letter of each name is 0: a word with another one is no type of the table
+other-word : (t k : ℕ) → (t / 256 % 256 ≡ 0x30 → ⊥) → k / 256 % 256 ≡ 0x30 → eqb t k ≡ false
+other-word t k h is = ne-eqb t k (λ (e : t ≡ k). h (ap (λ (x : ℕ). x / 256 % 256) e ∙ is))
+
+pub kind-none : (t : ℕ) → (t / 256 % 256 ≡ 0x30 → ⊥) → kindOf t ≡ Unknown
+unfolding kindOf
+kind-none t h =
+    simp (
+      other-word t 0x53303031 h refl,
+      other-word t 0x53303032 h refl,
+      other-word t 0x53303033 h refl,
+      other-word t 0x50303031 h refl,
+      other-word t 0x50303032 h refl,
+      other-word t 0x4D313031 h refl,
+      other-word t 0x4D313032 h refl,
+      other-word t 0x4D323031 h refl,
+    )

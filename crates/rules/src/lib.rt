@@ -6,6 +6,7 @@ ghost use Rattle.terms.specs.Verdicts.{verdictNumber};
 ghost use Rattle.rules.specs.Fields.{layoutOf, suitsTail, s001Ok, s002Ok, p001Ok, p002Ok, tailOk, m201Ok, pairOk, m102ValuesOk, entrySize, entryOk, entriesOk, m102Ok, fieldsOk, judgeOf};
 use terms::Refusal;
 use terms::Verdict;
+ghost use Rattle.rules.specs.Sizes.{Entries};
 ghost use Prim.Native.Nat.{_+_, _*_, _≤_, _<_};
 
 // The types of the table, under their MsgType, and one case for every other MsgType.
@@ -151,6 +152,17 @@ fn p001_ok(b: &[u8]) -> bool
         & ((end_of_channel == 0x59) | (end_of_channel == 0x4E))
 }
 
+// The same. A body that holds all fields takes a way of its own: there the compiler knows that no
+// field lies past the end, and loads each of them without asking. So it is with the next two.
+fn p001_kept(b: &[u8]) -> bool
+    ensures { λ r. ⌜ r ≡ p001Ok (now (b .entry)) ⌝ }
+{
+    if b.len() < 12 {
+        return p001_ok(b);
+    }
+    p001_ok(b)
+}
+
 fn p002_ok(b: &[u8]) -> bool
     ensures { λ r. ⌜ r ≡ p002Ok (now (b .entry)) ⌝ }
 {
@@ -166,6 +178,15 @@ fn p002_ok(b: &[u8]) -> bool
         & (last < 1000000000000000000)
         & ((status <= 5) | (status == 99))
         & ((0 < status) | (last == 0) | (first <= last))
+}
+
+fn p002_kept(b: &[u8]) -> bool
+    ensures { λ r. ⌜ r ≡ p002Ok (now (b .entry)) ⌝ }
+{
+    if b.len() < 20 {
+        return p002_ok(b);
+    }
+    p002_ok(b)
 }
 
 // Whether an M201 body has the length of the layout that its stream and ExecType name.
@@ -196,6 +217,15 @@ fn m201_ok(b: &[u8]) -> bool
         & (price < 10000000000000)
         & (order_qty < 1000000000000000)
         & tail
+}
+
+fn m201_kept(b: &[u8]) -> bool
+    ensures { λ r. ⌜ r ≡ m201Ok (now (b .entry)) ⌝ }
+{
+    if b.len() < 45 {
+        return m201_ok(b);
+    }
+    m201_ok(b)
 }
 
 // Whether a security type and a stream, its five letters as a number, go together in an M102.
@@ -237,41 +267,59 @@ pub fn entry_size(s: u64) -> usize
     if s == 0x4D44303031 { 10 } else { 19 }
 }
 
-// The widths of the entry of w bytes at a place. The short one has a price alone.
-fn entry_ok(b: &[u8], w: usize, at: usize) -> bool
-    requires { ⌜ at < 4294967296 ⌝ }
-    ensures { λ r. ⌜ r ≡ entryOk w at (now (b .entry)) ⌝ }
+// The widths of an entry of w bytes, lent alone. The short one has a price alone.
+fn entry_ok(e: &[u8], w: usize) -> bool
+    ensures { λ r. ⌜ r ≡ entryOk w 0 (now (e .entry)) ⌝ }
 {
-    let price = octets::u64_at(b, at + 2);
-    let size = octets::u64_at(b, at + 10);
-    let position = octets::u8_at(b, at + 18);
+    let price = octets::u64_at(e, 2);
+    let size = octets::u64_at(e, 10);
+    let position = octets::u8_at(e, 18);
     (price < 10000000000000) & ((w == 10) | ((size < 1000000000000) & (position < 100)))
 }
 
+// The n entries of w bytes each that fill the body behind its fixed part. It stops at the first
+// that is not right. Each is lent alone: of a part whose length it knows the compiler need not ask
+// whether a field is there.
 fn entries_ok(b: &[u8], n: usize, w: usize) -> bool
-    requires { ⌜ (n ≤ 65535) × (w ≤ 19) ⌝ }
+    requires { ⌜ Entries w n (now b) ⌝ }
     ensures { λ r. ⌜ r ≡ entriesOk n w (now (b .entry)) ⌝ }
 {
-    let mut ok = true;
+    let mut at: usize = 73;
     let mut i: usize = 0;
-    while i < n {
-        let fine = entry_ok(b, w, 73 + i * w);
-        ok = ok & fine;
+    while at < b.len() {
+        let end = at + w;
+        if !entry_ok(&b[at..end], w) {
+            return false;
+        }
+        at = end;
         i += 1;
     }
-    ok
+    true
 }
 
+// The length is asked before the entries, and the width of an entry once: each of the two has a
+// loop of its own then.
 fn m102_ok(b: &[u8]) -> bool
     ensures { λ r. ⌜ r ≡ m102Ok (now (b .entry)) ⌝ }
 {
+    if b.len() < 73 {
+        return false;
+    }
     let stream = octets::u40_at(b, 10);
     let n = octets::u16_at(b, 71) as usize;
     let w = entry_size(stream);
+    if b.len() != 73 + n * w {
+        return false;
+    }
     let pair = pair_ok(octets::u8_at(b, 0), stream);
     let values = m102_values_ok(b);
-    let entries = entries_ok(b, n, w);
-    pair & values & (b.len() == 73 + n * w) & entries
+    if !(pair & values) {
+        return false;
+    }
+    if w == 10 {
+        return entries_ok(b, n, 10);
+    }
+    entries_ok(b, n, 19)
 }
 
 // Whether a body keeps the field rules of its type; one of no type of the table does not.
@@ -282,11 +330,11 @@ pub fn fields_ok(kind: Kind, b: &[u8]) -> bool
         Kind::S001 => s001_ok(b),
         Kind::S002 => s002_ok(b),
         Kind::S003 => true,
-        Kind::P001 => p001_ok(b),
-        Kind::P002 => p002_ok(b),
+        Kind::P001 => p001_kept(b),
+        Kind::P002 => p002_kept(b),
         Kind::M101 => true,
         Kind::M102 => m102_ok(b),
-        Kind::M201 => m201_ok(b),
+        Kind::M201 => m201_kept(b),
         Kind::Unknown => false,
     }
 }

@@ -2,3 +2,4 @@ mod Parts
 mod Lays
 pub mod OneAnswer
 pub mod RuledOut
+pub mod Painted

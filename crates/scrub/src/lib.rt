@@ -4,21 +4,18 @@ ghost use mathlib.Core.Path.{_≡_};
 ghost use mathlib.Core.Bool.{true};
 ghost use Prim.Native.Nat.{_+_, _-_, _≤_};
 ghost use lib.ListN.{length, take, drop, replicate};
-ghost use Rattle.octets.specs.Octets.{laid, sum8};
+ghost use Rattle.octets.specs.Octets.{laid, sum8, sumAfter};
 ghost use Rattle.octets.specs.Papers.{writtenPaper};
 ghost use Rattle.private.specs.Private.{privateOf};
 ghost use Rattle.private.specs.Scrub.{painted, summed, scrubAnswer, scrubbed};
-ghost use Rattle.private.specs.Within.{bodyIn, spanIn, spanPainted, scrubbedAs};
+ghost use Rattle.private.specs.Within.{bodyIn, spanPainted, scrubbedAs};
 ghost use Rattle.private.specs.Into.{frameIn, intoAnswer, intoLeaves};
 ghost use Rattle.rules.specs.Table.{suits, kindOf};
 ghost use Rattle.frame_spec.specs.Frame.{msgType, bodyLength, readOf};
 use frame::Read;
 use octets::Written;
+use private::Span;
 use rules::Kind;
-
-// More spans than any type has: from the last on they are empty, and painting an empty one
-// changes nothing.
-const SPANS: usize = 4;
 
 // Paints the bytes from a up to e: that part of the lent frame is passed on and filled.
 fn paint(buf: &mut [u8], a: usize, e: usize, fill: u8)
@@ -28,15 +25,13 @@ fn paint(buf: &mut [u8], a: usize, e: usize, fill: u8)
     octets::fill(&mut buf[a..e], fill);
 }
 
-// Paints span number i of the body of n bytes that lies after the 24 header bytes of buf. v is the
-// sum of header and body; the answer is their sum then. It is worked out before the span is filled,
-// from its bytes alone.
-fn paint_span(buf: &mut [u8], kind: Kind, n: usize, i: usize, v: u8) -> u8
-    requires { ⌜ (24 + n ≤ length (now buf)) × ((spanIn kind n i (now buf) .place + spanIn kind n i (now buf) .len ≤ n) × (v ≡ sum8 (take (24 + n) (now buf)))) ⌝ }
-    ensures { λ r. ⌜ (now (buf .exit) ≡ spanPainted (spanIn kind n i (now (buf .entry))) (now (buf .entry))) × (r ≡ sum8 (take (24 + n) (now (buf .exit)))) ⌝ }
+// Paints a span of the body that lies after the 24 header bytes of buf. v is a sum that counts its
+// bytes; the answer is that sum then. It is worked out before the span is filled, from its bytes
+// alone.
+fn paint_span(buf: &mut [u8], s: Span, v: u8) -> u8
+    requires { ⌜ 24 + (s .place + s .len) ≤ length (now buf) ⌝ }
+    ensures { λ r. ⌜ (now (buf .exit) ≡ spanPainted s (now (buf .entry))) × (r ≡ sumAfter v (take (s .len) (drop (24 + s .place) (now (buf .entry)))) (s .fill)) ⌝ }
 {
-    let end = 24 + n;
-    let s = private::private_span(kind, &buf[24..end], i);
     let a = 24 + s.place;
     let e = a + s.len;
     let w = octets::sum_after(v, buf, a, s.len, s.fill);
@@ -44,19 +39,23 @@ fn paint_span(buf: &mut [u8], kind: Kind, n: usize, i: usize, v: u8) -> u8
     w
 }
 
-// Paints the private spans of that body, whatever its type. v is the sum of header and body; the
-// answer is their sum then.
+// Paints the private spans of the body of n bytes, whatever its type: no type has more than three.
+// All are asked for before the first is painted, and where the first is empty nothing is done. v is
+// the sum of header and body; the answer is their sum then.
 fn paint_all(buf: &mut [u8], kind: Kind, n: usize, v: u8) -> u8
     requires { ⌜ (24 + n ≤ length (now buf)) × ((suits kind n ≡ true) × (v ≡ sum8 (take (24 + n) (now buf)))) ⌝ }
     ensures { λ r. ⌜ (now (buf .exit) ≡ laid 24 (painted (privateOf kind (bodyIn n (now (buf .entry)))) (bodyIn n (now (buf .entry)))) (now (buf .entry))) × (r ≡ sum8 (take (24 + n) (now (buf .exit)))) ⌝ }
 {
-    let mut w = v;
-    let mut i: usize = 0;
-    while i < SPANS {
-        w = paint_span(buf, kind, n, i, w);
-        i += 1;
+    let end = 24 + n;
+    let first = private::private_span(kind, &buf[24..end], 0);
+    if first.len == 0 {
+        return v;
     }
-    w
+    let second = private::private_span(kind, &buf[24..end], 1);
+    let third = private::private_span(kind, &buf[24..end], 2);
+    let w = paint_span(buf, first, v);
+    let x = paint_span(buf, second, w);
+    paint_span(buf, third, x)
 }
 
 // Stores v, the sum of the first n bytes, in the four after them.

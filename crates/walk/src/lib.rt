@@ -10,13 +10,16 @@ ghost use Rattle.walk_spec.specs.Onward.{Goes};
 ghost use Rattle.walk_spec.specs.Walk.{accepts, walkOf, fitsIn, walkAnswer, walkBook, walkLeaves};
 ghost use Rattle.walk_spec.specs.Tables.{writtenFrom};
 ghost use Rattle.walk.specs.Papers.{walkPaper};
-ghost use Rattle.walk.specs.Passes.{passedOf};
+ghost use Rattle.walk.specs.Passes.{carriedOf, passedOf};
 use frame::Found;
 use ledger::Answer;
 use ledger::Ledger;
+use ledger::Pending;
 use reading::Seen;
 use terms::ChannelNumber;
 use terms::Refusal;
+use terms::TickNumber;
+use tick_map::Map;
 
 // What the walk returns: 0, or 8 where the buffer can't take all records; how many records there
 // are, how many readings were frames and how many were refused; and the ledger after the last.
@@ -60,7 +63,22 @@ fn accepted(answer: u32) -> usize
     if answer == 0 { 1 } else { 0 }
 }
 
-// The walk from a ledger just opened. It counts every record, and writes those that have room.
+// The walk's ledger, of channel 100 and with nothing pending: no reading asks for a resend.
+fn carried(floor: TickNumber, top: TickNumber, map: Map) -> Ledger
+    ensures { λ r. ⌜ r ≡ carriedOf floor top map ⌝ }
+{
+    let channel = ChannelNumber::new(100);
+    Ledger {
+        channel,
+        floor,
+        top,
+        map,
+        pending: Pending::Nothing,
+    }
+}
+
+// The walk from a ledger just opened. Its loop carries what of the ledger may change. It counts
+// every record, and writes those that have room.
 fn pass(capture: &[u8], start: Ledger, out: &mut [u8]) -> Passed
     requires { ⌜ start ≡ ledgerOf (fresh 100) ⌝ }
     ensures { λ r. ⌜ (r ≡ passedOf (now (capture .entry))) × (now (out .exit) ≡ writtenFrom 0 (walkOf (now (capture .entry)) .records) (now (out .entry))) ⌝ }
@@ -68,16 +86,22 @@ fn pass(capture: &[u8], start: Ledger, out: &mut [u8]) -> Passed
     let mut p: usize = 0;
     let mut records: usize = 0;
     let mut frames: usize = 0;
-    let mut ledger = start;
+    let mut floor = start.floor;
+    let mut top = start.top;
+    let mut map = start.map;
     while p < capture.len() {
         let seen = reading::see(capture, p);
-        let after = walk_step::offer(ledger, seen);
+        let after = walk_step::offer(carried(floor, top, map), seen);
         walk_step::note(out, records, walk_step::made(p as u64, seen, after));
         p = onward(capture, p, seen);
         records += 1;
         frames += accepted(seen.answer);
-        ledger = after.ledger;
+        let next = after.ledger;
+        floor = next.floor;
+        top = next.top;
+        map = next.map;
     }
+    let ledger = carried(floor, top, map);
     Passed {
         records,
         frames,

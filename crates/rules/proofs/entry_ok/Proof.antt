@@ -5,20 +5,11 @@ use borrow.Author.Needs.{needs}
 use Rattle.rules.proofs.entry_ok.Statement.{statement}
 use Rattle.rules.proofs.entry_ok.Tie as tie
 
-add-u64-at : tie.Need-add-u64-at
-add-u64-at c = search needs
-
 u64-at-requires : tie.Need-u64-at-requires
 u64-at-requires c κs = search needs
 
-add-u64-at-2 : tie.Need-add-u64-at-2
-add-u64-at-2 c = search needs
-
 u64-at-requires-2 : tie.Need-u64-at-requires-2
 u64-at-requires-2 c κs = search needs
-
-add-u8-at : tie.Need-add-u8-at
-add-u8-at c = search needs
 
 u8-at-requires : tie.Need-u8-at-requires
 u8-at-requires c κs = search needs
@@ -28,13 +19,4 @@ unfolding entryOk
 returns c = rw (c .before .before .u64-at .ensures, c .before .u64-at2 .ensures, c .u8-at .ensures)
 
 pub entry-ok-spec : {M : Type 1} → statement M
-entry-ok-spec =
-    tie.close
-    (tie.spec
-    add-u64-at
-    u64-at-requires
-    add-u64-at-2
-    u64-at-requires-2
-    add-u8-at
-    u8-at-requires
-    returns)
+entry-ok-spec = tie.close (tie.spec u64-at-requires u64-at-requires-2 u8-at-requires returns)

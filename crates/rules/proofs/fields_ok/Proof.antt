@@ -22,14 +22,14 @@ enum-told-3 c = search needs
 enum-told-4 : tie.Need-enum-told-4
 enum-told-4 c = search needs
 
-p001-ok-requires : tie.Need-p001-ok-requires
-p001-ok-requires c κs = search needs
+p001-kept-requires : tie.Need-p001-kept-requires
+p001-kept-requires c κs = search needs
 
 enum-told-5 : tie.Need-enum-told-5
 enum-told-5 c = search needs
 
-p002-ok-requires : tie.Need-p002-ok-requires
-p002-ok-requires c κs = search needs
+p002-kept-requires : tie.Need-p002-kept-requires
+p002-kept-requires c κs = search needs
 
 enum-told-6 : tie.Need-enum-told-6
 enum-told-6 c = search needs
@@ -43,8 +43,8 @@ m102-ok-requires c κs = search needs
 enum-told-8 : tie.Need-enum-told-8
 enum-told-8 c = search needs
 
-m201-ok-requires : tie.Need-m201-ok-requires
-m201-ok-requires c κs = search needs
+m201-kept-requires : tie.Need-m201-kept-requires
+m201-kept-requires c κs = search needs
 
 enum-told-9 : tie.Need-enum-told-9
 enum-told-9 c = search needs
@@ -63,11 +63,11 @@ returns-3 c = rw (c .enum-told3 .given .1)
 
 returns-4 : tie.Need-returns-4
 unfolding fieldsOk
-returns-4 c = rw (c .before .enum-told4 .given .1) (c .p001-ok .ensures)
+returns-4 c = rw (c .before .enum-told4 .given .1) (c .p001-kept .ensures)
 
 returns-5 : tie.Need-returns-5
 unfolding fieldsOk
-returns-5 c = rw (c .before .enum-told5 .given .1) (c .p002-ok .ensures)
+returns-5 c = rw (c .before .enum-told5 .given .1) (c .p002-kept .ensures)
 
 returns-6 : tie.Need-returns-6
 unfolding fieldsOk
@@ -79,7 +79,7 @@ returns-7 c = rw (c .before .enum-told7 .given .1) (c .m102-ok .ensures)
 
 returns-8 : tie.Need-returns-8
 unfolding fieldsOk
-returns-8 c = rw (c .before .enum-told8 .given .1) (c .m201-ok .ensures)
+returns-8 c = rw (c .before .enum-told8 .given .1) (c .m201-kept .ensures)
 
 returns-9 : tie.Need-returns-9
 unfolding fieldsOk
@@ -95,14 +95,14 @@ fields-ok-spec =
     s002-ok-requires
     enum-told-3
     enum-told-4
-    p001-ok-requires
+    p001-kept-requires
     enum-told-5
-    p002-ok-requires
+    p002-kept-requires
     enum-told-6
     enum-told-7
     m102-ok-requires
     enum-told-8
-    m201-ok-requires
+    m201-kept-requires
     enum-told-9
     returns
     returns-2

@@ -1,20 +1,14 @@
 -- `kind_of`: a third letter that is not 0 is none of the table's; in an arm the number is known,
 -- and the table computes; in the last it is none of the eight. Assumes nothing.
-use Prim.Native.Nat.{ℕ, _/_, _%_}
-use mathlib.Core.Path.{_≡_, refl, ap, _∙_}
-use mathlib.Core.Bool.{false}
-use lib.Dec.{eqb}
-use Rattle.rules.specs.Table.{typeOf, kindOf}
+use mathlib.Core.Path.{sym, ap}
+use Rattle.rules.specs.Table.{typeOf, kindOf, kindPaper, kind-none}
 use borrow.Author.Tests.{ne-eqb}
 use Rattle.rules.proofs.kind_of.Statement.{statement}
 use Rattle.rules.proofs.kind_of.Tie as tie
 
-other : (c : tie.Then1) (k : ℕ) → k / 256 % 256 ≡ 0x30 → eqb (c .before .args .t) k ≡ false
-other c k is = ne-eqb _ k (λ (e : c .before .args .t ≡ k). c .if1 .taken (ap (λ (x : ℕ). x / 256 % 256) e ∙ is))
-
 returns : tie.Need-returns
-unfolding typeOf kindOf
-returns c = simp (other c 0x53303031 refl, other c 0x53303032 refl, other c 0x53303033 refl, other c 0x50303031 refl, other c 0x50303032 refl, other c 0x4D313031 refl, other c 0x4D313032 refl, other c 0x4D323031 refl)
+unfolding typeOf
+returns c = sym (ap kindPaper (kind-none (c .before .args .t) (c .if1 .taken)))
 
 returns-2 : tie.Need-returns-2
 unfolding typeOf kindOf

@@ -1,26 +1,30 @@
--- `pass`. The invariant: the ledger is that of the calls so far, and what is left at p, behind the
--- records and frames so far, gives what the whole walk gives (`Left`). The measure is what is left
--- of the capture. Assumes nothing.
+-- `pass`. The invariant: what is carried is the ledger of the calls so far, and what is left at p,
+-- behind the records and frames so far, gives what the whole walk gives (`Left`). The measure is
+-- what is left of the capture. Assumes nothing.
 use native.Mathlib.Omega.{arith}
 use Prim.Native.Nat.{_-_}
 use lib.ListN.{length}
 use borrow.Author.Needs.{needs}
 use Rattle.walk_spec.specs.Counts.{accepts-one}
+use Rattle.walk.specs.Passes.{carriedOf}
 use Rattle.walk.proofs.PassLaws.{Left, left-start, left-step, left-end}
 use Rattle.walk.proofs.pass.Statement.{statement}
 use Rattle.walk.proofs.pass.Tie as tie
 
 abbrev Inv-loop : tie.InvT-loop
-Inv-loop capture out₀ p₀ records₀ frames₀ ledger₀ out p records frames ledger = Left capture out₀ out p records frames ledger
+Inv-loop capture out₀ p₀ records₀ frames₀ floor₀ top₀ map₀ out p records frames floor top map = Left capture out₀ out p records frames (carriedOf floor top map)
 
 abbrev μ-loop : tie.MeasureT-loop
-μ-loop capture out₀ p₀ records₀ frames₀ ledger₀ out p records frames ledger = length capture - p
+μ-loop capture out₀ p₀ records₀ frames₀ floor₀ top₀ map₀ out p records frames floor top map = length capture - p
 
 loop-holds : tie.Need-loop-holds Inv-loop μ-loop
-loop-holds c = left-start _ _ _ (c .before .before .pre)
+loop-holds c = left-start _ _ _ (c .before .before .before .before .before .pre)
 
 see-requires : tie.Need-see-requires Inv-loop μ-loop
 see-requires c κs = search needs
+
+carried-requires : tie.Need-carried-requires Inv-loop μ-loop
+carried-requires c κs = search needs
 
 offer-requires : tie.Need-offer-requires Inv-loop μ-loop
 offer-requires c κs = search needs
@@ -32,30 +36,34 @@ note-requires : tie.Need-note-requires Inv-loop μ-loop
 note-requires c κs = search needs
 
 onward-requires : tie.Need-onward-requires Inv-loop μ-loop
-onward-requires c κs = (omega arith, c .before .before .before .before .before .before .see .ensures)
+onward-requires c κs = (omega arith, c .before .before .before .before .before .before .before .see .ensures)
 
 add-records : tie.Need-add-records Inv-loop μ-loop
-add-records c = omega (arith, c .before .before .before .before .before .before .before .before .before .loop .inv .few)
+add-records c = omega (arith, c .before .before .before .before .before .before .before .before .before .before .loop .inv .few)
 
 accepted-requires : tie.Need-accepted-requires Inv-loop μ-loop
 accepted-requires c κs = search needs
 
 add-frames : tie.Need-add-frames Inv-loop μ-loop
-add-frames c = omega (arith, c .before .before .before .before .before .before .before .before .before .before .loop .inv .few, c .before .before .before .before .before .before .before .before .before .before .loop .inv .frames-few, accepts-one _ _ (c .accepted .ensures))
+add-frames c = omega (arith, c .before .before .before .before .before .before .before .before .before .before .before .loop .inv .few, c .before .before .before .before .before .before .before .before .before .before .before .loop .inv .frames-few, accepts-one _ _ (c .accepted .ensures))
 
 loop-less : tie.Need-loop-less Inv-loop μ-loop
-loop-less c = omega (arith, c .before .before .onward .ensures .further, c .before .before .onward .ensures .inside)
+loop-less c = omega (arith, c .before .before .before .before .before .onward .ensures .further, c .before .before .before .before .before .onward .ensures .inside)
 
 loop-again : tie.Need-loop-again Inv-loop μ-loop
 loop-again c =
-    left-step (c .before .before .before .before .before .before .before .before .before .before .before .loop .inv) (c .before .before .before .before .before .before .before .before .before .see .ensures) (c .before .before .before .before .before .before .before .before .offer .ensures)
-    (c .before .before .before .before .before .before .made .ensures) (c .before .before .before .before .before .note .ensures) (c .before .before .onward .ensures) (c .before .accepted .ensures)
+    let n = c .before .before .before .before .before .before .before .before in
+    left-step (n .before .before .before .before .before .before .before .loop .inv) (n .before .before .before .before .carried .ensures) (n .before .before .before .before .before .see .ensures) (n .before .before .before .offer .ensures) (n .before .made .ensures) (n .note .ensures)
+    (c .before .before .before .before .before .onward .ensures) (c .before .before .before .before .accepted .ensures)
+
+carried-requires-2 : tie.Need-carried-requires-2 Inv-loop μ-loop
+carried-requires-2 c κs = search needs
 
 same-length : tie.Need-same-length Inv-loop μ-loop
-same-length c = c .before .loop .inv .room
+same-length c = c .before .before .loop .inv .room
 
 returns : tie.Need-returns Inv-loop μ-loop
-returns c = left-end (c .before .loop .inv) (c .loop-test .left)
+returns c = left-end (c .before .before .loop .inv) (c .carried2 .ensures) (c .before .loop-test .left)
 
 pub pass-spec : {M : Type 1} → statement M
 pass-spec =
@@ -65,6 +73,7 @@ pass-spec =
     μ-loop
     loop-holds
     see-requires
+    carried-requires
     offer-requires
     made-requires
     note-requires
@@ -74,5 +83,6 @@ pass-spec =
     add-frames
     loop-less
     loop-again
+    carried-requires-2
     same-length
     returns)
