@@ -95,6 +95,7 @@ longRecord =
 abbrev behindLongest : Record
 behindLongest =
     record { place = 8192; «msg_type» = 0x53303033; answer = 0; seq = sessionOf 1; tick = tickOf 0; channel = channelOf 0; «body_len» = 0; floor = tickOf 0; top = tickOf 0 }
+
 -- a stream, and how many bytes a call brings
 abbrev pub may-take-wrong : List (Row (Stream × ℕ) Paper)
 may-take-wrong =
