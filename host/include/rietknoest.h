@@ -258,7 +258,8 @@ uint32_t rk_ledger_reply(rk_ledger *state, uint16_t channel, uint64_t first, uin
                          rk_settled *told);
 
 /* A new session of the line begins: what was requested on the old line will not be answered on the
- * new one, and is no longer pending. Nothing else changes.
+ * new one, and is no longer pending. Nothing else changes. Not for a row of a table: its
+ * rk_channels_renew does this for the whole table.
  * Returns 0, 13. 0 writes *state. */
 uint32_t rk_ledger_renew(rk_ledger *state);
 
