@@ -1,4 +1,5 @@
--- `out4`: the number turned round and stored low byte first, which is the number high byte first. Assumes nothing.
+-- `out4`: the number turned round and stored low byte first, which is the number high byte first.
+-- Assumes nothing.
 use borrow.Author.Needs.{needs}
 use native.Mathlib.Omega.{arith}
 use mathlib.Core.Path.{_≡_, sym, ap, _∙_}

@@ -1,5 +1,5 @@
--- `store_each`. The invariant: what is left of the number, laid over what stands there now, gives what
--- is to be. The measure is the bytes left. Assumes nothing.
+-- `store_each`. The invariant: what is left of the number, laid over what stands there now, gives
+-- what is to be. The measure is the bytes left. Assumes nothing.
 use borrow.Author.Needs.{needs}
 use native.Mathlib.Omega.{arith}
 use Prim.Native.Nat.{_≤_}

@@ -1,5 +1,5 @@
--- `m102_ok`: each test that is not passed is a part of the definition that is false; behind them all
--- the entries alone decide. The products stay small. Assumes nothing.
+-- `m102_ok`: each test that is not passed is a part of the definition that is false; behind them
+-- all the entries alone decide. The products stay small. Assumes nothing.
 use native.Mathlib.Omega.{arith}
 use Prim.Native.Nat.{ℕ, _+_, _*_, _≤_}
 use mathlib.Core.Path.{_≡_, refl, sym, ap, _∙_}
