@@ -27,7 +27,7 @@ use Rattle.reading.specs.declared.Seen.{Seen}
 use Rattle.walk_step.specs.declared.Offered.{Offered}
 use Rattle.walk.specs.declared.Passed.{Passed}
 use Rattle.reading.specs.Seen.{seenOf, saysOf}
-use Rattle.walk_spec.specs.Offers.{callsFor, callsBy, answered, offerOf}
+use Rattle.walk_spec.specs.Offers.{callsFor, callsBy, offering, offerOf}
 use Rattle.walk_spec.specs.CallLaws.{book-added}
 use Rattle.walk_spec.specs.Onward.{Goes}
 use Rattle.walk_spec.specs.Walk.{madeOf, recordBy, bookBy, walkOf, sights, added, accepts, framesOf}
@@ -56,8 +56,8 @@ next-kept : (b : Book) (call : Call) → Kept (done b call) b → Kept (nextOf b
 unfolding nextOf raised
 next-kept b call h = pick-kept (eqb (numberTo b call) 0) (eqb (numberTo b call) 12) _ _ b b h (refl, refl) (refl, refl)
 
-calls-kept : (b : Book) (m : ℕ) (k : Kind) (channel n : ℕ) → Kept (answered b m (callsFor k channel n) .book) b
-unfolding answered done taken raised
+calls-kept : (b : Book) (m : ℕ) (k : Kind) (channel n : ℕ) → Kept (offering b m (callsFor k channel n) .book) b
+unfolding offering done taken raised
 calls-kept b m S001 channel n = (refl, refl)
 calls-kept b m S002 channel n = (refl, refl)
 calls-kept b m S003 channel n = (refl, refl)
@@ -68,8 +68,8 @@ calls-kept b m M102 channel n = (refl, refl)
 calls-kept b m M201 channel n = next-kept b (Tick channel n) (refl, refl)
 calls-kept b m Unknown channel n = (refl, refl)
 
-either-kept : (t : Bool) (b : Book) (m : ℕ) (k : Kind) (channel n : ℕ) → Kept (answered b m (pick t (callsFor k channel n) []) .book) b
-unfolding answered
+either-kept : (t : Bool) (b : Book) (m : ℕ) (k : Kind) (channel n : ℕ) → Kept (offering b m (pick t (callsFor k channel n) []) .book) b
+unfolding offering
 either-kept true b m k channel n = calls-kept b m k channel n
 either-kept false b m k channel n = (refl, refl)
 
