@@ -180,8 +180,7 @@ pub rk-walk-then-listing : (κs : Lfts 4) (a b : Dens κs rk-walk-kinds.ps) (x y
 rk-walk-then-listing κs a b x y s t g p q ιs c d u v k l n e f h i m o =
     let w = both-one (now (s .1 .1 .1 .0)) (both (now (s .1 .1 .0)) (now (s .1 .0))) (now (t .1 .1 .1 .0)) (both (now (t .1 .1 .0)) (now (t .1 .0))) (rk-walk-cant-tell κs a b x y s t g p q .1) in
     let z = both-one (now (s .1 .1 .0)) (now (s .1 .0)) (now (t .1 .1 .0)) (now (t .1 .0)) (w .1) in
-    rk-listing-cant-tell ιs c d u v k l
-    (
+    rk-listing-cant-tell ιs c d u v k l (
       (e .records ∙ ap (take n) (z .1) ∙ sym (f .records), (e .frames ∙ ap (λ (r : List ℕ). getD r 1 0) (w .0) ∙ sym (f .frames), e .refused ∙ ap (λ (r : List ℕ). getD r 2 0) (w .0) ∙ sym (f .refused))),
       (e .words ∙ z .0 ∙ sym (f .words), (h, i)),
     )
