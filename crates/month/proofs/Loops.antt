@@ -1,4 +1,5 @@
--- The loops that look at every place of a page: what is known of the places passed. Assumes nothing.
+-- The loops that look at every place of a page: what is known of the places passed. Assumes
+-- nothing.
 use Prim.Native.Nat.{ℕ, _+_, _-_, _*_, _≤_, _<_}
 use mathlib.Core.Path.{_≡_, refl, sym, ap, _∙_}
 use mathlib.Core.Bool.{Bool, true, false, _&&_}

@@ -5,13 +5,14 @@
 use Prim.Native.Nat.{ℕ, _+_, _*_, _≤_, _<_}
 use mathlib.Core.Path.{_≡_, refl, sym, ap, ap₂, _∙_}
 use mathlib.Core.Bool.{Bool, true, false}
-use mathlib.Core.Logic.{_↔_}
+use mathlib.Core.Logic.{⊎-elim, _↔_}
 use mathlib.Core.List.{List, [], _∷_}
 use native.Mathlib.Omega.{arith}
 use denote.Ref.{now}
 use lib.Dec.{eqb}
 use lib.ListN.{length, getD, take}
-use borrow.Author.Tests.{eq-eqb}
+use borrow.Author.Tests.{eq-eqb, ne-eqb}
+use Rattle.terms.specs.Cases.{same}
 use Rattle.terms.specs.Paper.{Paper, answer, one-number}
 use Rattle.octets.specs.Overlays.{take-front}
 use Rattle.clean_spec.specs.Clean.{cleanOf, fitsIn, cleanAnswer, cleanLeaves}
@@ -40,6 +41,12 @@ use Rattle.month.proofs.Month.started.Reads as started
 use Rattle.month.proofs.Month.started.Kinds as started-kinds
 use Rattle.month.proofs.Month.added.Reads as added
 use Rattle.month.proofs.Month.added.Kinds as added-kinds
+use Rattle.host_month.specs.Words.{wordsOf, pageWords, startWords, wordsAfter}
+use Rattle.host_month.proofs.WordLaws.{words-back}
+use Rattle.host_month.proofs.rk_month_start.Reads as rk-month-start
+use Rattle.host_month.proofs.rk_month_start.Kinds as rk-month-start-kinds
+use Rattle.host_month.proofs.rk_month_add.Reads as rk-month-add
+use Rattle.host_month.proofs.rk_month_add.Kinds as rk-month-add-kinds
 use Rattle.promises.specs.Calls.{Promises}
 
 -- ======== One capture
@@ -52,9 +59,9 @@ pub record AddCall (m : Month) (s : List ℕ) (x : Added) : Type 0 where
 pub added-call : Promises _ added-kinds.ps added-kinds.r added.Post (λ κs a x s. AddCall (a .0) (now (a .1 .0)) x)
 added-call κs a x s p = record { paper = p .0; page = p .1 }
 
--- "for each of up to 32 channels named at the start, ticks received, repeated, refused as far, still
--- missing, and P002 frames of status 0 and of status 4": what a capture answered 0 is told, for
--- each named place and each of the six, is the figure counted from its calls
+-- "for each of up to 32 channels named at the start, ticks received, repeated, refused as far,
+-- still missing, and P002 frames of status 0 and of status 4": what a capture answered 0 is told,
+-- for each named place and each of the six, is the figure counted from its calls
 pub figures-counted : (m : Month) (s : List ℕ) (x : Added) → AddCall m s x → x .answer ≡ 0
     → (place figure : ℕ) → place < m .named → figure < 6 → getD (x .figures) (6 * place + figure) 0 ≡ figureOf (getD (m .channels) place 0) s figure
 unfolding answerTo figuresTold
@@ -198,6 +205,43 @@ given-28 = Given.given-28
 -- "the page so far stays": a refusal gives back the very page
 pub page-stays : (m : Month) (s : List ℕ) (x : Added) → AddCall m s x → (x .answer ≡ 0 → ⊥) → x .page ≡ m
 page-stays m s x c ne = month.added-refused-stays m s x (c .paper) (c .page) ne
+
+-- ======== For C and Rust: the words are those of the page, after every row of calls
+
+-- captures fed to the words of a page, refused ones among them, by whatever meets the promise of
+-- rk_month_add
+pub data HostRan : List ℕ → List Capture → List ℕ → Type 0 where
+  h-start : {w : List ℕ} → HostRan w [] w
+  h-more : {w v u : List ℕ} {s : Capture} {more : List Capture} → v ≡ wordsAfter w s → HostRan v more u → HostRan w (s ∷ more) u
+
+pub host-added : Promises _ rk-month-add-kinds.ps rk-month-add-kinds.r rk-month-add.Post (λ κs a x s. now (s .0) ≡ wordsAfter (now (a .0)) (now (a .1 .0)))
+host-added κs a x s p = p .1
+
+module _ (p : Page) (r : PageRules p) (s : Capture) where
+  -- a call on a page's words is a call on the page
+  host-next : wordsAfter (wordsOf p) s ≡ wordsOf (nextOf p s)
+  unfolding wordsAfter
+  host-next =
+      rw (words-back p r)
+      (⊎-elim (λ (z : numberTo p s ≡ 0). rw (eq-eqb (numberTo p s) 0 z)) (λ (ne : numberTo p s ≡ 0 → ⊥). rw (ne-eqb (numberTo p s) 0 ne) (ap wordsOf (sym (Given.page-stays p s ne)))) (same (numberTo p s) 0))
+
+  -- and tells what the page's call answers
+  pub host-told : answerTo (pageWords (wordsOf p)) s ≡ answerTo p s
+  host-told = ap (λ (q : Page). answerTo q s) (words-back p r)
+
+pub host-page : (p : Page) → PageRules p → (ss : List Capture) (w v : List ℕ) → w ≡ wordsOf p → HostRan w ss v → v ≡ wordsOf (pageAfter p ss)
+unfolding pageAfter
+host-page p r [] w v e h-start = e
+host-page p r (s ∷ ss) w v e (h-more {v = u} n h) =
+    host-page (nextOf p s) (Given.rules-kept p s r) ss u v (n ∙ ap (λ (x : List ℕ). wordsAfter x s) e ∙ host-next p r s) h
+
+-- the start's words are those of a page that keeps its rules
+pub host-started : Promises _ rk-month-start-kinds.ps rk-month-start-kinds.r rk-month-start.Post
+    (λ κs a x s. x ≡ 0 → (now (s .1 .0) ≡ wordsOf (startPage (now (a .0)))) × PageRules (startPage (now (a .0))))
+unfolding startWords startPage
+host-started κs a x s p z =
+    let n : startNumber (now (a .0)) ≡ 0 = sym (p .0) ∙ z in
+    (p .1 ∙ rw (eq-eqb (startNumber (now (a .0))) 0 n), Starts.started-rules (now (a .0)))
 
 -- ======== Page and listing
 -- For channel 100: received is how many numbers the walk's records bring, missing is the listing's.

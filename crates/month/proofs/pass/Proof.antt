@@ -1,6 +1,6 @@
--- The invariant: the named rows are those of the accepted frames so far, and these with what is left
--- at p are all frames of the capture (`Left`). The measure is what is left of the capture. Assumes
--- nothing.
+-- The invariant: the named rows are those of the accepted frames so far, and these with what is
+-- left at p are all frames of the capture (`Left`). The measure is what is left of the capture.
+-- Assumes nothing.
 use native.Mathlib.Omega.{arith}
 use Prim.Native.Nat.{ℕ, _-_, _≤_}
 use mathlib.Core.Path.{_≡_, ap, _∙_}
