@@ -63,7 +63,7 @@ or-true-right : (u v : Bool) → v ≡ true → u || v ≡ true
 or-true-right true v e = refl
 or-true-right false v e = e
 
-index-rules : (x : Index) → indexSound x ≡ true → IndexRules x
+pub index-rules : (x : Index) → indexSound x ≡ true → IndexRules x
 unfolding indexSound
 index-rules x e =
     let p = both _ _ e in
@@ -175,7 +175,7 @@ module _ (x : Channels) (i : ℕ) (once : Bool) where
   bool-iff : {u v : Bool} → (u ≡ true → v ≡ true) → (v ≡ true → u ≡ true) → u ≡ v
   bool-iff {u} {v} f g = ⊎-elim (λ y. y ∙ sym (f y)) (λ n. n ∙ sym (false-of v (λ y. clash (g y) n))) (two u)
 
-  row-rules : good ≡ true → RowRules x i
+  pub row-rules : good ≡ true → RowRules x i
   unfolding rowFits
   row-rules e =
       let p = both _ _ e in

@@ -37,7 +37,8 @@ use Rattle.channels_spec.proofs.Places.{its-place, not-free}
 use Rattle.channels_spec.proofs.Agree.{Holder, Agrees, agrees, quiet-line, never-quiet}
 use Rattle.channels_spec.proofs.Demand.{held-demand, said-answers, given-request, whose-turn, one-pending, nothing-waits, new-session-told}
 use Rattle.channels_spec.proofs.Fair.{asked-within-32, last-asked}
-use Rattle.channels_spec.proofs.Given.{given-10-opening, given-22, given-21, given-18, lowest-free, closing-frees, refused-keeps, new-session, never-13}
+use Rattle.channels_spec.proofs.Given.{given-10-opening, given-22, given-21, given-0-opening, given-18, lowest-free, closing-frees, refused-keeps, new-session, never-13}
+use Rattle.channels_seam.proofs.Table.{given-0-closing, tells}
 use Rattle.channels.specs.declared.Channels.{Channels}
 use Rattle.channels.specs.declared.ChannelCall.{ChannelCall}
 use Rattle.channels.specs.declared.ChannelTold.{ChannelTold}
@@ -46,40 +47,40 @@ use Rattle.channels.specs.Answered.{rowOf, blank}
 use Rattle.channels.specs.Serves.{rowAt, answeredBy, Serves}
 use Rattle.channels.proofs.Keeps.{served-keeps}
 use Rattle.channels_seam.specs.Kept.{FreeAt, HeldAt, PlaceAt, Kept, callOf, seen, LentRan}
-use Rattle.channels_seam.specs.Lent.{isUsed, nameAt, bookAt, LentChannel, LentPlace, LentAnswers, LentPending, LentTurn, LentThen, no-more, and-then, OtherPlaces, LentOpens, LentCloses, LentOpening, LentNotOpen, LentRaises, LentSession}
+use Rattle.channels_seam.specs.Lent.{isUsed, nameAt, bookAt, LentChannel, LentPlace, LentAnswers, LentPending, LentTurn, LentThen, no-more, and-then, OtherPlaces, LentOpens, LentCloses, LentFree, LentOpening, LentClosing, LentNotOpen, LentRaises, LentSession}
 use Rattle.channels_seam.proofs.Puts.{waits-at}
 use Rattle.channels_seam.proofs.Turns.{held-at, row-book, pending-low}
 use Rattle.channels_seam.proofs.Ran.{lent-call, Ran, ran, ran-more, with-ran}
 
 -- ======== What stands at a place
 
-record Standing (x : Channels) (t : Table) (i : ℕ) : Type 0 where
-  book : Book
-  is : t .place i ≡ holds book
-  held : HeldAt x i book
+pub record Standing (x : Channels) (t : Table) (i : ℕ) : Type 0 where
+  pub book : Book
+  pub is : t .place i ≡ holds book
+  pub held : HeldAt x i book
 
 module _ (x : Channels) (t : Table) (k : Kept x t) (i : ℕ) (l : i < 32) where
-  standing : isUsed x i → Standing x t i
+  pub standing : isUsed x i → Standing x t i
   standing y = at (t .place i) refl (k .each i l)
     where
       at : (p : Place) → t .place i ≡ p → PlaceAt x i p → Standing x t i
       at free e a = absurd (clash y (a .unused))
       at (holds b) e a = record { book = b; is = e; held = a }
 
-  is-free : isSet (x .index .used) i ≡ false → t .place i ≡ free
+  pub is-free : isSet (x .index .used) i ≡ false → t .place i ≡ free
   is-free y = at (t .place i) refl (k .each i l)
     where
       at : (p : Place) → t .place i ≡ p → PlaceAt x i p → t .place i ≡ free
       at free e a = e
       at (holds b) e a = absurd (clash (a .used-is) y)
 
-  free-at : t .place i ≡ free → FreeAt x i
+  pub free-at : t .place i ≡ free → FreeAt x i
   free-at e = subst (PlaceAt x i) e (k .each i l)
 
   used-not-free : (t .place i ≡ free → ⊥) → isUsed x i
   used-not-free n = ⊎-elim (λ y. y) (λ y. absurd (n (is-free y))) (two (isSet (x .index .used) i))
 
-  book-is : (b : Book) → t .place i ≡ holds b → bookAt x i ≡ b
+  pub book-is : (b : Book) → t .place i ≡ holds b → bookAt x i ≡ b
   book-is b e = row-book x t k i b l e
 
 -- a place that two tables have alike is kept alike
@@ -118,6 +119,16 @@ numberIn (To c (Reply first status)) = first
 numberIn (To c (Between p z)) = p
 numberIn (Told c) = 0
 numberIn Renew = 0
+
+-- a channel is open exactly where its ledger stands
+pub open-in : (channel : ℕ) (calls : Calls) → opened channel (trace calls) ≡ true → OpenIn (after calls) channel
+open-in channel calls e = let q = agrees calls .open-to channel e in record { place = q .place; book = q .book; is = q .is; own = q .own }
+
+pub in-open : (channel : ℕ) (calls : Calls) → OpenIn (after calls) channel → opened channel (trace calls) ≡ true
+in-open channel calls o = agrees calls .open-from (o .place) (o .book) channel (o .is) (o .own)
+
+pub not-in : (channel : ℕ) (calls : Calls) → opened channel (trace calls) ≡ false → OpenIn (after calls) channel → ⊥
+not-in channel calls e o = clash (in-open channel calls o) e
 
 -- ======== Each channel
 
@@ -188,7 +199,7 @@ module _ {h : History} {x : Channels} (r : LentRan h x) where
     a = seen (callOf call) told
 
     -- in a row of calls
-    one-call : (P : History → Type 0) → ((calls : Calls) → Kept x (after calls) → a ≡ answerTo (after calls) (callOf call) → Kept next (nextOf (after calls) (callOf call)) → P (trace calls)) → P h
+    pub one-call : (P : History → Type 0) → ((calls : Calls) → Kept x (after calls) → a ≡ answerTo (after calls) (callOf call) → Kept next (nextOf (after calls) (callOf call)) → P (trace calls)) → P h
     one-call P f = with-ran P r (λ calls k. (let d = lent-call x next (after calls) call told k s in f calls k (d .0) (d .1)))
 
     pub lent-answers : (channel : ℕ) → opened channel h ≡ true → LentAnswers h channel (callOf call) a
@@ -198,6 +209,7 @@ module _ {h : History} {x : Channels} (r : LentRan h x) where
           announcement = λ n f. subst (AnnounceAnswers n) (sym (e ∙ ap (answerTo (after calls)) f)) (q .announcement n);
           reply = λ first status f. subst (ReplyAnswers _ first status) (sym (e ∙ ap (answerTo (after calls)) f)) (q .reply first status);
           between = λ p z f. subst (BetweenAnswers _ p z) (sym (e ∙ ap (answerTo (after calls)) f)) (q .between p z);
+          told = λ f. e ∙ ap (answerTo (after calls)) f ∙ tells channel calls .of-open o;
         }))
 
     -- "16 also for a reply on an open channel other than the one asked"
@@ -281,16 +293,6 @@ module _ {h : History} {x : Channels} (r : LentRan h x) where
               others = others-alike x next t u k m (w .was .place) (w .others) (w .last-same);
             }
 
-    -- a channel is open exactly where its ledger stands
-    open-in : (channel : ℕ) (calls : Calls) → opened channel (trace calls) ≡ true → OpenIn (after calls) channel
-    open-in channel calls e = let q = agrees calls .open-to channel e in record { place = q .place; book = q .book; is = q .is; own = q .own }
-
-    in-open : (channel : ℕ) (calls : Calls) → OpenIn (after calls) channel → opened channel (trace calls) ≡ true
-    in-open channel calls o = agrees calls .open-from (o .place) (o .book) channel (o .is) (o .own)
-
-    not-in : (channel : ℕ) (calls : Calls) → opened channel (trace calls) ≡ false → OpenIn (after calls) channel → ⊥
-    not-in channel calls e o = clash (in-open channel calls o) e
-
     pub lent-opening : (channel : ℕ) → callOf call ≡ Open channel → LentOpening h x channel a
     lent-opening channel f = one-call (λ g. LentOpening g x channel a) (λ calls k e m. at calls k (ap (λ (p : Paper). p .number) (e ∙ ap (answerTo (after calls)) f)))
       where
@@ -308,6 +310,17 @@ module _ {h : History} {x : Channels} (r : LentRan h x) where
                     (g .small, (false-of _ (λ o. g .new (open-in channel calls o)), λ i l. used-not-free x t k i l (g .full i l)))),
                 λ n. e ∙ given-21 t channel (k .rules) .1 (record { small = n .0; new = not-in channel calls (n .1 .0); full = λ i l q. clash (n .1 .1 i l) (free-at x t k i l q .unused) }),
               );
+              exactly-0 = (
+                λ n. (let g = given-0-opening t channel (k .rules) .0 (sym e ∙ n) in
+                    (g .small, (false-of _ (λ o. g .new (open-in channel calls o)), record { place = g .place; below-32 = g .below-32; is-free = free-at x t k (g .place) (g .below-32) (g .is-free) .unused }))),
+                λ n. e ∙ given-0-opening t channel (k .rules) .1 (record {
+                  small = n .0;
+                  new = not-in channel calls (n .1 .0);
+                  place = n .1 .1 .place;
+                  below-32 = n .1 .1 .below-32;
+                  is-free = is-free x t k (n .1 .1 .place) (n .1 .1 .below-32) (n .1 .1 .is-free);
+                }),
+              );
             }
 
     -- "18 for a channel not open": exactly where the call names a channel that is not
@@ -317,6 +330,27 @@ module _ {h : History} {x : Channels} (r : LentRan h x) where
           record { channel = g .channel; named = g .named; not-open = false-of _ (λ o. g .not-open (open-in (g .channel) calls o)) }),
       λ n. ap (λ (p : Paper). p .number) e ∙ given-18 (after calls) (callOf call) (k .rules) .1 (record { channel = n .channel; named = n .named; not-open = not-in (n .channel) calls (n .not-open) }),
     ))
+
+    -- a closing is answered 0 exactly for an open channel, and else 18
+    pub lent-closing : (channel : ℕ) → callOf call ≡ Close channel → LentClosing h channel a
+    lent-closing channel f = one-call (λ g. LentClosing g channel a) (λ calls k e m. at calls k (ap (λ (p : Paper). p .number) (e ∙ ap (answerTo (after calls)) f)))
+      where
+        at : (calls : Calls) → Kept x (after calls) → a .number ≡ answerTo (after calls) (Close channel) .number → LentClosing (trace calls) channel a
+        at calls k e =
+            let t = after calls in
+            record {
+              exactly-0 = (
+                λ n. in-open channel calls (given-0-closing t channel (k .rules) .0 (sym e ∙ n)),
+                λ o. e ∙ given-0-closing t channel (k .rules) .1 (open-in channel calls o),
+              );
+              exactly-18 = (
+                λ n. false-of _ (λ o. apart-0-18 (e ∙ given-0-closing t channel (k .rules) .1 (open-in channel calls o)) n),
+                λ o. e ∙ given-18 t (Close channel) (k .rules) .1 (record { channel = channel; named = refl; not-open = not-in channel calls o }),
+              );
+            }
+          where
+            apart-0-18 : {n : ℕ} → n ≡ 0 → n ≡ 18 → ⊥
+            apart-0-18 p q = omega (arith, p, q)
 
     -- 12 raises the top of the channel that the tick names, and changes nothing else
     pub lent-raises : (channel n : ℕ) → callOf call ≡ To channel (Tick n) → answered a 12 ≡ true → LentRaises x channel n next

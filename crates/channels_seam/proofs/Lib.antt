@@ -4,6 +4,8 @@ pub mod Turns
 pub mod Sees
 pub mod Step
 pub mod Ran
+pub mod Table
 pub mod Lent
 pub mod Broken
 pub mod Numbers
+pub mod Stays

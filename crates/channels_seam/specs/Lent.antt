@@ -7,7 +7,7 @@ use mathlib.Core.Bool.{true, false}
 use mathlib.Core.Logic.{_↔_}
 use Prim.Native.Nat.{ℕ, _+_, _%_, _≤_, _<_}
 use lib.ListN.{getD}
-use Rattle.terms.specs.Paper.{Paper}
+use Rattle.terms.specs.Paper.{Paper, answer}
 use Rattle.tick_map.specs.Bits.{isSet}
 use Rattle.ledger_spec.specs.State.{Book}
 use Rattle.ledger_spec.specs.Calls.{fresh}
@@ -18,11 +18,12 @@ use Rattle.ledger_spec.specs.Answers as ledger-answers
 use Rattle.ledger_spec.specs.Between.{BetweenAnswers}
 use Rattle.ledger_spec.specs.Demand3.{Demand3}
 use Rattle.host_words.specs.Words.{bookIn}
-use Rattle.channels_spec.specs.Calls.{Call, Open, To, Tick, Announce, Reply, Between}
+use Rattle.channels_spec.specs.Calls.{Call, Open, To, Told, Tick, Announce, Reply, Between}
 use Rattle.channels_spec.specs.Trace.{History, _▸_⇒_}
 use Rattle.channels_spec.specs.Words.{opened, since, ownHistory, Line, quiet, asks, line, pendingOn}
 use Rattle.channels_spec.specs.Demand.{Misses}
 use Rattle.channels_spec.specs.Given.{Names}
+use Rattle.channels_seam.specs.Table.{toldFrom}
 use Rattle.channels.specs.declared.Channels.{Channels}
 use Rattle.channels.specs.declared.ChannelCall.{ChannelCall}
 use Rattle.channels.specs.declared.ChannelTold.{ChannelTold}
@@ -63,6 +64,7 @@ pub record LentAnswers (h : History) (channel : ℕ) (call : Call) (a : Paper) :
   pub announcement : (n : ℕ) → call ≡ To channel (Announce n) → AnnounceAnswers n a
   pub reply : (first status : ℕ) → call ≡ To channel (Reply first status) → ReplyAnswers (ownHistory channel h) first status a
   pub between : (p z : ℕ) → call ≡ To channel (Between p z) → BetweenAnswers (ownHistory channel h) p z a
+  pub told : call ≡ Told channel → a ≡ answer 0 (toldFrom (ownHistory channel h) (pendingOn channel (line h)))
 
 -- ======== One pending
 
@@ -127,11 +129,23 @@ pub record LentCloses (x : Channels) (channel : ℕ) (next : Channels) : Type 0 
   pub not-asked : next .index .asked ≡ place → ⊥
   pub others : OtherPlaces x next place
 
+-- a place is free
+pub record LentFree (x : Channels) : Type 0 where
+  pub place : ℕ
+  pub below-32 : place < 32
+  pub is-free : isSet (x .index .used) place ≡ false
+
 -- when an opening is answered which number: "10, then 22 already open, then 21 table full"
 pub record LentOpening (h : History) (x : Channels) (channel : ℕ) (a : Paper) : Type 0 where
   pub exactly-10 : (a .number ≡ 10) ↔ (9999 < channel)
   pub exactly-22 : (a .number ≡ 22) ↔ ((channel ≤ 9999) × (opened channel h ≡ true))
   pub exactly-21 : (a .number ≡ 21) ↔ ((channel ≤ 9999) × ((opened channel h ≡ false) × ((i : ℕ) → i < 32 → isUsed x i)))
+  pub exactly-0 : (a .number ≡ 0) ↔ ((channel ≤ 9999) × ((opened channel h ≡ false) × LentFree x))
+
+-- a closing: 0 for an open channel, whatever is pending, and else 18
+pub record LentClosing (h : History) (channel : ℕ) (a : Paper) : Type 0 where
+  pub exactly-0 : (a .number ≡ 0) ↔ (opened channel h ≡ true)
+  pub exactly-18 : (a .number ≡ 18) ↔ (opened channel h ≡ false)
 
 -- "18 for a channel not open"
 pub record LentNotOpen (h : History) (call : Call) : Type 0 where
