@@ -1,20 +1,17 @@
 -- A map whose places do not move, read round from a place: its digits, its count, its scans.
 -- Assumes nothing.
-use mathlib.Core.Path.{_≡_, refl, sym, ap, ap₂, _∙_, subst}
-use mathlib.Core.Bool.{Bool, true, false, _&&_, not}
+use mathlib.Core.Path.{_≡_, sym, ap, ap₂, _∙_, subst}
 use mathlib.Core.List.{List}
 use Prim.Native.Nat.{ℕ, _+_, _-_, _*_, _/_, _%_, _^_, _≤_, _<_}
-use native.Mathlib.Nat.{mod-lt, lt-of-le-of-lt}
+use native.Mathlib.Nat.{mod-lt}
 use native.Mathlib.Decide.{decLt, ℕ-discrete as decEq}
 use native.Mathlib.Omega.{arith}
-use borrow.Author.Tests.{eq-eqb, ne-eqb, le-leb, lt-leb}
 use lib.Arith.{digits-lt}
 use lib.Bits.{bitOr, or-lt}
 use lib.Count.{ones, ones-cat, trailingZeros, trailing-le}
-use lib.Dec.{eqb, leb}
 use lib.ListN.{getD}
-use lib.Pow.{split, high, low, ones-sub-lt, shr-lt, shr-le, pow-pos, pow-lt, pow-add}
-use Rattle.tick_map.specs.Bits.{bit, isSet, run, valueOfList, Words}
+use lib.Pow.{split, high, low, ones-sub-lt, shr-lt, pow-pos, pow-lt, pow-add}
+use Rattle.tick_map.specs.Bits.{bit, run, valueOfList, Words}
 use Rattle.tick_map.specs.Ring.{rotated, laid}
 use Rattle.tick_map.proofs.Laws.{bit-low, bit-high, not-parts, trailing-not}
 use Rattle.tick_map.proofs.Digits.{bit-shr, bit-ext, bit-above, bit-set-same, bit-set-other, trailing-passed, trailing-stopped}
@@ -158,75 +155,6 @@ trailing-is k m z h passed stopped =
 
     late : trailingZeros k m < z → ⊥
     late l = let b : trailingZeros k m < k = omega arith in omega (arith, passed (trailingZeros k m) l, trailing-stopped k m b)
-
--- place s is clear, and none is held but the k from s round, exactly where the scan from behind
--- those passes all others and then place s
-module _ (s k m : ℕ) (hm : m < 2 ^ 256) (some : 0 < k) (most : k ≤ 256) where
-  behind : ℕ
-  behind = trailingZeros 256 (rotated (s + k) m)
-
-  there : (i : ℕ) → k + i < 256 → bit (rotated s m / 2 ^ k) i ≡ bit (rotated (s + k) m) i
-  there i l =
-      let e : (s + (k + i)) % 256 ≡ (s + k + i) % 256 = omega arith in
-      bit-shr (rotated s m) k i ∙ rotated-bit s m hm (k + i) l ∙ ap (bit m) e ∙ sym (rotated-bit (s + k) m hm i (omega arith))
-
-  first : bit (rotated s m) 0 ≡ bit (rotated (s + k) m) (256 - k)
-  first =
-      let e : (s + 0) % 256 ≡ (s + k + (256 - k)) % 256 = omega arith in
-      rotated-bit s m hm 0 (omega arith) ∙ ap (bit m) e ∙ sym (rotated-bit (s + k) m hm (256 - k) (omega arith))
-
-  -- one of the others is held
-  held-behind : behind < 256 - k → eqb (rotated s m / 2 ^ k) 0 ≡ false
-  unfolding behind
-  held-behind l = ne-eqb (rotated s m / 2 ^ k) 0 (λ e.
-      let t = trailingZeros 256 (rotated (s + k) m) in
-      let one : bit (rotated (s + k) m) t ≡ 1 = trailing-stopped 256 (rotated (s + k) m) (omega arith) in
-      omega (arith, one, there t (omega arith), ap (λ (x : ℕ). bit x t) e, bit-above 0 t (pow-pos 0) (omega arith)))
-
-  none-behind : 256 - k ≤ behind → eqb (rotated s m / 2 ^ k) 0 ≡ true
-  unfolding behind
-  none-behind l =
-      eq-eqb (rotated s m / 2 ^ k) 0
-      (bit-ext 256 (rotated s m / 2 ^ k) 0 (lt-of-le-of-lt (shr-le (rotated s m) k) (rotated-lt s m hm)) (pow-pos 256)
-      (λ i b. digit i b ∙ sym (bit-above 0 i (pow-pos 0) (omega arith))))
-    where
-      digit : (i : ℕ) → i < 256 → bit (rotated s m / 2 ^ k) i ≡ 0
-      digit i b = elim (decLt (k + i) 256) [
-        | yes y ↦ there i y ∙ trailing-passed 256 (rotated (s + k) m) i (omega arith)
-        | no y ↦ bit-shr (rotated s m) k i ∙ bit-above 256 (k + i) (rotated-lt s m hm) (omega arith)
-      ]
-
-  held-first : behind ≡ 256 - k → isSet (rotated s m) 0 ≡ true
-  unfolding behind
-  held-first e =
-      let l : trailingZeros 256 (rotated (s + k) m) < 256 = omega arith in
-      eq-eqb (bit (rotated s m) 0) 1 (first ∙ ap (bit (rotated (s + k) m)) (sym e) ∙ trailing-stopped 256 (rotated (s + k) m) l)
-
-  clear-first : 257 - k ≤ behind → isSet (rotated s m) 0 ≡ false
-  unfolding behind
-  clear-first l =
-      let z : bit (rotated s m) 0 ≡ 0 = first ∙ trailing-passed 256 (rotated (s + k) m) (256 - k) (omega arith) in
-      ne-eqb (bit (rotated s m) 0) 1 (λ e. omega arith)
-
-  pub none-outside : leb (257 - k) (trailingZeros 256 (rotated (s + k) m)) ≡ not (isSet (rotated s m) 0) && eqb (rotated s m / 2 ^ k) 0
-  unfolding behind
-  none-outside =
-      let t = trailingZeros 256 (rotated (s + k) m) in
-      elim (decLt t (256 - k)) [
-        | yes l ↦ (
-            let b : t < 257 - k = omega arith in
-            lt-leb _ _ b ∙ sym (ap (λ (x : Bool). not (isSet (rotated s m) 0) && x) (held-behind l) ∙ and-false (not (isSet (rotated s m) 0))))
-        | no g ↦ elim (decLt t (257 - k)) [
-          | yes b ↦ lt-leb _ _ b ∙ sym (ap (λ (x : Bool). not x && eqb (rotated s m / 2 ^ k) 0) (held-first (omega arith)))
-          | no b ↦ (
-              let c : 257 - k ≤ t = omega arith in
-              le-leb _ _ c ∙ sym (ap₂ (λ (x y : Bool). not x && y) (clear-first c) (none-behind (omega arith))))
-        ]
-      ]
-    where
-      and-false : (x : Bool) → x && false ≡ false
-      and-false true = refl
-      and-false false = refl
 
 -- the n places from s round are clear
 pub record Clear (w : List ℕ) (s n : ℕ) : Type 0 where
