@@ -28,7 +28,7 @@ pub use frames::{
 pub use ledger::{Ledger, LedgerStatus, Passed, Request, Settled, STATE_FORM};
 pub use numbers::{ChannelNumber, Refusal, SessionNumber, TickNumber};
 pub use session::{Arrival, Passing, Session, ToSend};
-pub use stream::{Fed, Stream, KEPT};
+pub use stream::{Fed, Scrubbed, Scrubber, Stream, KEPT};
 
 /// Places and lengths are 64-bit numbers.
 const _: () = assert!(usize::BITS == 64);
