@@ -288,7 +288,7 @@ uint32_t rk_listing(const uint8_t *records, size_t records_len, uint64_t frames,
 uint32_t rk_clean(const uint8_t *capture, size_t len, uint8_t *out, size_t out_len, rk_cleaned *told);
 
 /* Whether a capture is clean: the first place that rk_clean would change, or none. It takes about
- * 9 KB of stack, rk_stream_feed and rk_stream_close up to 135 KB, all others at most 1 KB.
+ * 9 KB of stack, the calls on an rk_stream up to 135 KB, all others at most 1 KB.
  * Always returns 0, and writes *told. */
 uint32_t rk_is_clean(const uint8_t *capture, size_t len, rk_found *told);
 
