@@ -507,6 +507,36 @@ uint32_t rk_stream_feed(uint64_t words[6], rk_ledger *ledger, uint8_t kept[8191]
  * kept and *told. */
 uint32_t rk_stream_close(uint64_t words[6], rk_ledger *ledger, uint8_t kept[8191], uint8_t *records, size_t records_len, rk_fed *told);
 
+/* A capture that is scrubbed while it arrives: an rk_stream from rk_stream_open, and these two calls
+ * in place of rk_stream_feed and rk_stream_close. However the capture is cut, the bytes of all calls,
+ * one after the other, are what rk_clean writes of the whole, and the counts of all calls add up to
+ * rk_clean's. Counts and ledger of the stream stay as they are. Do not mix them with feed and close
+ * on one stream: each decides only what it is given. */
+typedef struct {
+    uint64_t bytes;        /* written by this call */
+    uint64_t frames;       /* they are so many frames */
+    uint64_t after_damage; /* of these, found by the search after damage: see rk_cleaned */
+    uint64_t unjudged;     /* of these, M101 frames: no rule judges their bodies, and they are passed on as they are */
+    uint64_t place;        /* of the first byte that waits, or of the next one to come */
+    uint64_t waiting;      /* how many bytes wait */
+} rk_scrubbed;
+RK_SIZE(rk_scrubbed, 6);
+
+/* One more cut: the accepted frames that it decides go to the front of out, each scrubbed; other
+ * bytes are left out. waiting + cut_len bytes are always room enough. After 8 you may pass the same
+ * cut again, with more room. While it runs, out briefly holds each frame unscrubbed: use memory of
+ * your own, not a mapped file.
+ * Returns 0, 8, 13, 19, 29. 0 writes the first told->bytes bytes of out, and words, *ledger, kept
+ * and *told. */
+uint32_t rk_stream_clean(uint64_t words[6], rk_ledger *ledger, uint8_t kept[8191], const uint8_t *cut, size_t cut_len, uint8_t *out,
+                         size_t out_len, rk_scrubbed *told);
+
+/* Ends the stream: what waits is cleaned as the end of a capture. waiting bytes are always room
+ * enough. After 8 the stream is still open.
+ * Returns 0, 8, 13, 19. 0 writes the first told->bytes bytes of out, and words, *ledger, kept and
+ * *told. */
+uint32_t rk_stream_clean_close(uint64_t words[6], rk_ledger *ledger, uint8_t kept[8191], uint8_t *out, size_t out_len, rk_scrubbed *told);
+
 /* STEP FRAMES */
 
 typedef struct {

@@ -35,7 +35,7 @@ pub use month::{Figures, Month};
 pub use numbers::{ChannelNumber, Refusal, SessionNumber, TickNumber};
 pub use records::{records, Record};
 pub use session::{Arrival, Passing, Session, ToSend};
-pub use stream::{Fed, Stream, KEPT};
+pub use stream::{Fed, Scrubbed, Scrubber, Stream, KEPT};
 
 /// Places and lengths are 64-bit numbers.
 const _: () = assert!(usize::BITS == 64);

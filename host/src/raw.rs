@@ -23,7 +23,7 @@ use crate::ledger::{Ledger, Passed, Request, Settled};
 use crate::month::{Figures, Month};
 use crate::numbers::{ChannelNumber, SessionNumber, TickNumber};
 use crate::session::Session;
-use crate::stream::{Fed, KEPT};
+use crate::stream::{Fed, Scrubbed, KEPT};
 
 /// A place, or none if `any` is 0.
 #[derive(Default)]
@@ -163,6 +163,8 @@ extern "C" {
     fn rk_stream_open(words: *mut [u64; 6], ledger: *mut Ledger, kept: *mut [u8; KEPT]) -> u32;
     fn rk_stream_feed(words: *mut [u64; 6], ledger: *mut Ledger, kept: *mut [u8; KEPT], cut: *const u8, cut_len: usize, records: *mut u8, records_len: usize, told: *mut Fed) -> u32;
     fn rk_stream_close(words: *mut [u64; 6], ledger: *mut Ledger, kept: *mut [u8; KEPT], records: *mut u8, records_len: usize, told: *mut Fed) -> u32;
+    fn rk_stream_clean(words: *mut [u64; 6], ledger: *mut Ledger, kept: *mut [u8; KEPT], cut: *const u8, cut_len: usize, out: *mut u8, out_len: usize, told: *mut Scrubbed) -> u32;
+    fn rk_stream_clean_close(words: *mut [u64; 6], ledger: *mut Ledger, kept: *mut [u8; KEPT], out: *mut u8, out_len: usize, told: *mut Scrubbed) -> u32;
     fn rk_step_read(bytes: *const u8, len: usize, place: usize, told: *mut StepFrame) -> u32;
     fn rk_step_field(fields: *const u8, len: usize, place: usize, told: *mut StepField) -> u32;
     fn rk_step_write(kind: u8, fields: *const u8, fields_len: usize, out: *mut u8, out_len: usize, told: *mut u64) -> u32;
@@ -384,6 +386,36 @@ pub fn stream_close(
     // anything in them; `records` is passed with its own length; `told` is a row of five. All are
     // `&mut`: none overlaps another.
     unsafe { rk_stream_close(words, ledger, kept, written, room, told) }
+}
+
+pub fn stream_clean(
+    words: &mut [u64; 6],
+    ledger: &mut Ledger,
+    kept: &mut [u8; KEPT],
+    cut: &[u8],
+    out: &mut [u8],
+    told: &mut Scrubbed,
+) -> u32 {
+    let (read, len) = (cut.as_ptr(), cut.len());
+    let (written, room) = (out.as_mut_ptr(), out.len());
+    // SAFETY: `words` and `ledger` are rows of six and nine, and `kept` is 8,191 bytes, with
+    // anything in them; `cut` is passed with its own length and only read, `out` with its own
+    // length; `told` is a row of six. All but `cut` are `&mut`: none overlaps another argument.
+    unsafe { rk_stream_clean(words, ledger, kept, read, len, written, room, told) }
+}
+
+pub fn stream_clean_close(
+    words: &mut [u64; 6],
+    ledger: &mut Ledger,
+    kept: &mut [u8; KEPT],
+    out: &mut [u8],
+    told: &mut Scrubbed,
+) -> u32 {
+    let (written, room) = (out.as_mut_ptr(), out.len());
+    // SAFETY: `words` and `ledger` are rows of six and nine, and `kept` is 8,191 bytes, with
+    // anything in them; `out` is passed with its own length; `told` is a row of six. All are
+    // `&mut`: none overlaps another.
+    unsafe { rk_stream_clean_close(words, ledger, kept, written, room, told) }
 }
 
 // STEP FRAMES

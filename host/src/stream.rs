@@ -1,4 +1,4 @@
-//! Walks a capture while it arrives.
+//! Walks or scrubs a capture while it arrives.
 
 use crate::ledger::Ledger;
 use crate::numbers::{always, result, Refusal};
@@ -84,5 +84,68 @@ impl Stream {
             ledger,
             kept,
         }
+    }
+}
+
+/// A capture that is scrubbed while it arrives, in cuts of any size. However it is cut, the bytes of
+/// all calls are, one after the other, those that `clean` writes of the whole, and their counts add
+/// up to `clean`'s.
+///
+/// The bytes that wait are kept as they came, private ones included; so there is no `Debug`.
+#[derive(Clone, PartialEq, Eq)]
+pub struct Scrubber {
+    stream: Stream,
+}
+
+/// The result of a scrubber's call, of this call alone: how many bytes were written, how many frames
+/// they are, how many of these the search found after damage, and how many are M101 frames, whose
+/// bodies no rule judges. `place` is that of the first byte that waits, or of the next one to come;
+/// `waiting` is how many bytes wait.
+#[derive(Clone, Copy, Debug, Default, PartialEq, Eq)]
+#[must_use = "no later call says how many bytes this one wrote"]
+#[repr(C)]
+pub struct Scrubbed {
+    pub bytes: u64,
+    pub frames: u64,
+    pub after_damage: u64,
+    pub unjudged: u64,
+    pub place: u64,
+    pub waiting: u64,
+}
+
+impl Scrubber {
+    /// A fresh scrubber.
+    #[must_use]
+    pub fn open() -> Scrubber {
+        Scrubber::from_stream(Stream::open())
+    }
+
+    /// One more cut, perhaps empty: the accepted frames that it decides, each scrubbed, at the front
+    /// of `out`; 8 if they do not fit. As many bytes as wait and the cut has are always enough.
+    pub fn clean(&mut self, cut: &[u8], out: &mut [u8]) -> Result<Scrubbed, Refusal> {
+        let mut scrubbed = Scrubbed::default();
+        let (words, ledger, kept) = self.stream.parts();
+        let answer = raw::stream_clean(words, ledger, kept, cut, out, &mut scrubbed);
+        result(answer, scrubbed)
+    }
+
+    /// Ends it: what waits is cleaned as the end of a capture. After 8 it is still open.
+    pub fn close(&mut self, out: &mut [u8]) -> Result<Scrubbed, Refusal> {
+        let mut scrubbed = Scrubbed::default();
+        let (words, ledger, kept) = self.stream.parts();
+        let answer = raw::stream_clean_close(words, ledger, kept, out, &mut scrubbed);
+        result(answer, scrubbed)
+    }
+
+    /// The stream that stands between two calls, to save it. The bytes that wait are not scrubbed.
+    #[must_use]
+    pub fn into_stream(self) -> Stream {
+        self.stream
+    }
+
+    /// The scrubber of a saved stream. Each call returns 13 if it breaks the state rules.
+    #[must_use]
+    pub const fn from_stream(stream: Stream) -> Scrubber {
+        Scrubber { stream }
     }
 }

@@ -164,6 +164,11 @@ static void tell_fed(const rk_fed *fed) {
     print_bytes(&output, 64 * fed->records);
 }
 
+static void tell_scrubbed(const rk_scrubbed *done) {
+    TELL(done->bytes), TELL(done->frames), TELL(done->after_damage), TELL(done->unjudged), TELL(done->place), TELL(done->waiting);
+    print_bytes(&output, done->bytes);
+}
+
 int main(void) {
     static char name[32];
     static guarded stream_was;
@@ -352,6 +357,21 @@ int main(void) {
             answer = rk_stream_close(RK_STREAM(&stream.row), records, output.len, &t.row);
             if (ANSWERED(answer, t)) tell_fed(&t.row);
             kept_from(&output, answer == RK_DONE ? 64 * t.row.records : 0);
+            stream_kept(&stream_was, answer, t.row.waiting);
+        } else if (strcmp(name, "stream_clean") == 0) {
+            uint8_t *out = room(), *b = bytes();
+            ROW(rk_scrubbed, t);
+            answer = rk_stream_clean(RK_STREAM(&stream.row), b, input.len, out, output.len, &t.row);
+            if (ANSWERED(answer, t)) tell_scrubbed(&t.row);
+            kept_from(&output, answer == RK_DONE ? t.row.bytes : 0);
+            kept_from(&input, 0);
+            stream_kept(&stream_was, answer, t.row.waiting);
+        } else if (strcmp(name, "stream_clean_close") == 0) {
+            uint8_t *out = room();
+            ROW(rk_scrubbed, t);
+            answer = rk_stream_clean_close(RK_STREAM(&stream.row), out, output.len, &t.row);
+            if (ANSWERED(answer, t)) tell_scrubbed(&t.row);
+            kept_from(&output, answer == RK_DONE ? t.row.bytes : 0);
             stream_kept(&stream_was, answer, t.row.waiting);
         } else if (strcmp(name, "step_read") == 0) {
             size_t place = (size_t)number();

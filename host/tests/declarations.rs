@@ -6,8 +6,8 @@ use oracle::made::{self, about, Dice, Ticks};
 use oracle::step;
 use rietknoest_host as host;
 use rietknoest_host::{
-    ChannelNumber, Channels, Entry, Fed, Ledger, Passing, Refusal, Session, SessionNumber, Stream,
-    TickNumber, ToSend,
+    ChannelNumber, Channels, Entry, Fed, Ledger, Passing, Refusal, Scrubber, Session,
+    SessionNumber, Stream, TickNumber, ToSend,
 };
 use std::cell::RefCell;
 use std::collections::{BTreeMap, BTreeSet};
@@ -49,7 +49,7 @@ const EXPORTS: [(&str, usize); 9] = [
     ("host_channels", 1),
     ("host_session", 7),
     ("host_captures", 4),
-    ("host_stream", 3),
+    ("host_stream", 5),
     ("host_step", 4),
     ("host_market", 3),
     ("host_month", 2),
@@ -804,6 +804,66 @@ fn call_stream(s: &mut Script, d: &mut Dice, stream: &mut Stream, cut: Option<&[
     }
 }
 
+/// A call that cleans: beside 0 the numbers and the bytes that are told, and the stream behind it.
+fn call_scrubber(s: &mut Script, d: &mut Dice, stream: &mut Stream, cut: Option<&[u8]>) {
+    let call = |stream: &mut Stream, out: &mut [u8]| {
+        let mut scrubber = Scrubber::from_stream(stream.clone());
+        let answer = match cut {
+            Some(cut) => scrubber.clean(cut, out),
+            None => scrubber.close(out),
+        };
+        *stream = scrubber.into_stream();
+        answer
+    };
+    let mut out = vec![0; host::KEPT + cut.map_or(0, <[u8]>::len)];
+    let needed = call(&mut stream.clone(), &mut out).map_or(0, |done| done.bytes as usize);
+    let mut out = vec![0; about(d, needed)];
+    let (name, asked) = match cut {
+        Some(cut) => ("stream_clean", format!("{} {}", out.len(), hex(cut))),
+        None => ("stream_clean_close", out.len().to_string()),
+    };
+    let answer = call(stream, &mut out);
+    s.ask(
+        name,
+        &asked,
+        answer.map(|done| {
+            let row = vec![
+                done.bytes,
+                done.frames,
+                done.after_damage,
+                done.unjudged,
+                done.place,
+                done.waiting,
+            ];
+            (row, Some(&out[..done.bytes as usize]))
+        }),
+        None,
+    );
+    if let (Ok(done), Some(line)) = (answer, s.expected.last_mut()) {
+        line.push_str(&shown(stream, done.waiting));
+    }
+}
+
+fn scrubbers(s: &mut Script, d: &mut Dice) {
+    let mut stream = Stream::open();
+    s.asked += "stream_open\n";
+    s.expected.push(format!("0{}", shown(&stream, 0)));
+    let n = d.len(1_000);
+    let most = d.of(&[40, 200, 9_000]);
+    let mut capture = made::capture(d, n, most);
+    capture.truncate(20_000);
+    let size = d.of(&[100, 500, 10_000]);
+    let mut at = 0;
+    while at < capture.len() {
+        let n = made::cut(d, size, capture.len() - at);
+        call_scrubber(s, d, &mut stream, Some(&capture[at..at + n]));
+        at += n;
+    }
+    for cut in [None, Some(&capture[..]), Some(&[]), None] {
+        call_scrubber(s, d, &mut stream, cut);
+    }
+}
+
 fn streams(s: &mut Script, d: &mut Dice) {
     let mut stream = Stream::open();
     s.asked += "stream_open\n";
@@ -1018,6 +1078,7 @@ fn c_gets_the_answers_that_rust_gets() {
         ledgers(&mut s, d);
         captures(&mut s, d);
         streams(&mut s, d);
+        scrubbers(&mut s, d);
         sessions(&mut s, d);
     }
     for (call, numbers) in SESSION_NUMBERS {
