@@ -525,14 +525,14 @@ RK_SIZE(rk_scrubbed, 6);
 /* One more cut: the accepted frames that it decides go to the front of out, each scrubbed; other
  * bytes are left out. waiting + cut_len bytes are always room enough. After 8 you may pass the same
  * cut again, with more room. While it runs, out briefly holds each frame unscrubbed: use memory of
- * your own, not a mapped file.
+ * your own, not a mapped file. It takes up to 135 KB of stack.
  * Returns 0, 8, 13, 19, 29. 0 writes the first told->bytes bytes of out, and words, *ledger, kept
  * and *told. */
 uint32_t rk_stream_clean(uint64_t words[6], rk_ledger *ledger, uint8_t kept[8191], const uint8_t *cut, size_t cut_len, uint8_t *out,
                          size_t out_len, rk_scrubbed *told);
 
 /* Ends the stream: what waits is cleaned as the end of a capture. waiting bytes are always room
- * enough. After 8 the stream is still open.
+ * enough. After 8 the stream is still open. It takes up to 135 KB of stack.
  * Returns 0, 8, 13, 19. 0 writes the first told->bytes bytes of out, and words, *ledger, kept and
  * *told. */
 uint32_t rk_stream_clean_close(uint64_t words[6], rk_ledger *ledger, uint8_t kept[8191], uint8_t *out, size_t out_len, rk_scrubbed *told);

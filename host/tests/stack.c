@@ -47,6 +47,7 @@ static void *calls(void *unused) {
     static rk_cleaned cleaned;
     static rk_stream stream;
     static rk_fed fed;
+    static rk_scrubbed scrubbed;
     static rk_step_frame step;
     static rk_step_field_at step_field;
     static rk_session session;
@@ -87,6 +88,9 @@ static void *calls(void *unused) {
     CALL(rk_stream_open, RK_STREAM(&stream));
     CALL(rk_stream_feed, RK_STREAM(&stream), capture, len, records, sizeof records, &fed);
     CALL(rk_stream_close, RK_STREAM(&stream), records, sizeof records, &fed);
+    rk_stream_open(RK_STREAM(&stream));
+    CALL(rk_stream_clean, RK_STREAM(&stream), capture, len, out, sizeof out, &scrubbed);
+    CALL(rk_stream_clean_close, RK_STREAM(&stream), out, sizeof out, &scrubbed);
     CALL(rk_step_read, logon, sizeof logon - 1, 0, &step);
     CALL(rk_step_field, logon, sizeof logon - 1, 0, &step_field);
     CALL(rk_step_write, '0', logon, 0, out, sizeof out, &number);
