@@ -62,7 +62,8 @@ enum rk_answer {
     RK_STATE = 13,   /* the state breaks its rules: you see it only if other code wrote it */
     RK_BUSY = 14,    /* a request is pending */
     RK_WHOLE = 15,   /* nothing is missing */
-    RK_UNASKED = 16, /* reply with no request pending, or with another first number */
+    RK_UNASKED = 16, /* reply with no request pending, with another first number, or on another
+                        channel than the one asked */
     RK_STATUS = 17,  /* reply status not 1 to 5 or 99 */
     RK_CHANNEL = 18, /* call names another channel, or one that is not open in the table */
     RK_CLOSED = 19,  /* the stream is closed already */
