@@ -13,9 +13,9 @@ use Rattle.ledger_spec.specs.Answers.{refusedReply}
 use Rattle.host_words.specs.Told.{Refuses}
 use Rattle.channels_spec.specs.Table.{counted, empty}
 use Rattle.channels_spec.specs.Calls.{Open, Close, Request, To, Renew, Tick, Reply}
-use Rattle.channels_spec.specs.Trace.{History, start}
+use Rattle.channels_spec.specs.Trace.{History, start, _▸_⇒_}
 use Rattle.channels_spec.specs.Words.{opened, asks, line, grants, grantsOn}
-use Rattle.channels_spec.specs.Demand.{Requests}
+use Rattle.channels_spec.specs.Demand.{Requests, SessionTold}
 use Rattle.channels_spec.proofs.Fair as Fair
 use Rattle.channels.specs.declared.Channels.{Channels}
 use Rattle.channels.specs.declared.ChannelCall.{ChannelCall}
@@ -26,10 +26,13 @@ use Rattle.host_channels.specs.Exchanges.{Exchanges}
 use Rattle.channels.proofs.Channels.none.Reads as none
 use Rattle.channels.proofs.Channels.none.Kinds as none-kinds
 use Rattle.channels_seam.specs.Kept.{callOf, seen, LentRan, opening}
-use Rattle.channels_seam.specs.Lent.{isUsed, LentChannel, LentPlace, LentAnswers, LentPending, LentTurn, LentThen, LentOpens, LentCloses, LentOpening, LentNotOpen, LentRaises, LentSession}
+use Rattle.channels_seam.specs.Lent.{isUsed, LentChannel, LentPlace, LentAnswers, LentPending, LentTurn, LentThen, LentOpens, LentCloses, LentOpening, LentClosing, LentNotOpen, LentRaises, LentSession}
+use Rattle.channels_seam.specs.Table.{TakesPlace}
+use Rattle.channels_seam.specs.Stays.{LentStays, LentLast, LentRules}
 use Rattle.channels_seam.specs.Broken.{Unsound}
 use Rattle.channels_seam.specs.Numbers.{tableNumber}
 use Rattle.channels_seam.proofs.Lent as Lent
+use Rattle.channels_seam.proofs.Stays as Stays
 use Rattle.channels_seam.proofs.Broken as Broken
 use Rattle.channels_seam.proofs.Numbers as Numbers
 use Rattle.promises.specs.Calls.{Promises}
@@ -56,6 +59,10 @@ each-channel = Lent.lent-channel
 pub one-pending : {h : History} {x : Channels} → LentRan h x → LentPending h x
 one-pending = Lent.lent-pending
 
+-- the rules of the index and of each open row hold after every call, and a free place is blank
+pub rules-kept : {h : History} {x : Channels} → LentRan h x → LentRules x
+rules-kept = Stays.lent-rules
+
 -- "at first from the first place"
 pub first-from-first : (k : ℕ) → k < 32 → counted empty k ≡ k
 first-from-first = Fair.counts-from-first
@@ -72,7 +79,8 @@ module _ {h : History} {x : Channels} (ran : LentRan h x) {next : Channels} {tol
   abbrev a : Paper
   a = seen (callOf call) told
 
-  -- what is said to an open channel is answered from what was said to it since its opening
+  -- what is said to an open channel is answered from what was said to it since its opening, and what
+  -- it tells (floor, top, how many missing and held, the pending request) is told from that too
   pub each-answer : (channel : ℕ) → opened channel h ≡ true → LentAnswers h channel (callOf call) a
   each-answer = Lent.lent-answers ran call serves
 
@@ -86,6 +94,15 @@ module _ {h : History} {x : Channels} (ran : LentRan h x) {next : Channels} {tol
   pub whose-turn : callOf call ≡ Request → answered a 0 ≡ true → LentTurn h x a next
   whose-turn = Lent.lent-turn ran call serves
 
+  -- the place last asked: a granted request moves it to the place of the channel that it went to,
+  -- and nothing else moves it
+  pub last-asked : LentLast x (callOf call) a next
+  last-asked = Stays.lent-last ran call serves
+
+  -- every channel stays at its place, but by an opening or a closing
+  pub places-stay : (TakesPlace (callOf call) → ⊥) → LentStays x next
+  places-stay = Stays.lent-stays ran call serves
+
   -- "Opening takes the lowest free place."
   pub lowest-free : (channel : ℕ) → callOf call ≡ Open channel → answered a 0 ≡ true → LentOpens x channel next
   lowest-free = Lent.lent-opens ran call serves
@@ -93,6 +110,10 @@ module _ {h : History} {x : Channels} (ran : LentRan h x) {next : Channels} {tol
   -- "Closing frees its place and clears its pending request."
   pub closing-frees : (channel : ℕ) → callOf call ≡ Close channel → answered a 0 ≡ true → LentCloses x channel next
   closing-frees = Lent.lent-closes ran call serves
+
+  -- a closing is answered 0 exactly for an open channel, its request pending or not
+  pub closing-numbers : (channel : ℕ) → callOf call ≡ Close channel → LentClosing h channel a
+  closing-numbers = Lent.lent-closing ran call serves
 
   -- "18 for a channel not open"
   pub given-18 : (a .number ≡ 18) ↔ LentNotOpen h (callOf call)
@@ -103,7 +124,7 @@ module _ {h : History} {x : Channels} (ran : LentRan h x) {next : Channels} {tol
       → line h ≡ asks other from to → (other ≡ channel → ⊥) → StatusRight status → a ≡ refusedReply 16
   other-reply-16 = Lent.lent-other-16 ran call serves
 
-  -- "on opening, 10, then 22 already open, then 21 table full"
+  -- "on opening, 10, then 22 already open, then 21 table full", and else 0
   pub opening-numbers : (channel : ℕ) → callOf call ≡ Open channel → LentOpening h x channel a
   opening-numbers = Lent.lent-opening ran call serves
 
@@ -115,6 +136,10 @@ module _ {h : History} {x : Channels} (ran : LentRan h x) {next : Channels} {tol
   -- else, the turn too
   pub new-session : callOf call ≡ Renew → LentSession x a next
   new-session = Lent.lent-session ran call serves
+
+  -- the same told from the calls: nothing is pending, each channel has seen it, no other word changes
+  pub new-session-told : callOf call ≡ Renew → SessionTold h (h ▸ Renew ⇒ a)
+  new-session-told = Stays.lent-session-told ran call serves
 
   -- 13 is never met by a table that calls have made
   pub never-13 : answered a 13 ≡ false
@@ -129,6 +154,7 @@ given-13 = Broken.given-13
 pub refused-keeps : {was next : Channels} {told : ChannelTold} (call : ChannelCall) → Serves was call told next → Refuses (told .answer) → (told .answer ≡ 12 → ⊥) → next ≡ was
 refused-keeps = Lent.served-refused
 
--- and every answer is 0, a number of the ledger's calls, 21 or 22
+-- and every answer is 0, a number of the ledger's calls, 21 or 22 (`rk-channels-numbered` of
+-- HostNumbers.antt: 0, or a number of the table)
 pub channels-numbered : {x next : Channels} {told : ChannelTold} (call : ChannelCall) → Serves x call told next → tableNumber (told .answer) ≡ true
 channels-numbered = Numbers.table-number

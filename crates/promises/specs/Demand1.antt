@@ -496,9 +496,9 @@ tails-answers =
 -- "AND REFUSES WHAT IT CAN'T USE WITH A NUMBER FROM DOCUMENT 01"
 
 -- the numbers of document 01's table, 1 to 6, 8 to 18 and 20, and of the requests: 7 (CR 6), 19
--- and 29 (CR 1), 30 to 33 (CR 12)
+-- and 29 (CR 1), 21 and 22 (CR 3), 27 and 28 (CR 11), 30 to 33 (CR 12)
 unfoldable pub inTable : ℕ → Bool
-inTable n = (leb 1 n && leb n 20) || (leb 29 n && leb n 33)
+inTable n = (leb 1 n && leb n 22) || (leb 27 n && leb n 33)
 
 pub refusal-in-table : (w : Refusal) → inTable (numberOf w) ≡ true
 unfolding inTable
