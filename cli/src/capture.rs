@@ -48,7 +48,7 @@ pub fn opened(standard: impl AsFd) -> io::Result<File> {
 }
 
 /// At most so many bytes are read at a time.
-const PIECE: usize = 65_536;
+pub const PIECE: usize = 65_536;
 
 /// The time between two looks at a file that may grow.
 const PAUSE: Duration = Duration::from_millis(100);

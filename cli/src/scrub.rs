@@ -1,11 +1,10 @@
 //! `scrub`: a capture, cleaned.
 
 use std::ffi::OsStr;
-use std::ops::ControlFlow;
 
-use rietknoest_host::{clean, read, Cleaned};
+use rietknoest_host::{clean, read, Cleaned, Scrubber, KEPT};
 
-use crate::capture::Source;
+use crate::capture::{Source, PIECE};
 use crate::target::Target;
 use crate::{count, hint, names, say, system, Status, Trouble};
 
@@ -86,32 +85,37 @@ fn scrub_whole(source: Source, target: Target) -> Result<Done, Trouble> {
     })
 }
 
-/// Writes each frame as soon as it is decided. The frames in a step's bytes are those that the walk
-/// over the whole capture reads there: no frame crosses the end of a step, and a place that reads
-/// in them reads in the whole.
-fn scrub_arriving(source: Source, target: Target) -> Result<Done, Trouble> {
-    let name = source.name.clone();
+/// Writes each frame as soon as it is decided, as the library scrubs it; the counts are the
+/// library's too.
+fn scrub_arriving(mut source: Source, target: Target) -> Result<Done, Trouble> {
     let mut output = target.open()?;
-    let mut room = Vec::new();
+    let mut scrubber = Scrubber::open();
+    let mut piece = vec![0; PIECE];
+    // memory of our own: it briefly holds each frame unscrubbed
+    let mut room = vec![0; KEPT + PIECE];
     let mut done = Done::default();
-    let mut damage = false;
-    source.walk(|step| {
-        room.resize(step.bytes.len(), 0);
-        let cleaned =
-            clean(step.bytes, &mut room).map_err(|refusal| Trouble::refused(&name, refusal))?;
-        done.cleaned.bytes += cleaned.bytes;
-        done.cleaned.frames += cleaned.frames;
-        done.stray += step.bytes.len() as u64 - cleaned.bytes;
-        // the search may have begun in an earlier step
-        for record in step.readings() {
-            let refused = record.is_refused();
-            done.cleaned.after_damage += u64::from(damage && !refused);
-            done.unjudged += u64::from(names::is_unjudged(&record));
-            damage = refused;
+    let mut taken = 0;
+    loop {
+        let read = source.piece(&mut piece)?;
+        if taken == 0 {
+            hint::hint(&source.name, &piece[..read]);
         }
-        output.write(&room[..cleaned.bytes as usize])?;
-        Ok(ControlFlow::Continue(()))
-    })?;
+        let call = match read {
+            0 => scrubber.close(&mut room),
+            _ => scrubber.clean(&piece[..read], &mut room),
+        };
+        let step = call.map_err(|refusal| Trouble::refused(&source.name, refusal))?;
+        output.write(&room[..step.bytes as usize])?;
+        done.cleaned.bytes += step.bytes;
+        done.cleaned.frames += step.frames;
+        done.cleaned.after_damage += step.after_damage;
+        done.unjudged += step.unjudged;
+        taken += read as u64;
+        if read == 0 {
+            break;
+        }
+    }
+    done.stray = taken - done.cleaned.bytes;
     output.finish()?;
     Ok(done)
 }
