@@ -88,13 +88,13 @@ fn closed_errors_change_nothing_else() {
 
 #[test]
 fn dev_null_is_an_output() {
-    let folder = Folder::new().with("in", &sample());
+    let folder = Folder::new().with("in", &sample()).with("stray", b"stray");
     std::os::unix::fs::symlink("/dev/null", folder.path("null")).unwrap();
     for out in ["/dev/null", "null"] {
         for words in [
             &["scrub", "in", "-o", out][..],
             &["scrub", "in", "--whole", "-o", out],
-            &["scrub", "in", "--step", "-o", out],
+            &["scrub", "stray", "--step", "-o", out],
         ] {
             let ran = run(&folder, words);
             assert_eq!((ran.status, ran.out()), (Some(1), ""), "{}", ran.error());
@@ -102,7 +102,7 @@ fn dev_null_is_an_output() {
     }
     run(&folder, &["scrub", "in", "-o", "/dev/zero"])
         .failed("/dev/zero", "it is no plain file; - is standard output");
-    assert_eq!(folder.names(), ["in", "null"]);
+    assert_eq!(folder.names(), ["in", "null", "stray"]);
 }
 
 #[test]
