@@ -29,10 +29,12 @@ use Rattle.channels_seam.specs.Kept.{callOf, seen, LentRan, opening}
 use Rattle.channels_seam.specs.Lent.{isUsed, LentChannel, LentPlace, LentAnswers, LentPending, LentTurn, LentThen, LentOpens, LentCloses, LentOpening, LentClosing, LentNotOpen, LentRaises, LentSession}
 use Rattle.channels_seam.specs.Table.{TakesPlace}
 use Rattle.channels_seam.specs.Stays.{LentStays, LentLast, LentRules}
+use Rattle.channels_seam.specs.Seats.{LentSeats}
 use Rattle.channels_seam.specs.Broken.{Unsound}
 use Rattle.channels_seam.specs.Numbers.{tableNumber}
 use Rattle.channels_seam.proofs.Lent as Lent
 use Rattle.channels_seam.proofs.Stays as Stays
+use Rattle.channels_seam.proofs.Seats as Seats
 use Rattle.channels_seam.proofs.Broken as Broken
 use Rattle.channels_seam.proofs.Numbers as Numbers
 use Rattle.promises.specs.Calls.{Promises}
@@ -58,6 +60,11 @@ each-channel = Lent.lent-channel
 -- "The gateway serves one resend at a time, so one request is pending for the whole table."
 pub one-pending : {h : History} {x : Channels} → LentRan h x → LentPending h x
 one-pending = Lent.lent-pending
+
+-- who stands at each place, and which place was asked last, are told from the history alone: the
+-- turn below is counted from there
+pub places-told : {h : History} {x : Channels} → LentRan h x → LentSeats h x
+places-told = Seats.lent-seats
 
 -- the rules of the index and of each open row hold after every call, and a free place is blank
 pub rules-kept : {h : History} {x : Channels} → LentRan h x → LentRules x
