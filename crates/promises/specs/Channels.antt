@@ -86,8 +86,8 @@ module _ {h : History} {x : Channels} (ran : LentRan h x) {next : Channels} {tol
   abbrev a : Paper
   a = seen (callOf call) told
 
-  -- what is said to an open channel is answered from what was said to it since its opening, and what
-  -- it tells (floor, top, how many missing and held, the pending request) is told from that too
+  -- what is said to an open channel is answered from what was said to it since its opening, and
+  -- what it tells (floor, top, how many missing and held, the pending request) is told from that
   pub each-answer : (channel : ℕ) → opened channel h ≡ true → LentAnswers h channel (callOf call) a
   each-answer = Lent.lent-answers ran call serves
 
@@ -144,7 +144,8 @@ module _ {h : History} {x : Channels} (ran : LentRan h x) {next : Channels} {tol
   pub new-session : callOf call ≡ Renew → LentSession x a next
   new-session = Lent.lent-session ran call serves
 
-  -- the same told from the calls: nothing is pending, each channel has seen it, no other word changes
+  -- the same told from the calls: nothing is pending, each channel has seen it, and no other word
+  -- changes
   pub new-session-told : callOf call ≡ Renew → SessionTold h (h ▸ Renew ⇒ a)
   new-session-told = Stays.lent-session-told ran call serves
 
