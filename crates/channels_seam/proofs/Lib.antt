@@ -9,3 +9,4 @@ pub mod Lent
 pub mod Broken
 pub mod Numbers
 pub mod Stays
+pub mod Seats

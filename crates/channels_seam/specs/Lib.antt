@@ -4,3 +4,4 @@ pub mod Lent
 pub mod Broken
 pub mod Numbers
 pub mod Stays
+pub mod Seats

@@ -29,10 +29,12 @@ use Rattle.channels_seam.specs.Kept.{callOf, seen, LentRan, opening}
 use Rattle.channels_seam.specs.Lent.{isUsed, LentChannel, LentPlace, LentAnswers, LentPending, LentTurn, LentThen, LentOpens, LentCloses, LentOpening, LentClosing, LentNotOpen, LentRaises, LentSession}
 use Rattle.channels_seam.specs.Table.{TakesPlace}
 use Rattle.channels_seam.specs.Stays.{LentStays, LentLast, LentRules}
+use Rattle.channels_seam.specs.Seats.{LentSeats}
 use Rattle.channels_seam.specs.Broken.{Unsound}
 use Rattle.channels_seam.specs.Numbers.{tableNumber}
 use Rattle.channels_seam.proofs.Lent as Lent
 use Rattle.channels_seam.proofs.Stays as Stays
+use Rattle.channels_seam.proofs.Seats as Seats
 use Rattle.channels_seam.proofs.Broken as Broken
 use Rattle.channels_seam.proofs.Numbers as Numbers
 use Rattle.promises.specs.Calls.{Promises}
@@ -59,6 +61,11 @@ each-channel = Lent.lent-channel
 pub one-pending : {h : History} {x : Channels} → LentRan h x → LentPending h x
 one-pending = Lent.lent-pending
 
+-- who stands at each place, and which place was asked last, are told from the history alone: the
+-- turn below is counted from there
+pub places-told : {h : History} {x : Channels} → LentRan h x → LentSeats h x
+places-told = Seats.lent-seats
+
 -- the rules of the index and of each open row hold after every call, and a free place is blank
 pub rules-kept : {h : History} {x : Channels} → LentRan h x → LentRules x
 rules-kept = Stays.lent-rules
@@ -79,8 +86,8 @@ module _ {h : History} {x : Channels} (ran : LentRan h x) {next : Channels} {tol
   abbrev a : Paper
   a = seen (callOf call) told
 
-  -- what is said to an open channel is answered from what was said to it since its opening, and what
-  -- it tells (floor, top, how many missing and held, the pending request) is told from that too
+  -- what is said to an open channel is answered from what was said to it since its opening, and
+  -- what it tells (floor, top, how many missing and held, the pending request) is told from that
   pub each-answer : (channel : ℕ) → opened channel h ≡ true → LentAnswers h channel (callOf call) a
   each-answer = Lent.lent-answers ran call serves
 
@@ -137,7 +144,8 @@ module _ {h : History} {x : Channels} (ran : LentRan h x) {next : Channels} {tol
   pub new-session : callOf call ≡ Renew → LentSession x a next
   new-session = Lent.lent-session ran call serves
 
-  -- the same told from the calls: nothing is pending, each channel has seen it, no other word changes
+  -- the same told from the calls: nothing is pending, each channel has seen it, and no other word
+  -- changes
   pub new-session-told : callOf call ≡ Renew → SessionTold h (h ▸ Renew ⇒ a)
   new-session-told = Stays.lent-session-told ran call serves
 
