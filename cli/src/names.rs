@@ -111,13 +111,14 @@ pub fn frame_len(record: &Record) -> usize {
     record.body_len as usize + HEADER + CHECK_SUM
 }
 
-/// Whether a frame has a body that is carried as bytes and not judged.
+/// Whether a frame's body is carried as bytes and not judged; an empty one counts, as the library
+/// counts it.
 pub fn is_unjudged(record: &Record) -> bool {
-    record.msg_type == types::M101.to_be_bytes() && record.body_len > 0
+    record.msg_type == types::M101.to_be_bytes()
 }
 
 pub fn is_unjudged_frame(frame: &Frame) -> bool {
-    frame.msg_type == types::M101.into() && frame.body_len > 0
+    frame.msg_type == types::M101.into()
 }
 
 /// What is to be known of so many such bodies.

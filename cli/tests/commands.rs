@@ -300,12 +300,11 @@ fn checked(capture: &[u8], says: &str) {
     run_on(&folder, &["check", "-"], capture).quiet(i32::from(says != "clean"), &line);
 }
 
-/// An M101 has any body. One without a body could hold nothing.
+/// An M101 has any body, and is told of whatever its body, as the library counts it.
 #[test]
 fn bodies_that_are_not_judged_are_told() {
     let folder = Folder::new();
     let status = |n: usize, body: &[u8]| frame(b"M101", 1, body).repeat(n);
-    checked(&status(3, b""), "clean");
     let ran = run_on(&folder, &["check", "-"], &status(2, b"PASSWORD"));
     let told = "2 M101 bodies are not judged and could hold anything";
     ran.quiet(0, &format!("standard input: clean, except that {told}\n"));
@@ -318,7 +317,7 @@ fn bodies_that_are_not_judged_are_told() {
         assert!(ran.error().ends_with(&said));
         assert_eq!((ran.status, ran.out), (Some(0), status(2, b"PASSWORD")));
         let ran = run_on(&folder, words, &status(3, b""));
-        assert_eq!(ran.error().lines().count(), 1);
+        assert!(ran.error().contains("3 M101 bodies are not judged"));
     }
     let help = run(&folder, &["--help"]);
     assert!(help
