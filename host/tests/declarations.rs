@@ -222,6 +222,7 @@ fn of_wrapper() -> Functions {
         "Settled" => size_of::<host::Settled>() / 8,
         "Cleaned" => size_of::<host::Cleaned>() / 8,
         "Fed" => size_of::<Fed>() / 8,
+        "Scrubbed" => size_of::<host::Scrubbed>() / 8,
         "Session" => size_of::<Session>() / 8,
         "Channels" => size_of::<Channels>() / 8,
         "Exchange" => EXCHANGE,
