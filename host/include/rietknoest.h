@@ -468,7 +468,7 @@ uint32_t rk_is_clean(const uint8_t *capture, size_t len, rk_found *told);
  * be passed to rk_listing, rk_ledger_told, rk_ledger_missing, rk_ledger_request, rk_ledger_reply
  * and rk_ledger_renew. The last three change its pending request, and a reply of status 4 its floor
  * and map too: in these it then differs from rk_walk's. A call on a stream that breaks the state
- * rules returns 13. */
+ * rules returns 13. Save RK_STATE_FORM with a saved stream: its ledger has words of that form. */
 typedef struct {
     uint64_t words[6];
     rk_ledger ledger;

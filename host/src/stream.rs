@@ -70,7 +70,7 @@ impl Stream {
     }
 
     /// The words, the ledger and the bytes that wait, with zeros after them, to save the stream.
-    /// These bytes are not scrubbed.
+    /// These bytes are not scrubbed. Save [`STATE_FORM`](crate::STATE_FORM) with them.
     #[must_use]
     pub fn into_parts(self) -> ([u64; 6], Ledger, [u8; KEPT]) {
         (self.words, self.ledger, self.kept)

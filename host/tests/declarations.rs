@@ -433,6 +433,14 @@ fn the_header_has_the_version() {
     assert_eq!(version.join("."), env!("CARGO_PKG_VERSION"));
 }
 
+/// C and Rust keep the same number beside a saved state.
+#[test]
+fn saved_states_have_one_form() {
+    let row = format!("#define RK_STATE_FORM {}", rietknoest_host::STATE_FORM);
+    let text = text_of("host/include/rietknoest.h");
+    assert_eq!(text.lines().filter(|line| *line == row).count(), 1);
+}
+
 /// A refusal is told by its number from every other, and says in words what happened.
 #[test]
 fn a_refusal_has_a_number_and_words() {

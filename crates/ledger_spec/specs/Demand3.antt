@@ -4,6 +4,9 @@
 -- (received, givenUp, settled, handedOut, floorOf, knownTop, pending, missing, delivered, held,
 -- count) from the calls and their answers alone; only where a sentence speaks of the ledger does
 -- the book after the calls stand here.
+--
+-- "A number is received once its tick is answered 0; it is given up once a reply answered 0 names
+-- it so." These are `received` and `givenUp` of Words.antt.
 use mathlib.Core.Path.{_≡_}
 use mathlib.Core.Logic.{_⊎_}
 use mathlib.Core.Bool.{Bool, true, false, _&&_, not}

@@ -1,6 +1,9 @@
 -- Demand 3, of every row of calls of the code on a ledger that it opened. `Ran channel calls l h`
 -- says that the ledger l and the history h come of the calls, each meeting its promise; h has the
 -- calls and their answers alone. Words.antt of `ledger_spec` tells each word from h.
+--
+-- "A number is received once its tick is answered 0; it is given up once a reply answered 0 names
+-- it so." These are `received` and `givenUp` there.
 use Prim.Native.Nat.{ℕ, _≤_}
 use mathlib.Core.List.{List, [], _∷_}
 use mathlib.Core.Path.{_≡_, _∙_}

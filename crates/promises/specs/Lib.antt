@@ -17,6 +17,7 @@ pub mod Parts
 pub mod Pieces
 pub mod SameMap
 pub mod GivenUp
+pub mod FrameEvents
 pub mod Session
 pub mod Between
 pub mod Channels
