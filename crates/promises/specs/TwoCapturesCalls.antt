@@ -27,6 +27,7 @@ use Rattle.host_words.specs.Calls.{callTold, wordsAfter}
 use Rattle.host_captures.specs.Captures.{walkWords, listingTold, listingLeaves}
 use Rattle.octets.specs.Papers.{roomFor, laidIfRoom}
 use Rattle.listing_text.specs.Whole.{listingOf}
+use Rattle.listing_text.specs.declared.Summary.{Summary}
 use Rattle.listing_text.proofs.put_listing.Reads as put-listing
 use Rattle.listing_text.proofs.put_listing.Kinds as put-listing-kinds
 use Rattle.walk.specs.declared.Walked.{Walked}
@@ -108,6 +109,17 @@ put-listing-cant-tell κs a b x y s t g p q =
       written-one x y (p .0 ∙ ap₂ (λ (l d : List ℕ). roomFor 0 (length l) (length d)) e (g .0) ∙ sym (q .0)),
       p .1 ∙ ap₂ (laidIfRoom 0) e (g .0) ∙ sym (q .1),
     )
+
+-- the two, one after the other: the listing of the first n bytes of each walk's records, with
+-- numbers that are made alike of what each walk answered
+pub walk-then-listing : (κs : Lfts 2) (a b : Dens κs walk-kinds.ps) (x y : resT walk-kinds.r κs .Denot) (s t : AtExit (endedOf _ walk-kinds.ps walk-kinds.r) κs)
+    → Asked (now (a .0)) (now (b .0)) (now (a .1 .0)) (now (b .1 .0)) → walk.Post κs a x s → walk.Post κs b y t
+    → (ιs : Lfts 2) (c d : Dens ιs put-listing-kinds.ps) (u v : resT put-listing-kinds.r ιs .Denot) (k l : AtExit (endedOf _ put-listing-kinds.ps put-listing-kinds.r) ιs)
+    → (n : ℕ) (numbers : Walked → Summary) → now (c .1 .0) ≡ take n (now (s .1 .0)) → now (d .1 .0) ≡ take n (now (t .1 .0)) → c .1 .1 .0 ≡ numbers x → d .1 .1 .0 ≡ numbers y
+    → now (c .0) ≡ now (d .0) → put-listing.Post ιs c u k → put-listing.Post ιs d v l → (u ≡ v) × (now (k .0) ≡ now (l .0))
+walk-then-listing κs a b x y s t g p q ιs c d u v k l n numbers e f i j h m o =
+    let w = walk-cant-tell κs a b x y s t g p q in
+    put-listing-cant-tell ιs c d u v k l (h, (e ∙ ap (take n) (w .1) ∙ sym f, i ∙ ap numbers (w .0) ∙ sym j)) m o
 
 -- `scrub`, of two frames
 pub scrub-cant-tell : CantTell _ scrub-kinds.ps scrub-kinds.r scrub.Post (λ κs a b. SameButPrivate (now (a .0)) (now (b .0))) (λ κs s. now (s .0))
@@ -194,6 +206,18 @@ rk-ledger-request-cant-tell κs a b x y s t g p q =
     let f : wordsAfter (now (a .0)) (Request (a .1 .0)) ≡ wordsAfter (now (b .0)) (Request (b .1 .0)) = ap₂ (λ (w : List ℕ) (c : ℕ). wordsAfter w (Request c)) (g .0) (g .1 .0) in
     let r = told-same e (g .1 .1) (p .0) (q .0) in
     (r .0, ap₂ both (r .1) (p .1 ∙ f ∙ sym (q .1)))
+
+-- the two, one after the other: a request on the words that each walk has left
+pub rk-walk-then-request : (κs : Lfts 4) (a b : Dens κs rk-walk-kinds.ps) (x y : resT rk-walk-kinds.r κs .Denot) (s t : AtExit (endedOf _ rk-walk-kinds.ps rk-walk-kinds.r) κs)
+    → Asked (now (a .0)) (now (b .0)) (now (a .1 .0)) (now (b .1 .0)) × ((now (a .1 .1 .0) ≡ now (b .1 .1 .0)) × (now (a .1 .1 .1 .0) ≡ now (b .1 .1 .1 .0)))
+    → rk-walk.Post κs a x s → rk-walk.Post κs b y t
+    → (ιs : Lfts 2) (c d : Dens ιs rk-ledger-request-kinds.ps) (u v : resT rk-ledger-request-kinds.r ιs .Denot) (k l : AtExit (endedOf _ rk-ledger-request-kinds.ps rk-ledger-request-kinds.r) ιs)
+    → now (c .0) ≡ now (s .1 .1 .0) → now (d .0) ≡ now (t .1 .1 .0) → c .1 .0 ≡ d .1 .0 → now (c .1 .1 .0) ≡ now (d .1 .1 .0) → rk-ledger-request.Post ιs c u k → rk-ledger-request.Post ιs d v l
+    → (u ≡ v) × (both (now (k .1 .1 .0)) (now (k .0)) ≡ both (now (l .1 .1 .0)) (now (l .0)))
+rk-walk-then-request κs a b x y s t g p q ιs c d u v k l e f h i m o =
+    let w = both-one (now (s .1 .1 .1 .0)) (both (now (s .1 .1 .0)) (now (s .1 .0))) (now (t .1 .1 .1 .0)) (both (now (t .1 .1 .0)) (now (t .1 .0))) (rk-walk-cant-tell κs a b x y s t g p q .1) in
+    let z = both-one (now (s .1 .1 .0)) (now (s .1 .0)) (now (t .1 .1 .0)) (now (t .1 .0)) (w .1) in
+    rk-ledger-request-cant-tell ιs c d u v k l (e ∙ z .0 ∙ sym f, (h, i)) m o
 
 -- `rk_scrub`, of two frames
 pub rk-scrub-cant-tell : CantTell _ rk-scrub-kinds.ps rk-scrub-kinds.r rk-scrub.Post (λ κs a b. SameButPrivate (now (a .0)) (now (b .0)) × (now (a .1 .0) ≡ now (b .1 .0))) (λ κs s. both (now (s .1 .0) ∷ []) (now (s .0)))

@@ -19,7 +19,7 @@ use Rattle.private.specs.Scrub.{painted, summed, scrubbed}
 use Rattle.walk_laws.specs.Walk.{after, next, found, noted, sightsOf}
 use Rattle.walk_laws.specs.Frames.{joined, eachOf}
 use Rattle.reading.specs.Seen.{seenOf, saysOf}
-use Rattle.walk_spec.specs.Walk.{accepts}
+use Rattle.walk_spec.specs.Walk.{accepts, sights, framesOf}
 use Rattle.clean_spec.specs.Clean.{framesIn, cleanOf, foundBy, foundIn}
 use Rattle.clean_spec.specs.Inside as inside
 use Rattle.clean_spec.specs.Inside.{heartbeat, fixedPart, orderTail, named, inside-damaged}
@@ -98,9 +98,11 @@ witness-differs =
 
 -- OUTSIDE IT. A pair that meets the premise: an order whose InvestorName is a whole heartbeat and
 -- four spaces, and the same order with a blank name. With the first byte of each damaged, the search
--- finds the heartbeat in the one, and nothing in the other.
+-- finds the heartbeat in the one, and nothing in the other: so the scrubbed bytes differ, and the
+-- listing, whose last line has how many frames there were (`framesOf`).
 pub damaged-differs :
     SameButPrivate (inside.frameOf 0x4D named 0x7B) (inside.frameOf 0x4D (replicate 32 0x20) 0xDF)
     × ((cleanOf (inside.frameOf 0x4E named 0x7B) ≡ heartbeat) × (cleanOf (inside.frameOf 0x4E (replicate 32 0x20) 0xDF) ≡ []))
-unfolding fixedPart orderTail frameA startOfA cleanOf framesIn foundIn foundBy accepts sightsOf noted found next after seenOf saysOf readOf checked bodyRead viewOf numeral digitsOf sum8 sumOf laid painted summed scrubbed joined eachOf kindOf suits measureOf layoutOf suitsTail tailOk tailOf m201Ok fieldsOk realTime realParts daysIn leap judgeOf
-damaged-differs = (only-private-hidden _ _ refl refl refl refl refl, (inside-damaged, refl))
+    × ((framesOf (sights (inside.frameOf 0x4E named 0x7B)) ≡ 1) × (framesOf (sights (inside.frameOf 0x4E (replicate 32 0x20) 0xDF)) ≡ 0))
+unfolding fixedPart orderTail frameA startOfA cleanOf framesIn foundIn foundBy accepts framesOf sightsOf noted found next after seenOf saysOf readOf checked bodyRead viewOf numeral digitsOf sum8 sumOf laid painted summed scrubbed joined eachOf kindOf suits measureOf layoutOf suitsTail tailOk tailOf m201Ok fieldsOk realTime realParts daysIn leap judgeOf
+damaged-differs = (only-private-hidden _ _ refl refl refl refl refl, (inside-damaged, refl), (refl, refl))
