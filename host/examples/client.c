@@ -1,17 +1,25 @@
 /* A client on standard input and output: it logs on, beats, asks for ticks 1 and 2 of channel 100
- * again, and leaves once the gateway has sent something for that. Status 0 after the gateway's
- * logout. */
+ * again, and leaves once the gateway has answered that. Status 0 after the gateway's logout.
+ *
+ *     client [MS]     MS: by this client's clock, so many milliseconds from one arrival to the next
+ *
+ * A session has no clock: time is an argument of its calls. So beats can be seen without waiting. */
 #define _POSIX_C_SOURCE 200809L
 #include "rietknoest.h"
 #include <poll.h>
+#include <stdlib.h>
 #include <string.h>
 #include <time.h>
 #include <unistd.h>
 
 enum { LOGON = 0x53303031, LOGOUT = 0x53303032, RESEND = 0x50303032 };
 
+static uint64_t step; /* the MS of the command line; 0: the machine's clock */
+
 static uint64_t clock_ms(void) {
+    static uint64_t now;
     struct timespec t;
+    if (step) return now += step;
     clock_gettime(CLOCK_MONOTONIC, &t);
     return (uint64_t)t.tv_sec * 1000 + (uint64_t)t.tv_nsec / 1000000;
 }
@@ -35,17 +43,18 @@ static int pass(rk_session *s, uint64_t now) {
     return 1;
 }
 
-int main(void) {
+int main(int count, char **words) {
     static uint8_t in[16384];
     size_t have = 0;
     rk_session s;
     rk_turn t;
     rk_arrival a;
+    if (count > 1) step = strtoull(words[1], NULL, 10);
     rk_session_open(&s);
     if (rk_session_begin(&s, clock_ms(), &t) == RK_DONE) send_frame(t.msg_type, t.seq);
     for (;;) {
         struct pollfd ready = {0, POLLIN, 0};
-        if (poll(&ready, 1, 1000) > 0) {
+        if (poll(&ready, 1, step ? -1 : 1000) > 0) {
             ssize_t n = read(0, in + have, sizeof in - have);
             if (n <= 0) return 1;
             have += (size_t)n;
@@ -61,7 +70,7 @@ int main(void) {
             if (!pass(&s, now)) return 1;
             /* a host with a ledger calls rk_session_may_send and rk_ledger_request before this */
             if (f.msg_type == LOGON && rk_session_ask(&s, now, &t) == RK_DONE) send_frame(t.msg_type, t.seq);
-            if (f.msg_type != LOGON && rk_session_leave(&s, now, &t) == RK_DONE) send_frame(t.msg_type, t.seq);
+            if (f.msg_type == RESEND && rk_session_leave(&s, now, &t) == RK_DONE) send_frame(t.msg_type, t.seq);
         }
         if (code != RK_MORE || !pass(&s, now)) return 1;
     }

@@ -1158,39 +1158,60 @@ fn a_program_in_c_prints_what_a_reply_settles() {
     assert_eq!(said, b"given up: 2 3\ndeliver: 4\n");
 }
 
-/// The next frame that a client sends.
-fn next_frame(from: &mut impl Read) -> (u32, u64, Vec<u8>) {
-    let mut head = [0; 24];
-    from.read_exact(&mut head).expect("a header");
-    let body = u32::from_be_bytes(head[20..].try_into().expect("4 bytes")) as usize;
-    let mut f = head.to_vec();
+/// The next frame that a client sends, with its type and number; none after the last.
+fn next_frame(from: &mut impl Read) -> Option<(u32, u64, Vec<u8>)> {
+    let mut f = vec![0; 24];
+    from.read_exact(&mut f).ok()?;
+    let body = u32::from_be_bytes(f[20..].try_into().expect("4 bytes")) as usize;
     f.resize(28 + body, 0);
     from.read_exact(&mut f[24..]).expect("the rest");
     let read = host::read(&f, 0).expect("a frame");
-    (read.msg_type as u32, read.seq.value(), f)
+    Some((read.msg_type as u32, read.seq.value(), f))
 }
 
-/// The gateway sends each frame back: under the same numbers, since both sides count alike.
-#[test]
-fn a_small_client_in_c_keeps_a_session() {
-    let program = compiled("cc", "-std=c11", "host/examples/client.c");
+/// The letters of all that the C client sends, where so many milliseconds pass from one arrival to
+/// the next (0: by the machine's clock), and whether it ends well. The gateway answers in kind,
+/// under its own numbers, and leaves heartbeats unanswered.
+fn client_sends(program: &Path, step: u64) -> (Vec<[u8; 4]>, bool) {
     let mut child = Command::new(program)
+        .arg(step.to_string())
         .stdin(Stdio::piped())
         .stdout(Stdio::piped())
         .spawn()
         .expect("a client");
     let mut to = child.stdin.take().expect("a pipe");
     let mut from = child.stdout.take().expect("a pipe");
-    for (at, expected) in [b"S001", b"P002", b"S002"].into_iter().enumerate() {
-        let (msg_type, seq, f) = next_frame(&mut from);
-        assert_eq!(msg_type, u32::from_be_bytes(*expected));
-        assert_eq!(seq, at as u64 + 1);
-        to.write_all(&f).expect("it reads");
+    let (mut sent, mut ours) = (Vec::new(), 0);
+    while let Some((msg_type, seq, f)) = next_frame(&mut from) {
+        sent.push(msg_type.to_be_bytes());
+        assert_eq!(seq, sent.len() as u64, "its numbers are 1, 2, 3 and so on");
+        if msg_type != u32::from_be_bytes(*b"S003") {
+            ours += 1;
+            let (mut answer, body) = (vec![0; f.len()], &f[24..f.len() - 4]);
+            let number = SessionNumber::new(ours);
+            host::write(msg_type, 20260121093000000, number, body, &mut answer).expect("a frame");
+            to.write_all(&answer).expect("it reads");
+        }
     }
-    assert!(child.wait().expect("its end").success());
-    let mut rest = Vec::new();
-    from.read_to_end(&mut rest).expect("its end");
-    assert!(rest.is_empty(), "sent after its logout");
+    (sent, child.wait().expect("its end").success())
+}
+
+#[test]
+fn a_small_client_in_c_keeps_a_session() {
+    let program = compiled("cc", "-std=c11", "host/examples/client.c");
+    // the agreed interval is 30 seconds: by the machine's clock, and just below it, none is due
+    for step in [0, 29_999] {
+        let sent = [*b"S001", *b"P002", *b"S002"].to_vec();
+        assert_eq!(client_sends(&program, step), (sent, true));
+    }
+    // at one interval a heartbeat is due each time; at two exactly the line is not dead
+    for step in [30_000, 60_000] {
+        let sent = [*b"S001", *b"S003", *b"P002", *b"S003", *b"S002"].to_vec();
+        assert_eq!(client_sends(&program, step), (sent, true));
+    }
+    // above two the next arrival comes too late
+    let sent = [*b"S001", *b"S003", *b"P002"].to_vec();
+    assert_eq!(client_sends(&program, 60_001), (sent, false));
 }
 
 #[test]

@@ -61,16 +61,23 @@ module _ (w : List ℕ) (time : ℕ) (e : Event) {l m : Line} {a : Answer} (le :
   call-done was row t q d p z te qe de =
       (tells-done _ was _ (called a t q d z te qe de ∙ call-paper), p ∙ ap wordsOf next-is ∙ sym (after-done w time e (sym number-is ∙ z)))
 
-module _ (w : List ℕ) (time : ℕ) (s : List ℕ) {l m : Line} {a : Answer} {n : ℕ} (le : l ≡ lineIn w) (ae : a ≡ answerTo l time (eventIn s)) (me : m ≡ nextOf l time (eventIn s)) (ne : n ≡ lengthIn s) where
+-- a frame that has arrived: its event e and its length n are told by its bytes
+module _ (w : List ℕ) (time : ℕ) (s : List ℕ) {l m : Line} {a : Answer} {e : Event} {n : ℕ} (le : l ≡ lineIn w) (ee : e ≡ eventIn s) (ae : a ≡ answerTo l time e) (me : m ≡ nextOf l time e) (ne : n ≡ lengthIn s) where
+  by-event : a ≡ answerTo l time (eventIn s)
+  by-event = ae ∙ ap (answerTo l time) ee
+
+  on-event : m ≡ nextOf l time (eventIn s)
+  on-event = me ∙ ap (nextOf l time) ee
+
   arrival-paper : arrivalPaper a n ≡ arrivalTold w time s
   unfolding arrivalTold
-  arrival-paper = ap₂ arrivalPaper (answer-is w time (eventIn s) le ae me) ne
+  arrival-paper = ap₂ arrivalPaper (answer-is w time (eventIn s) le by-event on-event) ne
 
   pub arrival-refused : (was : List ℕ) (r : ℕ) → r ≡ a .number → (r ≡ 0 → ⊥) → Tells (arrivalTold w time s) was r was × (w ≡ wordsAfter w time (eventIn s))
   arrival-refused was r p z =
-      (tells-refused _ was r (p ∙ ap (λ (x : Paper). x .number) arrival-paper) z, call-refused w time (eventIn s) le ae me was r p z .1)
+      (tells-refused _ was r (p ∙ ap (λ (x : Paper). x .number) arrival-paper) z, call-refused w time (eventIn s) le by-event on-event was r p z .1)
 
   pub arrival-done : (was row : List ℕ) (t q d : ℕ) → row ≡ wordsOf m → a .number ≡ 0 → t ≡ typeNumber (a .kind) → q ≡ a .seq → d ≡ one (a .dead)
       → Tells (arrivalTold w time s) was 0 (t ∷ q ∷ d ∷ n ∷ []) × (row ≡ wordsAfter w time (eventIn s))
   arrival-done was row t q d p z te qe de =
-      (tells-done _ was _ (arrived a t q d n z te qe de ∙ arrival-paper), call-done w time (eventIn s) le ae me was row t q d p z te qe de .1)
+      (tells-done _ was _ (arrived a t q d n z te qe de ∙ arrival-paper), call-done w time (eventIn s) le by-event on-event was row t q d p z te qe de .1)

@@ -187,8 +187,9 @@ pub extern "C" fn rk_session_receive(
     ensures { λ r. ⌜ Tells (arrivalTold (now (state .entry)) time (now (bytes .entry))) (now (told .entry)) r (now (told .exit))
         × (now (state .exit) ≡ wordsAfter (now (state .entry)) time (eventIn (now (bytes .entry)))) ⌝ }
 {
-    let arrival = session_in(state).received(time, bytes);
-    let turn = arrival.turn;
+    let arrived = session::told_by(bytes);
+    let event = arrived.event;
+    let turn = session_in(state).turn(time, event);
     let verdict = turn.answer;
     let answer = verdict.number();
     if answer != 0 {
@@ -197,7 +198,7 @@ pub extern "C" fn rk_session_receive(
     let next = turn.next;
     let kind = turn.kind;
     let number = turn.number;
-    let length = arrival.length as u64;
+    let length = arrived.length as u64;
     *state = words_of(next);
     *told = [type_of(kind), number.value(), one_if(turn.dead), length];
     0

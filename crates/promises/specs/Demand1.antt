@@ -485,6 +485,7 @@ session-answers =
     let Session-turn-one-answer = session.Session-turn-one-answer in
     let Session-may-send-one-answer = session.Session-may-send-one-answer in
     let Session-received-one-answer = session.Session-received-one-answer in
+    let told-by-one-answer = session.told-by-one-answer in
     named
 
 -- tails

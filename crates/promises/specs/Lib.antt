@@ -22,9 +22,5 @@ pub mod Session
 pub mod Between
 pub mod Channels
 pub mod Month
-pub mod TwoCaptures
-pub mod TwoCapturesHold
-pub mod TwoCapturesCalls
-pub mod Witness
 pub mod Arriving
 pub mod HostHeard

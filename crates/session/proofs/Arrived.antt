@@ -46,14 +46,14 @@ frame-length : (s : List ℕ) → readOf s .number ≡ 0 → lengthIn s ≡ 28 +
 unfolding lengthIn
 frame-length s z = rw (eq-eqb (readOf s .number) 0 z)
 
-pub read-told : (s : List ℕ) (t time q n h : ℕ) (k : Kind) → answer 0 (t ∷ time ∷ q ∷ n ∷ []) ≡ readOf s → k ≡ kindOf t → h ≡ heartBtInt s
-    → (byKind k q h ≡ eventIn s) × (28 + n ≡ lengthIn s)
-read-told s t time q n h k e f g =
+pub read-told : (s : List ℕ) (t time q n : ℕ) (k : Kind) → answer 0 (t ∷ time ∷ q ∷ n ∷ []) ≡ readOf s → k ≡ kindOf t
+    → (byKind k q (heartBtInt s) ≡ eventIn s) × (28 + n ≡ lengthIn s)
+read-told s t time q n k e f =
     let values = ap (λ (p : Paper). p .values) (read-values s t time q n e) in
     let is-type : t ≡ msgType s = ap (λ (vs : List ℕ). getD vs 0 0) values in
     let is-seq : q ≡ msgSeqNum s = ap (λ (vs : List ℕ). getD vs 2 0) values in
     let z = read-done s t time q n e in
-    (rw (f, is-type, is-seq, g) (sym (frame-event s z)), ap (λ (m : ℕ). 28 + m) (read-length s t time q n e) ∙ sym (frame-length s z))
+    (rw (f, is-type, is-seq) (sym (frame-event s z)), ap (λ (m : ℕ). 28 + m) (read-length s t time q n e) ∙ sym (frame-length s z))
 
 -- reading gives no number above 7
 at-most-7 : (n : ℕ) (s : List ℕ) → Reads n s → n ≤ 7

@@ -6,16 +6,22 @@ use Rattle.terms.specs.OneAnswer.{OneAnswer}
 use Rattle.terms.specs.Counters.{sessionOf}
 use Rattle.terms.specs.Verdicts.{verdict-one}
 use Rattle.terms.specs.declared.Verdict.{Verdict}
+use Rattle.session_spec.specs.Faults as faults
 use Rattle.session_spec.specs.Table as table
 use Rattle.session_spec.specs.Calls as calls
-use Rattle.session.specs.Papers.{stateOf, kindOf, lineOf, saidOf}
+use Rattle.session.specs.Papers.{stateOf, kindOf, faultOf, eventOf, lineOf, saidOf}
 use Rattle.session.specs.declared.State.{State}
 use Rattle.session.specs.declared.State.the-variants.{New, Waiting, Active, Leaving, Over}
 use Rattle.session.specs.declared.Kind.{Kind}
 use Rattle.session.specs.declared.Kind.the-variants.{Nothing, S001, S002, S003, P002}
+use Rattle.session.specs.declared.Fault.{Fault}
+use Rattle.session.specs.declared.Fault.the-variants as fault
+use Rattle.session.specs.declared.Event.{Event}
+use Rattle.session.specs.declared.Event.the-variants.{Begin, Time, Leave, Ask, Logon, Logout, Other, Faulty}
 use Rattle.session.specs.declared.Session.{Session}
 use Rattle.session.specs.declared.Turn.{Turn}
 use Rattle.session.specs.declared.Arrival.{Arrival}
+use Rattle.session.specs.declared.Told.{Told}
 use Rattle.session.proofs.Session.opened.Reads as opened
 use Rattle.session.proofs.Session.opened.Kinds as opened-kinds
 use Rattle.session.proofs.Session.turn.Reads as turn
@@ -24,6 +30,8 @@ use Rattle.session.proofs.Session.may_send.Reads as may-send
 use Rattle.session.proofs.Session.may_send.Kinds as may-send-kinds
 use Rattle.session.proofs.Session.received.Reads as received
 use Rattle.session.proofs.Session.received.Kinds as received-kinds
+use Rattle.session.proofs.told_by.Reads as told-by
+use Rattle.session.proofs.told_by.Kinds as told-by-kinds
 
 abbrev stateFrom : table.State → State
 stateFrom table.new = New
@@ -52,6 +60,53 @@ kind-back S001 = refl
 kind-back S002 = refl
 kind-back S003 = refl
 kind-back P002 = refl
+
+abbrev faultFrom : faults.Fault → Fault
+faultFrom faults.More = fault.More
+faultFrom faults.MsgType = fault.MsgType
+faultFrom faults.Long = fault.Long
+faultFrom faults.Length = fault.Length
+faultFrom faults.Sum = fault.Sum
+faultFrom faults.Field = fault.Field
+faultFrom faults.Time = fault.Time
+
+fault-back : (f : Fault) → faultFrom (faultOf f) ≡ f
+fault-back fault.More = refl
+fault-back fault.MsgType = refl
+fault-back fault.Long = refl
+fault-back fault.Length = refl
+fault-back fault.Sum = refl
+fault-back fault.Field = refl
+fault-back fault.Time = refl
+
+abbrev eventFrom : table.Event → Event
+eventFrom table.Begin = Begin
+eventFrom table.Time = Time
+eventFrom table.Leave = Leave
+eventFrom table.Ask = Ask
+eventFrom (table.Logon number heart) = Logon (sessionOf number) heart
+eventFrom (table.Logout number) = Logout (sessionOf number)
+eventFrom (table.Other number) = Other (sessionOf number)
+eventFrom (table.Faulty why) = Faulty (faultFrom why)
+
+event-back : (e : Event) → eventFrom (eventOf e) ≡ e
+event-back Begin = refl
+event-back Time = refl
+event-back Leave = refl
+event-back Ask = refl
+event-back (Logon number heart) = refl
+event-back (Logout number) = refl
+event-back (Other number) = refl
+event-back (Faulty why) = ap Faulty (fault-back why)
+
+abbrev toldFrom : table.Event → ℕ → Told
+toldFrom e n = record { event = eventFrom e; length = n }
+
+told-back : (t : Told) → toldFrom (eventOf (t .event)) (t .length) ≡ t
+told-back t = rw (event-back (t .event))
+
+told-one : (x y : Told) → eventOf (x .event) ≡ eventOf (y .event) → x .length ≡ y .length → x ≡ y
+told-one x y p q = sym (told-back x) ∙ ap₂ toldFrom p q ∙ told-back y
 
 abbrev sessionFrom : calls.Line → Session
 sessionFrom l =
@@ -103,3 +158,6 @@ Session-may-send-one-answer κs a x y s t p q = verdict-one x y (p ∙ sym q)
 
 pub Session-received-one-answer : OneAnswer _ received-kinds.ps received-kinds.r received.Post
 Session-received-one-answer κs a x y s t p q = arrival-one x y (p .0 ∙ sym (q .0)) (p .1 .0 ∙ sym (q .1 .0)) (p .1 .1 ∙ sym (q .1 .1))
+
+pub told-by-one-answer : OneAnswer _ told-by-kinds.ps told-by-kinds.r told-by.Post
+told-by-one-answer κs a x y s t p q = told-one x y (p .0 ∙ sym (q .0)) (p .1 ∙ sym (q .1))

@@ -13,8 +13,8 @@ use Rattle.rules.specs.Fields.{s001Ok, p001Ok, fieldsOk, judgeOf}
 use Rattle.frame_spec.specs.Frame.{checked, readOf}
 use Rattle.frame_spec.specs.Write.{plainOf, frameOf}
 use Rattle.frame_spec.specs.Examples.{startOfA, frameA, frameB, ending, A, heartbeat, logon}
-use Rattle.session_spec.specs.Faults.{Sum, faultNumbered}
-use Rattle.session_spec.specs.Table.{State, new, waiting, active, leaving, over, Kind, none, S001, S002, S003, P002, Event, Begin, Time, Ask, Logon, Logout, Other, Faulty}
+use Rattle.session_spec.specs.Faults.{Sum, faultNumber, faultNumbered}
+use Rattle.session_spec.specs.Table.{State, new, waiting, active, leaving, over, Kind, none, S001, S002, S003, P002, Event, Begin, Time, Leave, Ask, Logon, Logout, Other, Faulty}
 use Rattle.session_spec.specs.Calls.{Line, Answer, one, soundOf, deadAt, dueAt, cellOf, ownNumber, numberTo, done, answerTo, nextOf, opened}
 use Rattle.session.specs.Papers.{eventOf, lineOf, saidOf}
 use Rattle.session.specs.Arrivals.{eventIn, lengthIn}
@@ -26,6 +26,8 @@ use Rattle.session.proofs.Session.may_send.Reads as may-send
 use Rattle.session.proofs.Session.may_send.Kinds as may-send-kinds
 use Rattle.session.proofs.Session.received.Reads as received
 use Rattle.session.proofs.Session.received.Kinds as received-kinds
+use Rattle.session.proofs.told_by.Reads as told-by
+use Rattle.session.proofs.told_by.Kinds as told-by-kinds
 
 -- states from 0 in the table's order; kinds: nothing 0, S001 1, S002 2, S003 3, P002 4
 abbrev stateNumber : State → ℕ
@@ -146,6 +148,34 @@ unfolding soundOf deadAt dueAt cellOf ownNumber numberTo done answerTo nextOf ev
 Session-received-rules-out =
     ruled lists (λ (i : Arriving). outcome (answerTo (i .0) (i .1 .0) (eventIn (i .1 .1))) (nextOf (i .0) (i .1 .0) (eventIn (i .1 .1))) (lengthIn (i .1 .1)))
     (λ c p. outcome-is p) _ refl
+
+-- TOLD_BY: bytes; the outcome is the frame's length and the event: a frame's kind (a logon 1, a
+-- logout 2, any other 3), its number and a logon's HeartBtInt; or 4 and the number of reading's
+-- refusal
+abbrev eventNumbers : Event → List ℕ
+eventNumbers Begin = []
+eventNumbers Time = []
+eventNumbers Leave = []
+eventNumbers Ask = []
+eventNumbers (Logon number heart) = 1 ∷ number ∷ heart ∷ []
+eventNumbers (Logout number) = 2 ∷ number ∷ []
+eventNumbers (Other number) = 3 ∷ number ∷ []
+eventNumbers (Faulty why) = 4 ∷ faultNumber why ∷ []
+
+abbrev pub told-by-wrong : List (Row (List ℕ) (List ℕ))
+told-by-wrong =
+    logon 0x41 0x42 30 only (102 ∷ 1 ∷ 1 ∷ 30 ∷ [])  -- HeartBtInt from another place
+    ∷ (frameB ++ (1 ∷ 2 ∷ [])) only (40 ∷ 3 ∷ 2 ∷ [])  -- bytes behind the frame counted
+    ∷ heartbeat never (28 ∷ 2 ∷ 1 ∷ [])  -- a heartbeat told as a logout
+    ∷ ending 0 0x8F only (0 ∷ 4 ∷ 5 ∷ [])  -- a refused frame told as one
+    ∷ take 27 A only (0 ∷ 4 ∷ 1 ∷ [])  -- a cut one
+    ∷ []
+
+pub told-by-rules-out : RulesOut (Kept _ told-by-kinds.ps told-by-kinds.r told-by.Post) (λ c. now (c .args .0)) (λ c. c .result .length ∷ eventNumbers (eventOf (c .result .event))) told-by-wrong
+unfolding eventIn lengthIn faultNumbered frameA startOfA frameB checked plainOf frameOf readOf numeral digitsOf sum8 sumOf kindOf suits measureOf s001Ok p001Ok fieldsOk realTime realParts daysIn leap judgeOf
+told-by-rules-out =
+    ruled lists (λ (s : List ℕ). lengthIn s ∷ eventNumbers (eventIn s))
+    (λ c p. ap₂ (λ (n : ℕ) (e : Event). n ∷ eventNumbers e) (p .1) (p .0)) _ refl
 
 -- MAY_SEND: a session and a time
 abbrev pub may-send-wrong : List (Row (Line × ℕ) ℕ)

@@ -11,7 +11,8 @@ ghost use Rattle.session_spec.specs.Table.{Ask, rowOf, isFrame, seqOf, isOurs, 
 ghost use Rattle.session_spec.specs.Calls.{one, soundOf, countersRight, listening, longerThanTwo, deadAt, dueAt, cellOf, numberIn, kindIn, isDeath, stateIn, misnumbered, gone, spent, ownNumber, lastNumber, numbered, refused, told, done, answerTo, nextOf, opened};
 ghost use Rattle.session_spec.specs.Faults.{faultNumber, faultNumbered};
 ghost use Rattle.session.specs.Papers.{stateOf, kindOf, faultOf, eventOf, tableCell, lineOf, saidOf};
-ghost use Rattle.session.specs.Arrivals.{byKind, eventIn, lengthIn};
+ghost use Rattle.session.specs.Taken.{isOther, takes, takenLine};
+ghost use Rattle.session.specs.Arrivals.{byKind, heartBtInt, eventIn, lengthIn};
 use frame::Read;
 use rules::Kind as Row;
 use terms::Refusal;
@@ -316,6 +317,25 @@ fn is_ours(event: Event) -> bool
     }
 }
 
+// Whether a frame was read that is neither a logon nor a logout.
+fn is_other(event: Event) -> bool
+    ensures { λ r. ⌜ r ≡ isOther (eventOf event) ⌝ }
+{
+    match event {
+        Event::Begin => false,
+        Event::Time => false,
+        Event::Leave => false,
+        Event::Ask => false,
+        Event::Logon {
+            number: _,
+            heart: _,
+        } => false,
+        Event::Logout(_) => false,
+        Event::Other(_) => true,
+        Event::Faulty(_) => false,
+    }
+}
+
 // The interval after the event was taken: a logon's HeartBtInt, in milliseconds.
 fn interval_after(event: Event, was: u64) -> u64
     ensures { λ r. ⌜ r ≡ agreed (eventOf event) was ⌝ }
@@ -566,6 +586,44 @@ impl Session {
         }
     }
 
+    // Whether this is an ordinary frame, and the line takes it: nothing else happens then. Most
+    // calls are such, and need no look at the table.
+    fn takes(self, clock: u64, event: Event) -> bool
+        ensures { λ r. ⌜ r ≡ takes (lineOf self) clock (eventOf event) ⌝ }
+    {
+        let state = self.state;
+        if !is_other(event) {
+            return false;
+        }
+        is_listening(state) & (!self.misnumbered(event) & !self.ended(clock, event, Kind::Nothing))
+    }
+
+    // The frame is taken.
+    fn taken(self, clock: u64) -> Turn
+        requires { ⌜ self .expecting .0 + 1 ≤ lastNumber ⌝ }
+        ensures { λ r. ⌜ (saidOf r ≡ refused 0) × (lineOf (r .next) ≡ takenLine (lineOf self) clock) ⌝ }
+    {
+        let state = self.state;
+        let sending = self.sending;
+        let expecting = SessionNumber::new(self.expecting.value() + 1);
+        let next = Session {
+            state,
+            sending,
+            expecting,
+            last: clock,
+            sent: self.sent,
+            heard: clock,
+            interval: self.interval,
+        };
+        Turn {
+            next,
+            answer: Verdict::Fine,
+            kind: Kind::Nothing,
+            number: SessionNumber::new(0),
+            dead: false,
+        }
+    }
+
     // One call: the table's cell, behind 13, reading's own refusal, 30, 31, 32 and 33.
     pub fn turn(self, now: u64, event: Event) -> Turn
         ensures { λ r. ⌜ (saidOf r ≡ answerTo (lineOf self) now (eventOf event)) × (lineOf (r .next) ≡ nextOf (lineOf self) now (eventOf event)) ⌝ }
@@ -574,6 +632,9 @@ impl Session {
             return self.refuse(Refusal::State);
         }
         let clock = larger(self.last, now);
+        if self.takes(clock, event) {
+            return self.taken(clock);
+        }
         let cell = self.cell(clock, event);
         let verdict = self.verdict(clock, event, cell);
         match verdict {
@@ -617,12 +678,15 @@ fn fault_of(why: Refusal) -> Fault
     Fault::Time
 }
 
-// The event of a frame by its row of the table of types.
-fn by_kind(kind: Row, number: SessionNumber, heart: u16) -> Event
-    ensures { λ r. ⌜ eventOf r ≡ byKind kind (number .0) heart ⌝ }
+// The event of a frame by its row of the table of types. HeartBtInt is at 64 of a logon's body.
+fn by_kind(kind: Row, number: SessionNumber, bytes: &[u8]) -> Event
+    ensures { λ r. ⌜ eventOf r ≡ byKind kind (number .0) (heartBtInt (now (bytes .entry))) ⌝ }
 {
     match kind {
-        Row::S001 => Event::Logon { number, heart },
+        Row::S001 => {
+            let heart = octets::u16_at(bytes, 24 + 64);
+            Event::Logon { number, heart }
+        }
         Row::S002 => Event::Logout(number),
         Row::S003 => Event::Other(number),
         Row::P001 => Event::Other(number),
@@ -634,14 +698,16 @@ fn by_kind(kind: Row, number: SessionNumber, heart: u16) -> Event
     }
 }
 
-// What the bytes at the front are to a session, and how many of them.
-struct Told {
-    event: Event,
-    length: usize,
+// What the bytes at the front are to a session, and how many of them a frame takes: 0 where none
+// was read.
+pub struct Told {
+    pub event: Event,
+    pub length: usize,
 }
 
-// Reads the frame at the front. HeartBtInt is at 64 of a logon's body.
-fn told_by(bytes: &[u8]) -> Told
+// Reads the frame at the front, for a host that keeps its session elsewhere: it need not be at hand
+// while the bytes are read.
+pub fn told_by(bytes: &[u8]) -> Told
     ensures { λ r. ⌜ (eventOf (r .event) ≡ eventIn (now (bytes .entry))) × (r .length ≡ lengthIn (now (bytes .entry))) ⌝ }
 {
     match frame::read_at(bytes, 0) {
@@ -655,8 +721,7 @@ fn told_by(bytes: &[u8]) -> Told
             seq,
             body_len,
         } => {
-            let heart = octets::u16_at(bytes, 24 + 64);
-            let event = by_kind(rules::kind_of(msg_type), seq, heart);
+            let event = by_kind(rules::kind_of(msg_type), seq, bytes);
             let length = 28 + body_len;
             Told { event, length }
         }

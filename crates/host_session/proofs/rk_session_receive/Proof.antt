@@ -5,11 +5,14 @@ use borrow.Author.Needs.{needs}
 use Rattle.host_session.proofs.rk_session_receive.Statement.{statement}
 use Rattle.host_session.proofs.rk_session_receive.Tie as tie
 
+told-by-requires : tie.Need-told-by-requires
+told-by-requires c κs = search needs
+
 session-in-requires : tie.Need-session-in-requires
 session-in-requires c κs = search needs
 
-received-requires : tie.Need-received-requires
-received-requires c κs = search needs
+turn-requires : tie.Need-turn-requires
+turn-requires c κs = search needs
 
 number-requires : tie.Need-number-requires
 number-requires c κs = search needs
@@ -17,9 +20,10 @@ number-requires c κs = search needs
 returns : tie.Need-returns
 returns c =
     let number = c .before in
-    let arrival = number .before .before in
-    let told = arrival .received .ensures in
-    arrival-refused _ _ _ (arrival .before .session-in .ensures) (told .0) (told .1 .0) (told .1 .1) _ _ (number .number .ensures) (c .if1 .taken)
+    let turn = number .before in
+    let line = turn .before in
+    let told = line .before .before .told-by .ensures in
+    arrival-refused _ _ _ (line .session-in .ensures) (told .0) (turn .turn .ensures .0) (turn .turn .ensures .1) (told .1) _ _ (number .number .ensures) (c .if1 .taken)
 
 words-of-requires : tie.Need-words-of-requires
 words-of-requires c κs = search needs
@@ -41,17 +45,19 @@ returns-2 c =
     let words = kind .before in
     let zero = words .before .before .before in
     let number = zero .before in
-    let arrival = number .before .before in
-    let told = arrival .received .ensures in
-    arrival-done _ _ _ (arrival .before .session-in .ensures) (told .0) (told .1 .0) (told .1 .1) _ _ _ _ _ (words .words-of .ensures)
+    let turn = number .before in
+    let line = turn .before in
+    let told = line .before .before .told-by .ensures in
+    arrival-done _ _ _ (line .session-in .ensures) (told .0) (turn .turn .ensures .0) (turn .turn .ensures .1) (told .1) _ _ _ _ _ (words .words-of .ensures)
     (sym (number .number .ensures) ∙ zero .if1 .left) (kind .type-of .ensures) (seq .value .ensures) (dead .one-if .ensures)
 
 pub rk-session-receive-spec : {M : Type 1} → statement M
 rk-session-receive-spec =
     tie.close
     (tie.spec
+    told-by-requires
     session-in-requires
-    received-requires
+    turn-requires
     number-requires
     returns
     words-of-requires

@@ -30,8 +30,14 @@ enum-told-8 c = search needs
 enum-told-9 : tie.Need-enum-told-9
 enum-told-9 c = search needs
 
+add-u16-at : tie.Need-add-u16-at
+add-u16-at c = search needs
+
+u16-at-requires : tie.Need-u16-at-requires
+u16-at-requires c κs = search needs
+
 returns : tie.Need-returns
-returns c = rw (c .enum-told .given .1)
+returns c = rw (c .before .enum-told .given .1, c .u16-at .ensures)
 
 returns-2 : tie.Need-returns-2
 returns-2 c = rw (c .enum-told2 .given .1)
@@ -62,6 +68,8 @@ by-kind-spec =
     tie.close
     (tie.spec
     enum-told
+    add-u16-at
+    u16-at-requires
     enum-told-2
     enum-told-3
     enum-told-4

@@ -39,12 +39,6 @@ fault-of-requires c κs = search needs
 enum-known-msg-type : tie.Need-enum-known-msg-type
 enum-known-msg-type c = search needs
 
-add-u16-at : tie.Need-add-u16-at
-add-u16-at c = search needs
-
-u16-at-requires : tie.Need-u16-at-requires
-u16-at-requires c κs = search needs
-
 kind-of-requires : tie.Need-kind-of-requires
 kind-of-requires c κs = search needs
 
@@ -52,7 +46,7 @@ by-kind-requires : tie.Need-by-kind-requires
 by-kind-requires c κs = search needs
 
 add-length : tie.Need-add-length
-add-length c = omega (arith, small (c .before .before .before .before))
+add-length c = omega (arith, small (c .before .before .before))
 
 returns : tie.Need-returns
 returns c =
@@ -62,9 +56,8 @@ returns c =
 returns-2 : tie.Need-returns-2
 returns-2 c =
     let kind = c .before in
-    let heart = kind .before in
-    let m = heart .before .before in
-    let q = read-told (text m) _ _ _ _ _ (kind .kind-of .result) (paper m) (kind-is _ _ (kind .kind-of .ensures)) (heart .u16-at .ensures) in
+    let m = kind .before .before in
+    let q = read-told (text m) _ _ _ _ (kind .kind-of .result) (paper m) (kind-is _ _ (kind .kind-of .ensures)) in
     (c .by-kind .ensures ∙ q .0, q .1)
 
 pub told-by-spec : {M : Type 1} → statement M
@@ -75,8 +68,6 @@ told-by-spec =
     enum-known-why
     fault-of-requires
     enum-known-msg-type
-    add-u16-at
-    u16-at-requires
     kind-of-requires
     by-kind-requires
     add-length

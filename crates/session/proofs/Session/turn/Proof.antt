@@ -1,10 +1,12 @@
--- A broken session is refused; else the verdict on the table's cell decides. Assumes nothing.
+-- A broken session is refused; an ordinary frame that is taken sends nothing; else the verdict on the
+-- table's cell decides. Assumes nothing.
 use mathlib.Core.Path.{sym, ap, _∙_}
 use borrow.Author.Tests.{not-true, not-false}
 use Rattle.terms.specs.Refusals.{refusal-pos}
 use Rattle.session_spec.proofs.Fine.{fits-at}
 use Rattle.session_spec.proofs.Outcome.{broken-call, refused-call, done-call}
 use Rattle.terms.specs.Verdicts.{verdictNumber}
+use Rattle.session.proofs.Taken.{taken-call, taken-fits}
 use Rattle.session.specs.Papers.{lineOf}
 use borrow.Author.Needs.{needs}
 use Rattle.session.proofs.Session.turn.Statement.{statement}
@@ -24,6 +26,20 @@ returns c =
 larger-requires : tie.Need-larger-requires
 larger-requires c κs = search needs
 
+takes-requires : tie.Need-takes-requires
+takes-requires c κs = search needs
+
+taken-requires : tie.Need-taken-requires
+taken-requires c κs = taken-fits _ _ _ (sym (c .before .takes .ensures) ∙ c .if2 .taken) (search needs)
+
+returns-2 : tie.Need-returns-2
+returns-2 c =
+    let quick = c .before in
+    let clock = quick .before .before in
+    let sound = clock .before in
+    let q = taken-call _ _ _ _ (sym (sound .before .sound .ensures) ∙ not-false _ (sound .if1 .left)) (clock .larger .ensures) (sym (quick .before .takes .ensures) ∙ quick .if2 .taken) in
+    (c .taken .ensures .0 ∙ sym (q .0), c .taken .ensures .1 ∙ sym (q .1))
+
 cell-requires : tie.Need-cell-requires
 cell-requires c κs = search needs
 
@@ -42,23 +58,23 @@ enum-known-verdict c = search needs
 refuse-requires-2 : tie.Need-refuse-requires-2
 refuse-requires-2 c κs = search needs
 
-returns-2 : tie.Need-returns-2
-returns-2 c =
+returns-3 : tie.Need-returns-3
+returns-3 c =
     let told = c .before in
     let verdict = told .before .before in
     let cell = verdict .before in
-    let clock = cell .before in
+    let clock = cell .before .before .before in
     let sound = clock .before in
     let q = done-call _ _ _ _ _ (sym (sound .before .sound .ensures) ∙ not-false _ (sound .if1 .left)) (clock .larger .ensures) (cell .cell .ensures)
     (sym (ap verdictNumber (told .enum-told .given .1)) ∙ verdict .verdict .ensures) in
     (c .moved .ensures .0 ∙ sym (q .0), c .moved .ensures .1 ∙ sym (q .1))
 
-returns-3 : tie.Need-returns-3
-returns-3 c =
+returns-4 : tie.Need-returns-4
+returns-4 c =
     let why = c .before .before in
     let verdict = why .before .before in
     let cell = verdict .before in
-    let clock = cell .before in
+    let clock = cell .before .before .before in
     let sound = clock .before in
     let q = refused-call _ _ _ _ _ _ (refusal-pos (why .verdict2 .given .0 .0)) (sym (sound .before .sound .ensures) ∙ not-false _ (sound .if1 .left)) (clock .larger .ensures)
     (cell .cell .ensures) (sym (ap verdictNumber (why .verdict2 .given .1)) ∙ verdict .verdict .ensures) in
@@ -72,11 +88,14 @@ turn-spec =
     refuse-requires
     returns
     larger-requires
+    takes-requires
+    taken-requires
+    returns-2
     cell-requires
     verdict-requires
     enum-told
     moved-requires
     enum-known-verdict
     refuse-requires-2
-    returns-2
-    returns-3)
+    returns-3
+    returns-4)

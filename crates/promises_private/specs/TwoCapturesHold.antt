@@ -48,7 +48,7 @@ use Rattle.month_spec.specs.Trace.{pageAfter}
 use Rattle.clean_spec.specs.Clean as clean
 use Rattle.clean_spec.specs.Clean.{cleanOf, cleanAnswer, cleanLeaves}
 use Rattle.clean_spec.specs.Laws.{AllFrames, joined-sights, clean-joined}
-use Rattle.promises.specs.TwoCaptures.{PrivateAt, SameButPrivate, Pairwise, no-pair, one-pair, TwoCaptures, SameOutside, AllPairs, no-more, and-more, SamePages, OnlyPrivateHidden}
+use Rattle.promises_private.specs.TwoCaptures.{PrivateAt, SameButPrivate, Pairwise, no-pair, one-pair, TwoCaptures, SameOutside, AllPairs, no-more, and-more, SamePages, OnlyPrivateHidden}
 
 -- ONE PAIR
 

@@ -23,8 +23,8 @@ use Rattle.walk_spec.specs.Walk.{accepts, sights, framesOf}
 use Rattle.clean_spec.specs.Clean.{framesIn, cleanOf, foundBy, foundIn}
 use Rattle.clean_spec.specs.Inside as inside
 use Rattle.clean_spec.specs.Inside.{heartbeat, fixedPart, orderTail, named, inside-damaged}
-use Rattle.promises.specs.TwoCaptures.{SameButPrivate, Pairwise, no-pair, one-pair, TwoCaptures}
-use Rattle.promises.specs.TwoCapturesHold.{only-private-hidden}
+use Rattle.promises_private.specs.TwoCaptures.{SameButPrivate, Pairwise, no-pair, one-pair, TwoCaptures}
+use Rattle.promises_private.specs.TwoCapturesHold.{only-private-hidden}
 
 -- S002 with SessionStatus 0 and this Text
 abbrev logout : ℕ → List ℕ

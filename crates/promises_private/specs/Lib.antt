@@ -1,0 +1,4 @@
+pub mod TwoCaptures
+pub mod TwoCapturesHold
+pub mod TwoCapturesCalls
+pub mod Witness
