@@ -13,16 +13,16 @@ pub struct Exchange {
     pub told: ChannelTold,
 }
 
-// Every call on a table, by its code. The index, the names and the one row that the call is about
-// are copied out; index, row and the name beside it are put back, and the answer beside the call.
+// Every call on a table, by its code. The names are lent; the index and the one row that the call
+// is about are copied out; index, row and the name beside it are put back, and the answer beside
+// the call.
 #[no_mangle]
 pub extern "C" fn rk_channels(table: &mut Channels, exchange: &mut Exchange)
     ensures { λ _. ⌜ Exchanges (now (table .entry)) (now (exchange .entry)) (now (table .exit)) (now (exchange .exit)) ⌝ }
 {
     let call = exchange.call;
-    let names = table.names;
     let index = table.index;
-    let turn = index.turn_to(names, call);
+    let turn = index.turn_to(&table.names.channels, call);
     let at = turn.at;
     let row = table.rows[at];
     let done = row.answered(index, turn, call);
