@@ -1,6 +1,7 @@
 /* Calls every name of the header's table of channels, as the lines on standard input ask, and prints each answer with what was told, then the
  * table. Each line is a name and its numbers. The table is lent with known numbers around it; one that changes, a told row that is written
- * beside a refusal, and a table that a refusal changes (12 may change it) end the program with status 3. */
+ * beside a refusal, a table that a refusal changes (12 may change it), and a row that tells something else when it is lent as a ledger end
+ * the program with status 3. */
 #include "rietknoest.h"
 #include <inttypes.h>
 #include <stdio.h>
@@ -46,6 +47,18 @@ static void answered(uint32_t answer, int numbers) {
     }
 }
 
+/* Whether the row of an open channel, lent as a ledger, tells what the table told of it. */
+static int row_tells(uint64_t channel) {
+    int rows = 0, same = 0;
+    for (int i = 0; i < 32; i++) {
+        rk_told beside;
+        if ((table.row.used >> i & 1) == 0 || table.row.channels[i] != channel) continue;
+        rows++;
+        same += rk_ledger_told(&table.row.rows[i], &beside) == RK_DONE && memcmp(&beside, &told.told, sizeof beside) == 0;
+    }
+    return rows == 1 && same == 1;
+}
+
 int main(void) {
     memset(&table, 0xA5, sizeof table);
     while (scanf("%31s", name) == 1) {
@@ -82,8 +95,10 @@ int main(void) {
         } else if (strcmp(name, "renew") == 0) {
             answered(answer = rk_channels_renew(&table.row), 0);
         } else if (strcmp(name, "told") == 0) {
-            answered(answer = rk_channels_told(&table.row, (uint16_t)number(), &told.told), 7);
+            uint16_t channel = (uint16_t)number();
+            answered(answer = rk_channels_told(&table.row, channel, &told.told), 7);
             insist(memcmp(&was, &table.row, sizeof was) == 0, "the table changed");
+            if (answer == RK_DONE) insist(row_tells(channel), "the channel's row tells something else");
         } else {
             insist(0, "no such name");
         }

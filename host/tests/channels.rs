@@ -376,9 +376,38 @@ fn one_call(s: &mut Script, d: &mut Dice, table: &mut Channels) {
     }
 }
 
+/// 33 channels: the last one has no place before another is closed. 10 and 22 come before 21.
+fn thirty_three(s: &mut Script) {
+    let mut table = Channels::none();
+    s.ask("none", &[], Ok(vec![]), &table);
+    let (full, open, range) = (21, 22, 10);
+    let calls = (101..=132).map(|channel| ("open", channel, 0)).chain([
+        ("open", 133, full),
+        ("open", 10_000, range),
+        ("open", 132, open),
+        ("open", 101, open),
+        ("close", 117, 0),
+        ("open", 133, 0),
+        ("open", 117, full),
+    ]);
+    for (call, channel, number) in calls {
+        let c = ChannelNumber::new(channel as u16);
+        let answer = match call {
+            "open" => table.open(c),
+            _ => table.close(c),
+        };
+        let said = answer.map_or_else(Refusal::number, |()| 0);
+        assert_eq!(said, number, "{call} {channel}");
+        s.ask(call, &[channel], answer.map(|()| vec![]), &table);
+    }
+    let seventeenth = table.places().nth(16).flatten();
+    assert_eq!(seventeenth, Some(ChannelNumber::new(133)));
+}
+
 #[test]
 fn c_gets_the_answers_that_rust_gets() {
     let mut s = Script::default();
+    thirty_three(&mut s);
     let d = &mut Dice::new(3, 1);
     for _ in 0..150 {
         let mut table = Channels::none();
@@ -396,7 +425,7 @@ fn c_gets_the_answers_that_rust_gets() {
         }
     }
     for (call, numbers) in [
-        ("open", &[0, 10, 13, 22][..]),
+        ("open", &[0, 10, 13, 21, 22][..]),
         ("close", &[0, 13, 18]),
         ("tick", &[0, 10, 11, 12, 13, 18]),
         ("announce", &[0, 10, 13, 18]),

@@ -6,6 +6,7 @@ use mathlib.Core.Bool.{Bool, true, false}
 use mathlib.Core.List.{List, [], _∷_, _++_}
 use lib.Count.{ones, trailingZeros}
 use lib.ListN.{replicate}
+use denote.Ref.{now}
 use Rattle.terms.specs.RuledOut.{Row, _never_, _only_, Kept, RulesOut, ruled, lists}
 use Rattle.tick_map.specs.Bits.{valueOf, mapOf, run}
 use Rattle.tick_map.specs.Ring.{rotated}
@@ -86,7 +87,7 @@ Index-turn-to-wrong =
     ∷ (index 3 0 32 31, (names 7, tick 7 1)) only (0 ∷ 7 ∷ 1 ∷ [])  -- unless it is free
     ∷ []
 
-pub Index-turn-to-rules-out : RulesOut (Kept _ turn-to-kinds.ps turn-to-kinds.r turn-to.Post) (λ c. (c .args .0, (c .args .1 .0 .channels, c .args .1 .1 .0))) (λ c. seenTurn (c .result)) Index-turn-to-wrong
+pub Index-turn-to-rules-out : RulesOut (Kept _ turn-to-kinds.ps turn-to-kinds.r turn-to.Post) (λ c. (c .args .0, (now (c .args .1 .0), c .args .1 .1 .0))) (λ c. seenTurn (c .result)) Index-turn-to-wrong
 unfolding turnOf onceOf askedOrTurn placeIn placeFrom freeIn stepsIn turnIn least
 Index-turn-to-rules-out = ruled lists (λ (i : Index × (List ℕ × ChannelCall)). seenTurn (turnedOf (i .0) (i .1 .0) (i .1 .1))) (λ c p. ap seenTurn (p .0)) _ refl
 

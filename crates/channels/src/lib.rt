@@ -405,25 +405,25 @@ impl Index {
     }
 
     // The row that a call is about, or 32: a request's and a new session's by the index, any other
-    // call's by the channel that it names.
-    pub fn turn_to(self, names: Names, call: ChannelCall) -> Turn
-        ensures { λ r. ⌜ (r ≡ turnedOf self (names .channels) call) × (r .at ≤ 32) ⌝ }
+    // call's by the channel that it names. The names are lent: a copy of them costs more than a
+    // request.
+    pub fn turn_to(self, names: &[u64; 33], call: ChannelCall) -> Turn
+        ensures { λ r. ⌜ (r ≡ turnedOf self (now (names .entry)) call) × (r .at ≤ 32) ⌝ }
     {
         let code = call.code;
-        let channels = names.channels;
         if code == 4 {
-            return turned(&channels, self.asked_or_turn(), true);
+            return turned(names, self.asked_or_turn(), true);
         }
         if code == 7 {
-            return turned(&channels, at_most_32(self.asked), true);
+            return turned(names, at_most_32(self.asked), true);
         }
-        let own = place_from(&channels, self.used, call.channel, 0);
-        let second = place_from(&channels, self.used, call.channel, own + 1);
+        let own = place_from(names, self.used, call.channel, 0);
+        let second = place_from(names, self.used, call.channel, own + 1);
         let once = second >= 32;
         if code == 0 {
-            return turned(&channels, self.opening(own), once);
+            return turned(names, self.opening(own), once);
         }
-        turned(&channels, own, once)
+        turned(names, own, once)
     }
 
     // The index after the ledger at a place has come to `next`.

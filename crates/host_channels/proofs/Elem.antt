@@ -98,6 +98,10 @@ module _ (F : Field) (L : FLaws F) where
   spelled (x ∷ xs) [] s = absurd s
   spelled (x ∷ xs) (u ∷ us) s = (subst (λ (vs : List Val). Is (F .row) (F .into x) vs) (L .tells (F .into x) (u ∷ []) (s .0)) (s .0), spelled xs us (s .1))
 
+  -- an array's machine value, spelled by its elements
+  pub spelled-array : (n : ℕ) (xs : List (F .Value)) (vs : List Val) → Is (Array (F .row) n) (map (F .into) xs) vs → Is (Array (F .row) n) (map (F .into) xs) (arrayVal (cells xs) ∷ [])
+  spelled-array n xs vs p = (cells xs, ((refl, p .1 .0 .1), spelled xs (p .0) (p .1 .1)))
+
   pub each-at : (xs : List (F .Value)) (i : ℕ) (d : F .Value) → i < length xs → Each xs → Is (F .row) (F .into (getD xs i d)) (L .val (F .into (getD xs i d)) ∷ [])
   each-at [] i d l s = absurd (not-suc-le-zero l)
   each-at (x ∷ xs) zero d l s = s .0

@@ -13,21 +13,25 @@ pub struct Exchange {
     pub told: ChannelTold,
 }
 
-// Every call on a table, by its code. The index, the names and the one row that the call is about
-// are copied out; index, row and the name beside it are put back, and the answer beside the call.
+// Every call on a table, by its code. The names are lent; the index and the one row that the call
+// is about are copied out. The answer is put beside the call. A refusal but 12 ends there; else
+// index, row and the name beside it are put back.
 #[no_mangle]
 pub extern "C" fn rk_channels(table: &mut Channels, exchange: &mut Exchange)
     ensures { λ _. ⌜ Exchanges (now (table .entry)) (now (exchange .entry)) (now (table .exit)) (now (exchange .exit)) ⌝ }
 {
     let call = exchange.call;
-    let names = table.names;
     let index = table.index;
-    let turn = index.turn_to(names, call);
+    let turn = index.turn_to(&table.names.channels, call);
     let at = turn.at;
     let row = table.rows[at];
     let done = row.answered(index, turn, call);
+    exchange.told = done.told;
+    let number = done.told.answer;
+    if (number != 0) & (number != 12) {
+        return;
+    }
     table.names.channels[at] = done.name;
     table.index = done.index;
     table.rows[at] = done.row;
-    exchange.told = done.told;
 }
