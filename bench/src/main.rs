@@ -301,7 +301,7 @@ fn ledgers() {
     println!("| ns a tick | ours | plain ring | ratio | goal | plain shift | ratio to it | goal |");
     println!("|---|---|---|---|---|---|---|---|");
     let in_order: Vec<u64> = (1..=20_000).collect();
-    ledger("in order", &[], &in_order, Some(1.0));
+    ledger("in order", &[], &in_order, Some(0.8));
     let mut late = Vec::new();
     for n in 1..=20_000 {
         if n % 16 != 0 {
@@ -315,7 +315,7 @@ fn ledgers() {
         "every sixteenth comes 100 ticks late",
         &[],
         &late,
-        Some(1.0),
+        Some(0.8),
     );
     // the first of each 64 comes last
     let runs: Vec<u64> = (0..312)

@@ -1,6 +1,6 @@
 //! The gap ledger of one tick channel.
 
-use crate::numbers::{result, ChannelNumber, Refusal, TickNumber};
+use crate::numbers::{result, told, ChannelNumber, Refusal, TickNumber};
 use crate::raw;
 
 /// The form of a ledger's words. Saved words are for the library that made them: with another form
@@ -117,10 +117,9 @@ impl Ledger {
 
     /// Offers a tick, and returns the numbers that the floor has just passed. Only one refusal
     /// changes the ledger: 12 raises the top.
+    #[inline]
     pub fn tick(&mut self, channel: ChannelNumber, number: TickNumber) -> Result<Passed, Refusal> {
-        let mut passed = Passed::default();
-        let answer = raw::ledger_tick(self, channel, number, &mut passed);
-        result(answer, passed)
+        told(|passed| raw::ledger_tick(self, channel, number, passed))
     }
 
     /// Announces the channel's last number.
@@ -130,9 +129,7 @@ impl Ledger {
 
     /// Asks what to request again. The range returned is pending from now on.
     pub fn request(&mut self, channel: ChannelNumber) -> Result<Request, Refusal> {
-        let mut request = Request::default();
-        let answer = raw::ledger_request(self, channel, &mut request);
-        result(answer, request)
+        told(|request| raw::ledger_request(self, channel, request))
     }
 
     /// The exchange's reply to the pending request, which is then no longer pending. On status 4 the
@@ -164,6 +161,7 @@ impl Ledger {
 
     /// How many numbers from `a` to `b`, both included, are missing: neither received nor given up,
     /// and not above the top. 0 if `b` is below `a`. No span takes longer than one of 256 numbers.
+    #[inline]
     pub fn missing_between(
         &self,
         channel: ChannelNumber,

@@ -104,6 +104,19 @@ pub(crate) fn result<T>(answer: u32, value: T) -> Result<T, Refusal> {
     }
 }
 
+/// What a call writes, if its code is 0, else the refusal. The call writes where the result stands: a
+/// copy of two words by one load would wait until both stores are done.
+#[inline]
+pub(crate) fn told<T: Default>(call: impl FnOnce(&mut T) -> u32) -> Result<T, Refusal> {
+    let mut told = Ok(T::default());
+    if let Ok(value) = &mut told {
+        if let Err(why) = result(call(value), ()) {
+            told = Err(why);
+        }
+    }
+    told
+}
+
 /// The value of a call that is never refused.
 pub(crate) fn always<T>(answer: u32, value: T) -> T {
     result(answer, value).expect("the library never refuses this call")

@@ -248,6 +248,7 @@ pub fn ledger_open(channel: ChannelNumber, state: &mut Ledger) -> u32 {
     unsafe { rk_ledger_open(channel.value(), state) }
 }
 
+#[inline]
 pub fn ledger_tick(
     state: &mut Ledger,
     channel: ChannelNumber,
@@ -293,6 +294,7 @@ pub fn ledger_told(state: &Ledger, told: &mut StatusRow) -> u32 {
     unsafe { rk_ledger_told(state, told) }
 }
 
+#[inline]
 pub fn ledger_missing(
     state: &Ledger,
     channel: ChannelNumber,

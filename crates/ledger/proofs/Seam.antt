@@ -7,7 +7,7 @@ use Prim.Native.Nat.{ℕ, _+_, _-_, _/_, _%_, _^_, _≤_, _<_, min, max}
 use native.Mathlib.Nat.{add-zero, mod-le, lt-of-le-of-lt, mod-lt, le-of-lt, mod-eq-of-lt, div-eq-of-lt, div-one, zero-div}
 use native.Mathlib.Decide.{decLt, decLe}
 use native.Mathlib.Omega.{arith}
-use borrow.Author.Tests.{eq-eqb, ne-eqb, eqb-false}
+use borrow.Author.Tests.{eq-eqb, ne-eqb, eqb-true, eqb-false, lt-ltb, le-ltb, le-leb, lt-leb}
 use lib.Bits.{bitOr, or-lt}
 use lib.Count.{ones, trailingZeros}
 use lib.Dec.{eqb, leb, ltb}
@@ -27,9 +27,9 @@ use Rattle.tick_map.proofs.Digits.{bit-lt, bit-none, bit-above, bit-ext, bit-sh
 use Rattle.tick_map.proofs.Words.{map-of, map-at, value-of, list-lt}
 use Rattle.tick_map.proofs.Ring.{bit-mod, rotated-round, rotated-none, rotated-ext, rotated-lt, rotated-bit, rotated-ones, rotated-zero, rotated-set, rotated-laid, laid-rotated}
 use Rattle.tick_map.proofs.Stretch.{without-lt, without-in, without-out, without-is, without-down, only-lt, only-read}
-use Rattle.ledger_spec.specs.State.{Asked, nothing, range, Book, largest, mapRules, soundOf, StateRules}
+use Rattle.ledger_spec.specs.State.{Asked, nothing, range, Book, largest, has, mapRules, soundOf, StateRules}
 use Rattle.ledger.specs.State.{askedOf, pendingOf, bookOf, ledgerOf, topped, nextBy, nextIn, laidFrom}
-use Rattle.ledger_spec.specs.Calls.{Call, Announce, Request, Reply, Question, Ask, Missing, Held, Between, Renew, tickNumber, replyStatus, isPending, startsAt, elsewhere, ownNumber, checkedOf, marked, passes, taken, covered, leaps, gaveUp, handed, replied, betweenCount, waiting, fresh, done, raised, offered, valuesOf, beside, numberTo, answerTo, nextOf}
+use Rattle.ledger_spec.specs.Calls.{Call, Tick, Announce, Request, Reply, Question, Ask, Missing, Held, Between, Renew, tickNumber, replyStatus, isPending, startsAt, elsewhere, ownNumber, checkedOf, marked, passes, taken, covered, leaps, gaveUp, handed, replied, betweenCount, waiting, fresh, done, raised, offered, valuesOf, beside, numberTo, answerTo, nextOf}
 use Rattle.ledger.specs.Papers.{verdictNumber}
 use Rattle.ledger.specs.declared.Ledger.{Ledger}
 use Rattle.ledger.specs.declared.Verdict.{Verdict}
@@ -398,6 +398,12 @@ checked-bad b other own k e n =
     (λ (f : soundOf b ≡ false). e ∙ rw f refl)
     (two (soundOf b))
 
+apart18 : _≡_ {A = ℕ} 0 18 → ⊥
+apart18 z = omega arith
+
+apart13 : _≡_ {A = ℕ} 0 13 → ⊥
+apart13 z = omega arith
+
 pub checked-fine : (b : Book) (other : Bool) (own : ℕ) → 0 ≡ checkedOf b other 0 → own ≡ checkedOf b other own
 unfolding checkedOf
 checked-fine b other own e =
@@ -407,12 +413,53 @@ checked-fine b other own e =
     (two other))
     (λ (f : soundOf b ≡ false). absurd (apart13 (e ∙ rw f refl)))
     (two (soundOf b))
-  where
-    apart18 : _≡_ {A = ℕ} 0 18 → ⊥
-    apart18 z = omega arith
 
-    apart13 : _≡_ {A = ℕ} 0 13 → ⊥
-    apart13 z = omega arith
+-- what the outer checks tell where they find nothing
+pub outer-fine : (b : Book) (c : ℕ) → 0 ≡ checkedOf b (not (eqb c (b .channel))) 0 → (soundOf b ≡ true) × (c ≡ b .channel)
+unfolding checkedOf
+outer-fine b c e =
+    ⊎-elim (λ (t : soundOf b ≡ true). ⊎-elim
+    (λ (o : eqb c (b .channel) ≡ true). (t, eqb-true c (b .channel) o))
+    (λ (o : eqb c (b .channel) ≡ false). absurd (apart18 (e ∙ rw (t, o) refl)))
+    (two (eqb c (b .channel))))
+    (λ (f : soundOf b ≡ false). absurd (apart13 (e ∙ rw f refl)))
+    (two (soundOf b))
+
+-- a tick of the channel has then its own number
+pub own-fine : (b : Book) (n k : ℕ) → soundOf b ≡ true → k ≡ ownNumber b (Tick 0 n) → k ≡ numberTo b (Tick (b .channel) n)
+unfolding numberTo checkedOf ownNumber
+own-fine b n k t e = e ∙ rw (t, eq-eqb (b .channel) (b .channel) refl) refl
+
+-- the own number of a tick, by the code's tests: above the floor received is held, and nothing beyond
+-- floor + 256 is
+module _ (l : Ledger) (h : Words (l .map .words)) (n : ℕ) where
+  pub own-range : tickNumber n ≡ false → 10 ≡ ownNumber (bookOf l) (Tick 0 n)
+  unfolding ownNumber
+  own-range e = simp e
+
+  module _ (digits : tickNumber n ≡ true) where
+    pub own-below : n ≤ l .floor .0 → 11 ≡ ownNumber (bookOf l) (Tick 0 n)
+    unfolding ownNumber has bookOf
+    own-below g = simp (digits, le-leb _ _ g)
+
+    pub own-far : l .floor .0 + 256 < n → 12 ≡ ownNumber (bookOf l) (Tick 0 n)
+    unfolding ownNumber has bookOf
+    own-far g =
+        let above : l .floor .0 < n = omega arith in
+        let e : isSet (bookOf l .bits) (n - l .floor .0 - 1) ≡ false = ap (λ (x : ℕ). eqb x 1) (place-none l h n g) in
+        simp (digits, lt-leb _ _ above, e, lt-ltb _ _ g)
+
+    module _ (above : l .floor .0 < n) (near : n ≤ l .floor .0 + 256) where
+      place-held : isSet (bookOf l .bits) (n - l .floor .0 - 1) ≡ isSet (bitsIn (l .map)) (n % 256)
+      place-held = ap (λ (x : ℕ). eqb x 1) (place-bit l h n above near)
+
+      pub own-held : isSet (bitsIn (l .map)) (n % 256) ≡ true → 11 ≡ ownNumber (bookOf l) (Tick 0 n)
+      unfolding ownNumber has bookOf
+      own-held e = simp (digits, lt-leb _ _ above, place-held ∙ e)
+
+      pub own-none : isSet (bitsIn (l .map)) (n % 256) ≡ false → 0 ≡ ownNumber (bookOf l) (Tick 0 n)
+      unfolding ownNumber has bookOf
+      own-none e = simp (digits, lt-leb _ _ above, place-held ∙ e, le-ltb _ _ near)
 
 -- a set beside an answer is laid as it is read
 pub laid-kept : (first : TickNumber) (v : ℕ) → v < 2 ^ 256 → mapOf v ≡ laidFrom first (mapOf v)

@@ -151,8 +151,8 @@ fn right(first: u64, last: u64, floor: u64, top: u64) -> bool
 }
 
 // Whether the map, read round from `from`, keeps the state rules, where `known` numbers lie above
-// the floor and not above the top. A map has 256 places: where fewer numbers are known, nothing is
-// left of it without the places of those after the first.
+// the floor and not above the top. A map has 256 places: where fewer numbers are known, no place is
+// held but those of the ones after the first.
 fn map_sound(map: Map, from: u64, known: u64) -> bool
     ensures { λ r. ⌜ r ≡ mapRules (rotated from (bitsIn map)) known ⌝ }
 {
@@ -162,17 +162,14 @@ fn map_sound(map: Map, from: u64, known: u64) -> bool
     if known == 0 {
         return map.empty();
     }
-    map.cleared(from % 256 + 1, known - 1).empty()
+    map.none_but(from % 256, known - 1)
 }
 
 // A number of 1 to 18 digits.
 fn tick_number(n: u64) -> bool
     ensures { λ r. ⌜ r ≡ tickNumber n ⌝ }
 {
-    if n < 1 {
-        return false;
-    }
-    n <= LARGEST
+    (1 <= n) & (n <= LARGEST)
 }
 
 // 10 of a span, whichever of its ends is wrong.
@@ -321,41 +318,6 @@ impl Ledger {
         }
     }
 
-    // 10 or 11 of a number up to the floor.
-    fn below_floor(self, n: u64) -> Verdict
-        requires { ⌜ (1 ≤ n) × (n ≤ self .floor .0) ⌝ }
-        ensures { λ r. ⌜ verdictNumber r ≡ ownNumber (bookOf self) (Tick 0 n) ⌝ }
-    {
-        if LARGEST < n {
-            return Verdict::Bad(Refusal::Range);
-        }
-        Verdict::Bad(Refusal::Repeat)
-    }
-
-    // 10, 11, 12 of a tick. Beyond floor + 256 its place is another number's, and it is not held.
-    fn tick_verdict(self, n: u64) -> Verdict
-        ensures { λ r. ⌜ verdictNumber r ≡ ownNumber (bookOf self) (Tick 0 n) ⌝ }
-    {
-        let floor = self.floor.value(); // all up to it are received or given up
-        let map = self.map;
-        if n < 1 {
-            return Verdict::Bad(Refusal::Range);
-        }
-        if n <= floor {
-            return self.below_floor(n);
-        }
-        if LARGEST < n {
-            return Verdict::Bad(Refusal::Range);
-        }
-        if 256 < n - floor {
-            return Verdict::Bad(Refusal::Far);
-        }
-        if map.holds(n % 256) {
-            return Verdict::Bad(Refusal::Repeat);
-        }
-        Verdict::Fine
-    }
-
     // A tick whose place is marked: the floor passes the run of held places above it, which are then
     // free for the numbers 256 above.
     fn passed_run(self, n: u64) -> Ticked
@@ -466,16 +428,28 @@ impl Ledger {
         }
     }
 
-    // 13, then 18, then what the tick itself has found: it is looked at last, so that each refusal
-    // ends the checks.
-    fn tick_checked(self, channel: ChannelNumber, n: u64) -> Verdict
-        ensures { λ r. ⌜ verdictNumber r ≡ checkedOf (bookOf self) (not (eqb (channel .0) (bookOf self .channel))) (ownNumber (bookOf self) (Tick 0 n)) ⌝ }
+    // What a tick of the ledger's own channel comes to: 10, 11, 12, or it is taken. Beyond floor +
+    // 256 its place is another number's, and it is not held.
+    fn offered(self, n: u64) -> Ticked
+        requires { ⌜ soundOf (bookOf self) ≡ true ⌝ }
+        ensures { λ r. ⌜ (tickPaper (r .answer) ≡ answerTo (bookOf self) (Tick (bookOf self .channel) n))
+            × (r .next ≡ nextIn self (Tick (bookOf self .channel) n)) ⌝ }
     {
-        let outer = self.checked(channel, Verdict::Fine);
-        match outer {
-            Verdict::Bad(why) => Verdict::Bad(why),
-            Verdict::Fine => self.tick_verdict(n),
+        let floor = self.floor.value(); // all up to it are received or given up
+        let map = self.map;
+        if !tick_number(n) {
+            return self.tick_refused(n, Refusal::Range);
         }
+        if n <= floor {
+            return self.tick_refused(n, Refusal::Repeat);
+        }
+        if 256 < n - floor {
+            return self.tick_refused(n, Refusal::Far);
+        }
+        if map.holds(n % 256) {
+            return self.tick_refused(n, Refusal::Repeat);
+        }
+        self.taken(n)
     }
 
     // Marks the tick received, and moves the floor up as far as no number is missing. Refusals 13,
@@ -485,10 +459,10 @@ impl Ledger {
             × (r .next ≡ nextIn self (Tick (channel .0) (number .0))) ⌝ }
     {
         let n = number.value();
-        let verdict = self.tick_checked(channel, n);
+        let verdict = self.checked(channel, Verdict::Fine);
         match verdict {
             Verdict::Bad(why) => self.tick_refused(n, why),
-            Verdict::Fine => self.taken(n),
+            Verdict::Fine => self.offered(n),
         }
     }
 
@@ -790,6 +764,17 @@ impl Ledger {
         }
     }
 
+    // 13, then 18, then 10 of the span: looked at last, so that each refusal ends the checks.
+    fn span_checked(self, channel: ChannelNumber, from: u64, to: u64) -> Verdict
+        ensures { λ r. ⌜ verdictNumber r ≡ checkedOf (bookOf self) (not (eqb (channel .0) (bookOf self .channel))) (pick (not (tickNumber from && tickNumber to)) 10 0) ⌝ }
+    {
+        let outer = self.checked(channel, Verdict::Fine);
+        match outer {
+            Verdict::Bad(why) => Verdict::Bad(why),
+            Verdict::Fine => span_verdict(from, to),
+        }
+    }
+
     // How many numbers from a to b, both counted, are missing; none are where b is below a. 13, 18,
     // 10.
     pub fn missing_between(self, channel: ChannelNumber, a: TickNumber, b: TickNumber) -> Counted
@@ -798,7 +783,7 @@ impl Ledger {
     {
         let from = a.value();
         let to = b.value();
-        let verdict = self.checked(channel, span_verdict(from, to));
+        let verdict = self.span_checked(channel, from, to);
         match verdict {
             Verdict::Bad(why) => self.uncounted(why),
             Verdict::Fine => self.counted(self.between(from, to)),

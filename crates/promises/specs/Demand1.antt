@@ -209,6 +209,7 @@ map-answers =
     let Map-first-from-one-answer = tick_map.Map-first-from-one-answer in
     let Map-run-from-one-answer = tick_map.Map-run-from-one-answer in
     let Map-held-from-one-answer = tick_map.Map-held-from-one-answer in
+    let Map-none-but-one-answer = tick_map.Map-none-but-one-answer in
     let Map-cleared-one-answer = tick_map.Map-cleared-one-answer in
     let Map-only-one-answer = tick_map.Map-only-one-answer in
     let Map-lacking-one-answer = tick_map.Map-lacking-one-answer in

@@ -5,5 +5,6 @@ pub mod Ones
 pub mod Places
 pub mod Ring
 pub mod Stretch
+pub mod Turned
 pub mod Words
 pub mod RuledOut

@@ -17,6 +17,8 @@ use Rattle.tick_map.proofs.Map.run_from.Reads as run-from
 use Rattle.tick_map.proofs.Map.run_from.Kinds as run-from-kinds
 use Rattle.tick_map.proofs.Map.held_from.Reads as held-from
 use Rattle.tick_map.proofs.Map.held_from.Kinds as held-from-kinds
+use Rattle.tick_map.proofs.Map.none_but.Reads as none-but
+use Rattle.tick_map.proofs.Map.none_but.Kinds as none-but-kinds
 use Rattle.tick_map.proofs.Map.cleared.Reads as cleared
 use Rattle.tick_map.proofs.Map.cleared.Kinds as cleared-kinds
 use Rattle.tick_map.proofs.Map.only.Reads as only
@@ -47,6 +49,9 @@ Map-run-from-one-answer κs a x y s t p q = p ∙ sym q
 
 pub Map-held-from-one-answer : OneAnswer _ held-from-kinds.ps held-from-kinds.r held-from.Post
 Map-held-from-one-answer κs a x y s t p q = p ∙ sym q
+
+pub Map-none-but-one-answer : OneAnswer _ none-but-kinds.ps none-but-kinds.r none-but.Post
+Map-none-but-one-answer κs a x y s t p q = p ∙ sym q
 
 pub Map-cleared-one-answer : OneAnswer _ cleared-kinds.ps cleared-kinds.r cleared.Post
 Map-cleared-one-answer κs a x y s t p q = p ∙ sym q

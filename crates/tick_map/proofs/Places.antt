@@ -128,7 +128,7 @@ module _ (p s k : ℕ) (hp : p < 256) (hs : s < 256) (hk : k ≤ 256) where
 
 -- ---- word by word
 
-four-words : (a b c d : ℕ) → a < 2 ^ 64 → b < 2 ^ 64 → c < 2 ^ 64 → d < 2 ^ 64 → Words (a ∷ b ∷ c ∷ d ∷ [])
+pub four-words : (a b c d : ℕ) → a < 2 ^ 64 → b < 2 ^ 64 → c < 2 ^ 64 → d < 2 ^ 64 → Words (a ∷ b ∷ c ∷ d ∷ [])
 four-words a b c d x y z t = record { four = refl; low = at }
   where
     at : (i : ℕ) → Fits w64 (getD (a ∷ b ∷ c ∷ d ∷ []) i 0)

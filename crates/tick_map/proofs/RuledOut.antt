@@ -27,6 +27,8 @@ use Rattle.tick_map.proofs.Map.held_from.Reads as held-from
 use Rattle.tick_map.proofs.Map.held_from.Kinds as held-from-kinds
 use Rattle.tick_map.proofs.Map.empty.Reads as empty
 use Rattle.tick_map.proofs.Map.empty.Kinds as empty-kinds
+use Rattle.tick_map.proofs.Map.none_but.Reads as none-but
+use Rattle.tick_map.proofs.Map.none_but.Kinds as none-but-kinds
 use Rattle.tick_map.proofs.Map.cleared.Reads as cleared
 use Rattle.tick_map.proofs.Map.cleared.Kinds as cleared-kinds
 use Rattle.tick_map.proofs.Map.only.Reads as only-reads
@@ -125,6 +127,24 @@ Map-empty-wrong =
 
 pub Map-empty-rules-out : RulesOut (Kept _ empty-kinds.ps empty-kinds.r empty.Post) (λ c. bitsIn (c .args .0)) (λ c. c .result) Map-empty-wrong
 Map-empty-rules-out = ruled bools (λ (m : ℕ). eqb m 0) (λ c p. p) _ refl
+
+-- the k places behind s, counted round: the map, s and k
+abbrev pub Map-none-but-wrong : List (Row (ℕ × ℕ × ℕ) Bool)
+Map-none-but-wrong =
+    (1, 0, 3) never true  -- place s itself let through
+    ∷ (2 ^ 4, 0, 3) never true  -- one place too many
+    ∷ (2 ^ 3, 0, 3) never false  -- one too few
+    ∷ (2 ^ 130, 60, 6) never true  -- only the words where the places begin and end looked at
+    ∷ (2 ^ 3, 60, 6) never true  -- before s, in its own word
+    ∷ (2 ^ 255 + 2, 254, 3) only true  -- gone round
+    ∷ (2 ^ 255 + 2, 254, 2) only false
+    ∷ (2 ^ 100, 7, 300) only true  -- all places are among 256
+    ∷ (0, 7, 0) only true
+    ∷ []
+
+pub Map-none-but-rules-out : RulesOut (Kept _ none-but-kinds.ps none-but-kinds.r none-but.Post) (λ c. (bitsIn (c .args .0), c .args .1 .0, c .args .1 .1 .0)) (λ c. c .result) Map-none-but-wrong
+unfolding rotated without
+Map-none-but-rules-out = ruled bools (λ (i : ℕ × ℕ × ℕ). eqb (without (i .1 + 1) (i .2) (i .0)) 0) (λ c p. p) _ refl
 
 abbrev pub Map-cleared-wrong : List (Row (ℕ × ℕ × ℕ) ℕ)
 Map-cleared-wrong =

@@ -96,11 +96,17 @@ module _ (a b c d : ℕ) (ha : a < 2 ^ 64) (hb : b < 2 ^ 64) (hc : c < 2 ^ 64) w
 
 -- ---- no digit is set exactly where no word has one
 
-zero-or : (a b : ℕ) → bitOr a b ≡ 0 → (a ≡ 0) × (b ≡ 0)
+pub zero-or : (a b : ℕ) → bitOr a b ≡ 0 → (a ≡ 0) × (b ≡ 0)
 zero-or a b e = (omega (arith, or-add-and a b, and-le-r a b), omega (arith, or-add-and a b, and-le-l a b))
 
-zero-over : (a r : ℕ) → over a r ≡ 0 → (a ≡ 0) × (r ≡ 0)
+pub zero-over : (a r : ℕ) → over a r ≡ 0 → (a ≡ 0) × (r ≡ 0)
 zero-over a r e = (omega arith, omega arith)
+
+pub same-zero : (x y : ℕ) → (x ≡ 0 → y ≡ 0) → (y ≡ 0 → x ≡ 0) → eqb x 0 ≡ eqb y 0
+same-zero x y f g = elim (eq-zero-or-pos x) [
+  | inl e ↦ eq-eqb x 0 e ∙ sym (eq-eqb y 0 (f e))
+  | inr p ↦ ne-eqb x 0 (ne-of-gt p) ∙ sym (ne-eqb y 0 (λ e. ne-of-gt p (g e)))
+]
 
 pub value-zero : (a b c d : ℕ) → eqb (bitOr (bitOr (bitOr a b) c) d) 0 ≡ eqb (valueOf a b c d) 0
 unfolding valueOf
@@ -119,12 +125,6 @@ value-zero a b c d = same-zero (bitOr (bitOr (bitOr a b) c) d) (over (over (over
         let y = zero-over (over d c) b (x .0) in
         let z = zero-over d c (y .0) in
         rw (x .1, y .1, z .1, z .0)
-
-    same-zero : (x y : ℕ) → (x ≡ 0 → y ≡ 0) → (y ≡ 0 → x ≡ 0) → eqb x 0 ≡ eqb y 0
-    same-zero x y f g = elim (eq-zero-or-pos x) [
-      | inl e ↦ eq-eqb x 0 e ∙ sym (eq-eqb y 0 (f e))
-      | inr p ↦ ne-eqb x 0 (ne-of-gt p) ∙ sym (ne-eqb y 0 (λ e. ne-of-gt p (g e)))
-    ]
 
 -- ---- the same of a list of four words
 module _ (w : List ℕ) (h : Words w) where
@@ -156,7 +156,7 @@ module _ (w : List ℕ) (h : Words w) where
 
 -- a word chosen by tests
 pub word-of : (w : List ℕ) (j : ℕ) → j < 4
-    → pick (ltb j 2) (pick (eqb j 0) (getD w 0 0) (getD w 1 0)) (pick (eqb j 2) (getD w 2 0) (getD w 3 0)) ≡ getD w j 0
+    → pick (ltb j 2) (pick (eqb (j % 2) 1) (getD w 1 0) (getD w 0 0)) (pick (eqb (j % 2) 1) (getD w 3 0) (getD w 2 0)) ≡ getD w j 0
 word-of w zero l = refl
 word-of w (suc zero) l = refl
 word-of w (suc (suc zero)) l = refl

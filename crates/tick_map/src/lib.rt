@@ -1,13 +1,14 @@
 // 256 bits in four words, as one number: place i is digit i of it, bit i % 64 (the low bit first)
 // of word i / 64. A map is read round from any place: the place after 255 is 0.
 ghost use mathlib.Core.Path.{_≡_};
+ghost use mathlib.Core.List.{[], _∷_};
 ghost use Prim.Native.Nat.{ℕ, _+_, _-_, _*_, _/_, _%_, _^_, _<_, _≤_, min};
-ghost use lib.Bits.{bitOr};
+ghost use lib.Bits.{bitOr, bitAnd};
 ghost use lib.Count.{ones, trailingZeros};
 ghost use lib.Dec.{eqb, ltb};
 ghost use lib.ListN.{getD};
 ghost use Rattle.terms.specs.Paper.{pick};
-ghost use Rattle.tick_map.specs.Bits.{bit, isSet, run, bitsIn, mapOf};
+ghost use Rattle.tick_map.specs.Bits.{bit, isSet, run, valueOf, bitsIn, mapOf};
 ghost use Rattle.tick_map.specs.Ring.{rotated, without, only, lacking};
 
 // How many digits of a word are set.
@@ -46,6 +47,14 @@ fn digit(i: u64) -> u64
     1u64 << i
 }
 
+// The n lowest digits of a word.
+fn lowest(n: u64) -> u64
+    requires { ⌜ n < 64 ⌝ }
+    ensures { λ r. ⌜ r ≡ 2 ^ n - 1 ⌝ }
+{
+    digit(n) - 1
+}
+
 // Word j of the map that holds place i alone.
 fn place(i: u64, j: u64) -> u64
     ensures { λ r. ⌜ r ≡ pick (eqb j (i / 64)) (2 ^ (i % 64)) 0 ⌝ }
@@ -66,7 +75,7 @@ const ALL: u64 = 0xFFFF_FFFF_FFFF_FFFF;
 fn below(x: u64, j: u64) -> u64
     ensures { λ r. ⌜ ((q : ℕ) → q < 64 → bit r q ≡ pick (ltb (64 * j + q) x) 1 0) ⌝ }
 {
-    let own = digit(x % 64) - 1;
+    let own = lowest(x % 64);
     either(j < x / 64, ALL, either(j == x / 64, own, 0))
 }
 
@@ -78,6 +87,30 @@ fn span(s: u64, k: u64, j: u64) -> u64
 {
     let e = s % 256 + k;
     below(s % 256, j) ^ below(e % 256, j) ^ either(256 <= e, ALL, 0)
+}
+
+// Whether four words hold no place but perhaps the k behind place q of the first one, counted
+// round: not q and those before it, and not those behind the k, of which the first is in the word
+// that is shifted.
+fn none_but_in(a: u64, b: u64, c: u64, d: u64, q: u64, k: u64) -> bool
+    requires { ⌜ (q < 64) × (k < 256) ⌝ }
+    ensures { λ r. ⌜ r ≡ eqb (rotated (q + 1) (valueOf a b c d) / 2 ^ k) 0 ⌝ }
+{
+    let end = q + 1 + k;
+    let low = a << 63 - q;
+    if end < 64 {
+        return low | a >> end | b | c | d == 0;
+    }
+    if end < 128 {
+        return low | b >> end - 64 | c | d == 0;
+    }
+    if end < 192 {
+        return low | c >> end - 128 | d == 0;
+    }
+    if end < 256 {
+        return low | d >> end - 192 == 0;
+    }
+    low >> k - 192 == 0
 }
 
 // The lowest word first.
@@ -98,9 +131,66 @@ impl Map {
         requires { ⌜ j < 4 ⌝ }
         ensures { λ r. ⌜ r ≡ getD (self .words) j 0 ⌝ }
     {
-        let low = either(j == 0, self.words[0], self.words[1]);
-        let high = either(j == 2, self.words[2], self.words[3]);
+        let odd = j % 2 == 1;
+        let low = either(odd, self.words[1], self.words[0]);
+        let high = either(odd, self.words[3], self.words[2]);
         either(j < 2, low, high)
+    }
+
+    // The words from word j on, counted round: chosen, as one is.
+    fn turned(self, j: u64) -> Map
+        requires { ⌜ j < 4 ⌝ }
+        ensures { λ r. ⌜ bitsIn r ≡ rotated (64 * j) (bitsIn self) ⌝ }
+    {
+        let w = self.words;
+        let odd = j % 2 == 1;
+        let near = j < 2;
+        let a = either(odd, w[1], w[0]);
+        let b = either(odd, w[2], w[1]);
+        let c = either(odd, w[3], w[2]);
+        let d = either(odd, w[0], w[3]);
+        Map {
+            words: [
+                either(near, a, c),
+                either(near, b, d),
+                either(near, c, a),
+                either(near, d, b),
+            ],
+        }
+    }
+
+    // Of each word the digits of one mask.
+    fn masked(self, a: u64, b: u64, c: u64, d: u64) -> Map
+        ensures { λ r. ⌜ r .words ≡ bitAnd (getD (self .words) 0 0) a ∷ bitAnd (getD (self .words) 1 0) b ∷ bitAnd (getD (self .words) 2 0) c ∷ bitAnd (getD (self .words) 3 0) d ∷ [] ⌝ }
+    {
+        let w = self.words;
+        Map {
+            words: [w[0] & a, w[1] & b, w[2] & c, w[3] & d],
+        }
+    }
+
+    // The k places from place q of the first word on alone, counted round: where they end, the
+    // words before are whole, and those behind are empty.
+    fn front(self, q: u64, k: u64) -> Map
+        requires { ⌜ (q < 64) × (k ≤ 256) ⌝ }
+        ensures { λ r. ⌜ r ≡ mapOf (only q k (bitsIn self)) ⌝ }
+    {
+        let end = q + k;
+        let own = lowest(end % 64);
+        let first = ALL ^ lowest(q);
+        if end < 64 {
+            return self.masked(first & own, 0, 0, 0);
+        }
+        if end < 128 {
+            return self.masked(first, own, 0, 0);
+        }
+        if end < 192 {
+            return self.masked(first, ALL, own, 0);
+        }
+        if end < 256 {
+            return self.masked(first, ALL, ALL, own);
+        }
+        self.masked(first | own, ALL, ALL, ALL)
     }
 
     // How many places are held.
@@ -120,8 +210,7 @@ impl Map {
         if 256 <= i {
             return false;
         }
-        let j = (i / 64) as usize;
-        bit_in(self.words[j], i % 64)
+        bit_in(self.word(i / 64), i % 64)
     }
 
     // Place i held too; from 256 on there is no place, and nothing changes.
@@ -164,6 +253,18 @@ impl Map {
         w[0] | w[1] | w[2] | w[3] == 0
     }
 
+    // Whether no place is held but perhaps the k behind place s, counted round.
+    pub fn none_but(self, s: u64, k: u64) -> bool
+        ensures { λ r. ⌜ r ≡ eqb (without (s + 1) k (bitsIn self)) 0 ⌝ }
+    {
+        if 256 <= k {
+            return true;
+        }
+        let t = self.turned(s / 64 % 4);
+        let w = t.words;
+        none_but_in(w[0], w[1], w[2], w[3], s % 64, k)
+    }
+
     // How many places from s on are clear, counted round: 256 where none is held.
     // The place's own word is the first one, and the last: by then its places from s on are known
     // to be clear.
@@ -201,7 +302,8 @@ impl Map {
     pub fn held_from(self, s: u64, k: u64) -> u64
         ensures { λ r. ⌜ r ≡ ones (rotated s (bitsIn self) % 2 ^ k) ⌝ }
     {
-        self.only(s, k).held()
+        let t = self.turned(s / 64 % 4);
+        t.front(s % 64, smaller(k, 256)).held()
     }
 
     // The map without the k places from s on, counted round; beyond 256 nothing is left.
