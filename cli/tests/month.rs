@@ -216,3 +216,44 @@ fn a_file_that_is_not_there() {
     let said = "rietknoest: none: No such file or directory\n";
     assert_eq!((ran.status, ran.out(), ran.error()), (Some(2), out, said));
 }
+
+/// The second program's figures of captures, told from their originals, are those of the page over
+/// what `scrub` makes of them.
+#[test]
+fn it_agrees_with_the_second_program() {
+    use oracle::month::{Figures, Month};
+    let named = [100, 7, 9].map(oracle::numbers::Channel);
+    let lines = |figures: &[Figures]| {
+        let rows = named.iter().zip(figures).map(|(channel, f)| {
+            let [received, repeated, far, missing, asked, unavailable] = f.numbers();
+            format!(
+                "{} received {received} repeated {repeated} far {far} missing {missing} \
+                 asked {asked} unavailable {unavailable}\n",
+                channel.0
+            )
+        });
+        rows.collect::<String>()
+    };
+    for case in 0..30 {
+        let mut d = oracle::made::Dice::new(11, case);
+        let mut page = Month::started(&named).0;
+        let mut folder = Folder::new();
+        let mut text = String::new();
+        for name in ["one", "two", "three"] {
+            let about = d.of(&[0, 300, 5_000]);
+            let capture = oracle::made::busy_capture(&mut d, &[100, 7, 8], about);
+            let figures = page.add(&capture).expect("few captures and small sums");
+            text += &format!("{name}\n{}", lines(&figures));
+            folder = folder.with("in", &capture);
+            assert_ne!(
+                run(&folder, &["scrub", "in", "-o", name]).status,
+                Some(2),
+                "case {case}"
+            );
+        }
+        text += &format!("sums of 3 captures\n{}", lines(&page.sums));
+        let missing = page.sums.iter().any(|f| f.missing > 0);
+        let words = ["month", "--channels", "100,7,9", "one", "two", "three"];
+        run(&folder, &words).quiet(i32::from(missing), &text);
+    }
+}

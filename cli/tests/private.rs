@@ -6,7 +6,7 @@ use std::collections::BTreeSet;
 use std::fs;
 
 use common::*;
-use rietknoest_host::{private_spans, read, search, tail_fields, Frame, HEADER};
+use rietknoest_host::{first_unclean, private_spans, read, search, tail_fields, Frame, HEADER};
 
 /// Shorter runs of bytes occur anywhere by chance.
 const ROW: usize = 6;
@@ -170,6 +170,8 @@ fn no_private_byte_is_written() {
         "list --json sample",
         "list --summary sample",
         "list sample sample",
+        "list --follow",
+        "list --follow --json",
         "gaps sample",
         "gaps --json sample",
         "month --channels 100 sample",
@@ -192,8 +194,9 @@ fn no_private_byte_is_written() {
     for place in 0..=sample().len() {
         words.push(vec!["explain".into(), "sample".into(), place.to_string()]);
     }
+    let capture = sample();
     for words in words {
-        let ran = run(&folder, &words);
+        let ran = run_on(&folder, &words, &capture);
         assert_ne!(ran.status, None, "{words:?}");
         assert_eq!(sought.found(&ran.out), 0, "{words:?}");
         assert_eq!(sought.found(&ran.error), 0, "{words:?}");
@@ -302,6 +305,20 @@ fn session(letter: &str) -> Vec<u8> {
     .concat()
 }
 
+/// A line of words is told alike over two captures that stand in their folders as `in`, and come
+/// through a pipe too, for the lines that name no file.
+fn told_alike(folders: &[Folder; 2], line: &str) {
+    let words: Vec<_> = line.split(' ').collect();
+    let [one, other] = [&folders[0], &folders[1]].map(|folder| {
+        let capture = fs::read(folder.path("in")).unwrap();
+        run_on(folder, &words, &capture)
+    });
+    assert_eq!(one.status, other.status, "{line}");
+    assert!(one.out == other.out, "{line}: standard output differs");
+    assert!(one.error == other.error, "{line}: standard error differs");
+    assert_eq!(folders[0].names(), folders[1].names(), "{line}");
+}
+
 /// Two captures that differ in private bytes alone: every command prints the same of both, on both
 /// streams, with the same status, and writes the same file.
 #[test]
@@ -312,9 +329,12 @@ fn private_bytes_leave_no_trace() {
         "list --json in",
         "list --summary in",
         "list --json --summary in in",
+        "list --follow",
+        "list --follow --json",
         "gaps in",
         "gaps --json in in",
         "month --channels 100 in",
+        "month --channels 100,101 in in",
         "check in",
         "check in in",
         "scrub in -o out",
@@ -336,30 +356,30 @@ fn private_bytes_leave_no_trace() {
         lines.extend([0, 1, 24, 60].map(|more| format!("explain in {}", place + more)));
     }
     for line in lines {
-        let words: Vec<_> = line.split(' ').collect();
-        let [one, other] = [&folders[0], &folders[1]].map(|folder| run(folder, &words));
-        assert_eq!(one.status, other.status, "{line}");
-        assert!(one.out == other.out, "{line}: standard output differs");
-        assert!(one.error == other.error, "{line}: standard error differs");
-        assert_eq!(folders[0].names(), folders[1].names(), "{line}");
+        told_alike(&folders, &line);
     }
     let [one, other] = folders.map(|folder| fs::read(folder.path("out")).unwrap());
     assert!(one == other && !one.is_empty());
 }
 
 /// Generated pairs of captures of all types, up to 64 KiB, that the second program finds to differ
-/// in private fields and checksums alone (CR 13).
+/// in private fields and checksums alone (CR 13). `month` over the pair itself is compared where
+/// neither is clean: it counts clean captures alone (13.8).
 #[test]
 fn generated_pairs_are_told_alike() {
+    let mut left_out = 0;
     for (case, about) in [(0, 300), (1, 3_000), (2, 20_000), (3, 60_000)] {
         let mut d = oracle::made::Dice::new(13, case);
         let (one, other) = oracle::alike::pair_of_captures(&mut d, about, 600);
         assert!(oracle::alike::captures_alike(&one, &other) && one != other);
+        let clean = [&one, &other].map(|capture| first_unclean(capture).is_none());
         let folders = [one, other].map(|capture| Folder::new().with("in", &capture));
         for line in [
             "list in",
             "list --json in",
             "list --summary in",
+            "list --follow",
+            "list --follow --json",
             "gaps in",
             "gaps --json in",
             "scrub in -o out",
@@ -367,15 +387,19 @@ fn generated_pairs_are_told_alike() {
             "list out",
             "month --channels 100,101 out",
         ] {
-            let words: Vec<_> = line.split(' ').collect();
-            let [one, other] = [&folders[0], &folders[1]].map(|folder| run(folder, &words));
-            assert_eq!(one.status, other.status, "case {case}: {line}");
-            assert!(one.out == other.out, "case {case}: {line}");
-            assert!(one.error == other.error, "case {case}: {line}");
+            told_alike(&folders, line);
+        }
+        if clean == [false; 2] {
+            let ran = run(&folders[0], &["month", "--channels", "100,101", "in"]);
+            assert_eq!(ran.status, Some(1), "case {case}");
+            assert!(ran.out().starts_with("sums of 0 captures\n"), "case {case}");
+            told_alike(&folders, "month --channels 100,101 in");
+            left_out += 1;
         }
         let [one, other] = folders.map(|folder| fs::read(folder.path("out")).unwrap());
         assert!(one == other, "case {case}: what scrub wrote");
     }
+    assert!(left_out > 1, "most pairs have no clean one: {left_out}");
 }
 
 /// `month` counts clean captures alone, so it tells a clean one from its unscrubbed pair: docs/PRIVATE.md

@@ -174,10 +174,12 @@ impl Channels {
         }))
     }
 
-    /// The channel at each of the 32 places; none at a free one.
+    /// The channel at each of the 32 places; none at a free one. A name that needs more than two
+    /// bytes, which no call writes, is told as 65,535: no channel's.
     pub fn places(&self) -> impl Iterator<Item = Option<ChannelNumber>> + '_ {
         let open = |i: &usize| self.used >> i & 1 == 1;
-        (0..32).map(move |i| open(&i).then(|| ChannelNumber::new(self.names[i] as u16)))
+        let name = |i: usize| u16::try_from(self.names[i]).unwrap_or(u16::MAX);
+        (0..32).map(move |i| open(&i).then(|| ChannelNumber::new(name(i))))
     }
 
     /// The numbers, to save the table. Save [`STATE_FORM`](crate::STATE_FORM) with them.

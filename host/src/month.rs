@@ -71,10 +71,12 @@ impl Month {
         self.named.min(32) as usize
     }
 
-    /// The channels, in the order named.
+    /// The channels, in the order named. One that needs more than two bytes, which no call writes,
+    /// is told as 65,535: no channel's.
     pub fn channels(&self) -> impl Iterator<Item = ChannelNumber> + '_ {
         let named = &self.channels[..self.named()];
-        named.iter().map(|c| ChannelNumber::new(*c as u16))
+        let name = |c: &u64| u16::try_from(*c).unwrap_or(u16::MAX);
+        named.iter().map(move |c| ChannelNumber::new(name(c)))
     }
 
     /// How many captures were taken.

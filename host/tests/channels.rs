@@ -1,9 +1,10 @@
 //! Thirty-two channels on one line: the library against oracle/, the second program, by the scripts of oracle/scripts/channels.txt and
-//! generated ones; tables made by hand that break their rules; and a C program that calls every name of the header.
+//! generated ones, tables that break their rules among both; and a C program that calls every name of the header.
 
 use oracle::answers::{Answer, Told};
 use oracle::cases::text::{compare, difference};
 use oracle::channels::cases::{by_hand, generated, Answers, Oracle, NUMBERS, SCRIPTS};
+use oracle::channels::lent::TableNumbers;
 use oracle::channels::script::otherwise;
 use oracle::ledger::{Range, Settled};
 use oracle::made::Dice;
@@ -43,6 +44,14 @@ impl Answers for Library {
 
     fn none(&self) -> Channels {
         Channels::none()
+    }
+
+    fn of_numbers(&self, numbers: &TableNumbers) -> Channels {
+        Channels::from_words(numbers)
+    }
+
+    fn numbers(&self, table: &Channels) -> TableNumbers {
+        table.to_words()
     }
 
     fn open(&self, table: &mut Channels, channel: Channel) -> Answer<()> {
@@ -130,7 +139,7 @@ fn generated_scripts() {
     compare(&NUMBERS, 20, ours, theirs);
 }
 
-// TABLES THAT BREAK THEIR RULES
+// A TABLE IN NUMBERS
 
 /// Where the index stands among a table's numbers.
 const USED: usize = 33;
@@ -148,67 +157,6 @@ fn two() -> Channels {
     let seven = ChannelNumber::new(7);
     table.announce(seven, TickNumber::new(3)).expect("a top");
     table
-}
-
-fn broken(changes: &[(usize, u64)]) -> Channels {
-    let mut words = two().to_words();
-    for (at, word) in changes {
-        words[*at] = *word;
-    }
-    Channels::from_words(&words)
-}
-
-#[test]
-fn thirteen_where_a_call_looks() {
-    let tick = |table: &mut Channels, channel| {
-        table
-            .tick(ChannelNumber::new(channel), TickNumber::new(1))
-            .map(|_| ())
-    };
-    type Call<'a> = &'a dyn Fn(&mut Channels) -> Result<(), Refusal>;
-    let seven: Call = &|t| tick(t, 7);
-    let eight: Call = &|t| tick(t, 8);
-    let request: Call = &|t| t.request().map(|_| ());
-    let again: Call = &|t| t.open(ChannelNumber::new(7));
-    let renew: Call = &Channels::renew;
-    let state = Err(Refusal::State);
-    type Case<'a> = (&'a [(usize, u64)], Call<'a>, Result<(), Refusal>);
-    let cases: [Case; 20] = [
-        (&[], seven, Ok(())),
-        (&[], request, Ok(())),
-        (&[(USED, 3 | 1 << 32)], seven, state),
-        (&[(LACKING, 5)], seven, state),
-        (&[(LAST, 32)], seven, state),
-        (&[(ASKED, 33)], seven, state),
-        (&[(ASKED, 2)], seven, state),
-        // the bit of another place is not looked at
-        (&[(LACKING, 3)], seven, Ok(())),
-        (&[(LACKING, 3)], eight, state),
-        (&[(LACKING, 0)], seven, state),
-        // `asked` without a pending request
-        (&[(ASKED, 1)], request, state),
-        (&[(ASKED, 1)], renew, state),
-        (&[(ASKED, 1)], seven, Ok(())),
-        // a pending request that `asked` does not name
-        (&[(ROWS + 7, 1), (ROWS + 8, 3)], seven, state),
-        // channel 8 at two places
-        (&[(0, 8), (ROWS, 8)], eight, state),
-        (&[(2, 8), (ROWS + 18, 8)], eight, Ok(())),
-        // a row of another channel than the name beside it
-        (&[(ROWS, 9)], seven, state),
-        (&[(ROWS, 9)], request, state),
-        // a floor above the top
-        (&[(ROWS + 1, 9)], again, state),
-        (&[(ROWS, 70_000), (0, 65_535)], eight, Ok(())),
-    ];
-    for (i, (changes, call, answer)) in cases.into_iter().enumerate() {
-        let mut table = broken(changes);
-        let was = table;
-        assert_eq!(call(&mut table), answer, "case {i}");
-        if answer.is_err() {
-            assert_eq!(table, was, "case {i}: a refusal keeps every number");
-        }
-    }
 }
 
 #[test]

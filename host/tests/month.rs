@@ -137,6 +137,16 @@ fn thirteen_for_a_page_of_other_hands() {
     }
 }
 
+/// A channel that needs more than two bytes is not told as the one of its low bytes.
+#[test]
+fn channels_of_words_that_no_call_writes() {
+    let mut words = page_of(&[7]).to_words();
+    words[0] = 65_536 + 7;
+    let page = Month::from_words(words);
+    let told: Vec<_> = page.channels().map(ChannelNumber::value).collect();
+    assert_eq!(told, [65_535]);
+}
+
 // A C PROGRAM
 
 /// The page as the C program prints it.

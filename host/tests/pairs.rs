@@ -5,8 +5,9 @@
 use oracle::alike::{captures_alike, pair, pair_of_captures};
 use oracle::made::Dice;
 use rietknoest_host::{
-    clean, listing, private_spans, read, scrub, tail_fields, walk, ChannelNumber, Cleaned, Figures,
-    Ledger, Month, Refusal, Request, Session, Stream, Walked, HEADER, RECORD,
+    clean, entries, entry, listing, private_spans, read, scrub, search, tail_fields, walk,
+    ChannelNumber, Cleaned, Figures, Ledger, Month, Refusal, Request, Scrubber, Session, Stream,
+    Walked, HEADER, RECORD,
 };
 
 /// All that a walk, its listing, a request on its ledger and a cleaning give, with buffers of
@@ -74,18 +75,28 @@ fn pairs_that_differ_in_private_bytes_alone_come_out_alike() {
     assert!(differing > 250, "most pairs differ: {differing}");
 }
 
-/// What the calls on one frame tell: the reading, its private places, the fields of an extension,
-/// and how a session that awaits its logon answer takes it.
+/// What the calls on one frame tell: the reading, the searches from its ends, its private places,
+/// the fields of an extension, the entries of an M102, and how a session that awaits its logon
+/// answer takes it. A search from within may find a frame in private bytes, and a body that is no
+/// M102's may have private bytes where an M102's has its counts: no promise is made of these.
 fn told(frame: &[u8]) -> String {
     let at = read(frame, 0).unwrap();
     let body = &frame[HEADER..HEADER + at.body_len as usize];
+    let from = [0, frame.len(), frame.len() + 1];
+    let found = from.map(|from| search(frame, from));
+    assert_eq!(found[0], Ok(Some(0)));
+    let within = (at.msg_type == u64::from(u32::from_be_bytes(*b"M102"))).then(|| {
+        let all: Vec<_> = entries(body).unwrap().collect();
+        let places = (0..=body.len()).map(|place| entry(body, place));
+        (all, places.collect::<Vec<_>>())
+    });
     let spans = private_spans(at.msg_type as u32, body);
     let fields = tail_fields(body);
     let mut session = Session::open();
     let begun = session.begin(0);
     let received = session.receive(1, frame);
     format!(
-        "{at:?} {spans:?} {fields:?} {begun:?} {received:?} {:?}",
+        "{at:?} {found:?} {within:?} {spans:?} {fields:?} {begun:?} {received:?} {:?}",
         session.to_words()
     )
 }
@@ -104,16 +115,25 @@ fn paired_frames_scrub_to_the_same_bytes() {
     }
 }
 
+/// Two captures and the ends of the cuts in which both arrive.
+fn arriving(d: &mut Dice) -> (Vec<u8>, Vec<u8>, Vec<usize>) {
+    let (one, other) = pair_of_captures(d, 6_000, 600);
+    let mut ends = Vec::new();
+    while ends.last().copied().unwrap_or(0) < one.len() {
+        let at = ends.last().copied().unwrap_or(0);
+        ends.push((at + 1 + d.len(700)).min(one.len()));
+    }
+    (one, other, ends)
+}
+
 /// While the captures arrive in the same cuts, each call gives the same: beyond what CR 13 asks.
 #[test]
 fn the_same_cuts_give_the_same_records_call_by_call() {
     for case in 0..60 {
-        let mut d = Dice::new(15, case);
-        let (one, other) = pair_of_captures(&mut d, 6_000, 600);
+        let (one, other, ends) = arriving(&mut Dice::new(15, case));
         let (mut a, mut b) = (Stream::open(), Stream::open());
         let mut at = 0;
-        while at < one.len() {
-            let to = (at + 1 + d.len(700)).min(one.len());
+        for to in ends {
             let (mut mine, mut theirs) = (vec![0; 65_536], vec![0; 65_536]);
             let fed = a.feed(&one[at..to], &mut mine);
             assert_eq!(fed, b.feed(&other[at..to], &mut theirs));
@@ -125,4 +145,45 @@ fn the_same_cuts_give_the_same_records_call_by_call() {
         assert_eq!(closed, b.close(&mut theirs));
         assert!(mine == theirs, "case {case}: records of the end differ");
     }
+}
+
+/// So does each call that scrubs: its counts, and every byte of the buffer, also where that is too
+/// short and nothing is written.
+#[test]
+fn the_same_cuts_give_the_same_scrubbed_bytes_call_by_call() {
+    let mut short = 0;
+    for case in 0..60 {
+        let d = &mut Dice::new(16, case);
+        let (one, other, ends) = arriving(d);
+        let (mut a, mut b) = (Scrubber::open(), Scrubber::open());
+        let mut all = Vec::new();
+        let mut at = 0;
+        // the call behind the last cut closes
+        for to in ends.into_iter().map(Some).chain([None]) {
+            for room in [d.len(200), 65_536] {
+                let (mut mine, mut theirs) = (vec![0xA5; room], vec![0xA5; room]);
+                let (told, others) = match to {
+                    Some(to) => (
+                        a.clean(&one[at..to], &mut mine),
+                        b.clean(&other[at..to], &mut theirs),
+                    ),
+                    None => (a.close(&mut mine), b.close(&mut theirs)),
+                };
+                assert_eq!(told, others, "case {case}");
+                assert!(mine == theirs, "case {case}: scrubbed bytes differ");
+                let Ok(told) = told else {
+                    assert!(mine.iter().all(|byte| *byte == 0xA5));
+                    short += 1;
+                    continue;
+                };
+                all.extend_from_slice(&mine[..told.bytes as usize]);
+                break;
+            }
+            at = to.unwrap_or(at);
+        }
+        let mut whole = vec![0; one.len()];
+        let cleaned = clean(&one, &mut whole).unwrap();
+        assert!(all == whole[..cleaned.bytes as usize], "case {case}");
+    }
+    assert!(short > 60, "some buffers are too short: {short}");
 }

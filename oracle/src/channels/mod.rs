@@ -2,9 +2,11 @@
 //!
 //! "Hold up to 32 ledgers in one table"; "one request is pending for the whole
 //! table". A place is free or has a ledger. Calls from the empty table alone make
-//! states, so 13 is never given.
+//! a `Table`, so 13 is never given; `lent` has the table as a host lends it, in
+//! numbers that may be anything.
 
 pub mod cases;
+pub mod lent;
 pub mod script;
 
 use crate::answer::No;
@@ -14,6 +16,23 @@ use crate::numbers::{Channel, Tick, MOST_CHANNEL};
 
 /// "Hold up to 32 ledgers in one table".
 pub const PLACES: usize = 32;
+
+/// What a ledger has to tell.
+fn told_of(ledger: Ledger) -> Result<Told, No> {
+    let (first, last) = match ledger.pending {
+        Pending::Nothing => (0, 0),
+        Pending::Asked { first, last } => (first.0, last.0),
+    };
+    Ok(Told {
+        channel: u64::from(ledger.channel.0),
+        floor: ledger.floor.0,
+        top: ledger.top.0,
+        missing: ledger.missing().1?,
+        held: ledger.held().1?,
+        first,
+        last,
+    })
+}
 
 #[derive(Clone, Debug, PartialEq, Eq)]
 pub struct Table {
@@ -127,20 +146,7 @@ impl Table {
 
     /// What an open channel's ledger has to tell. 18.
     pub fn told(&self, channel: Channel) -> Result<Told, No> {
-        let (_, ledger) = self.of(channel)?;
-        let (first, last) = match ledger.pending {
-            Pending::Nothing => (0, 0),
-            Pending::Asked { first, last } => (first.0, last.0),
-        };
-        Ok(Told {
-            channel: u64::from(channel.0),
-            floor: ledger.floor.0,
-            top: ledger.top.0,
-            missing: ledger.missing().1?,
-            held: ledger.held().1?,
-            first,
-            last,
-        })
+        told_of(self.of(channel)?.1)
     }
 
     /// CR 12: a new session "clears a pending resend request, and keeps all else

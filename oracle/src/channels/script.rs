@@ -16,8 +16,13 @@
 //! their runs. `told` answers floor, top, missing, held, and the pending
 //! request; `places -> ..` has the channel at each place, `-` at a free one, up
 //! to the last that is used.
+//!
+//! A line that begins with `put` is no call: it writes a number of the lent
+//! table, as no call would. `put used 3` and the like write the index, `put name
+//! 1 8` the name at place 1, `put row 1 2 9` word 2 of row 1.
 
 use super::cases::Answers;
+use super::lent::ROWS;
 use crate::answers::Answer;
 use crate::cases::text::joined;
 use crate::ledger::{Range, Settled};
@@ -37,8 +42,17 @@ pub enum Call {
     Between(Channel, Tick, Tick),
     Told(Channel),
     Renew,
+    /// The channel at each place. Not a call: it looks at the table.
     Places,
+    /// Where a number stands in the table, and what is written there. Not a call.
+    Put(usize, u64),
 }
+
+/// The numbers behind the names, as `put` calls them.
+const INDEX: [&str; 4] = ["used", "lacking", "asked", "last"];
+
+/// Where word 0 of row 0 stands.
+const FIRST_ROW: usize = ROWS + INDEX.len();
 
 /// A case of a script: its name, and each call with what it must answer, unless
 /// the script leaves that open.
@@ -46,7 +60,7 @@ pub type Case<'a> = (&'a str, Vec<(Call, Option<String>)>);
 
 impl fmt::Display for Call {
     fn fmt(&self, f: &mut fmt::Formatter) -> fmt::Result {
-        match self {
+        match *self {
             Call::Open(c) => write!(f, "open {}", c.0),
             Call::Close(c) => write!(f, "close {}", c.0),
             Call::Tick(c, n) => write!(f, "tick {} {}", c.0, n.0),
@@ -57,6 +71,12 @@ impl fmt::Display for Call {
             Call::Told(c) => write!(f, "told {}", c.0),
             Call::Renew => write!(f, "renew"),
             Call::Places => write!(f, "places"),
+            Call::Put(at, n) if at < ROWS => write!(f, "put name {at} {n}"),
+            Call::Put(at, n) if at < FIRST_ROW => write!(f, "put {} {n}", INDEX[at - ROWS]),
+            Call::Put(at, n) => {
+                let (row, word) = ((at - FIRST_ROW) / 9, (at - FIRST_ROW) % 9);
+                write!(f, "put row {row} {word} {n}")
+            }
         }
     }
 }
@@ -80,6 +100,16 @@ pub fn call_of(line: &str) -> Option<Call> {
         ("told", 2) => Some(Call::Told(channel()?)),
         ("renew", 1) => Some(Call::Renew),
         ("places", 1) => Some(Call::Places),
+        ("put", n) => {
+            let number = |i: usize| words.get(i)?.parse::<usize>().ok();
+            let at = match (words.get(1).copied()?, n) {
+                ("name", 4) => number(2)?,
+                ("row", 5) => FIRST_ROW + 9 * number(2)? + number(3)?,
+                (name, 3) => ROWS + INDEX.iter().position(|i| *i == name)?,
+                _ => return None,
+            };
+            Some(Call::Put(at, words[n - 1].parse().ok()?))
+        }
         _ => None,
     }
 }
@@ -148,7 +178,14 @@ fn settled(settled: &Settled) -> String {
     format!("up {up} passed {passed}")
 }
 
-/// What a call that is no `places` answers, and what it tells.
+/// Writes a number of a table.
+pub fn put<A: Answers>(answers: &A, table: &mut A::Table, at: usize, number: u64) {
+    let mut numbers = answers.numbers(table);
+    numbers[at] = number;
+    *table = answers.of_numbers(&numbers);
+}
+
+/// What a call answers, and what it tells.
 pub fn made_on<A: Answers>(answers: &A, table: &mut A::Table, call: Call) -> Answer<String> {
     let nothing = |()| String::new();
     match call {
@@ -173,7 +210,7 @@ pub fn made_on<A: Answers>(answers: &A, table: &mut A::Table, call: Call) -> Ans
             told.map(|t| joined(&[t.floor, t.top, t.missing, t.held, t.first, t.last]))
         }
         Call::Renew => answers.renew(table).map(nothing),
-        Call::Places => panic!("no call of a table"),
+        Call::Places | Call::Put(..) => panic!("no call of a table"),
     }
 }
 
@@ -193,8 +230,13 @@ pub fn places(of: &[Option<Channel>]) -> String {
 
 /// What a call answers, as a script has it.
 pub fn answered<A: Answers>(answers: &A, table: &mut A::Table, call: Call) -> String {
-    if call == Call::Places {
-        return places(&answers.places(table));
+    match call {
+        Call::Places => return places(&answers.places(table)),
+        Call::Put(at, number) => {
+            put(answers, table, at, number);
+            return String::new();
+        }
+        _ => (),
     }
     match made_on(answers, table, call) {
         Ok(told) if told.is_empty() => "0".to_string(),

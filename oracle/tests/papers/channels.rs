@@ -1,13 +1,16 @@
-//! CR 3: the table of channels against plain sets, and its sentence on turns.
+//! CR 3: the table of channels, and the one that a host lends, against plain sets;
+//! its sentence on turns.
 
 use crate::properties::Dice;
 use oracle::answer::No;
 use oracle::channels::cases::{Oracle, SCRIPTS};
+use oracle::channels::lent::{Lent, TableNumbers, COUNT, ROWS};
 use oracle::channels::script::otherwise;
 use oracle::channels::{Table, PLACES};
 use oracle::ledger::{Range, Settled};
 use oracle::numbers::{Channel, Tick, MOST};
 use std::collections::BTreeSet;
+use std::fmt::Debug;
 
 /// A channel since its opening: what was received, what was given up, the top.
 #[derive(Clone, Default)]
@@ -167,8 +170,13 @@ impl Sets {
     }
 }
 
-/// One call of both; their answers are equal.
-fn both(d: &mut Dice, names: u64, table: &mut Table, sets: &mut Sets) {
+fn agree<T: PartialEq + Debug>([one, other, third]: [T; 3]) {
+    assert_eq!(one, other);
+    assert_eq!(one, third);
+}
+
+/// One call of all three; their answers are equal.
+fn all(d: &mut Dice, names: u64, table: &mut Table, lent: &mut Lent, sets: &mut Sets) {
     let c = d.roll(names) as u16;
     let channel = Channel(c);
     let (floor, top) = match sets.of(c) {
@@ -182,14 +190,30 @@ fn both(d: &mut Dice, names: u64, table: &mut Table, sets: &mut Sets) {
         _ => floor + 1 + d.roll(4),
     };
     match d.roll(24) {
-        0..=3 => assert_eq!(table.open(channel), sets.open(c)),
-        4 if d.roll(3) == 0 => assert_eq!(table.close(channel), sets.close(c)),
-        5..=11 => assert_eq!(table.tick(channel, Tick(n)), sets.tick(c, n)),
-        12..=14 => assert_eq!(table.announce(channel, Tick(n)), sets.announce(c, n)),
-        15..=19 => assert_eq!(table.request(), sets.request()),
+        0..=3 => agree([table.open(channel), lent.open(channel), sets.open(c)]),
+        4 if d.roll(3) == 0 => {
+            agree([table.close(channel), lent.close(channel), sets.close(c)]);
+        }
+        5..=11 => {
+            let tick = Tick(n);
+            agree([
+                table.tick(channel, tick),
+                lent.tick(channel, tick),
+                sets.tick(c, n),
+            ]);
+        }
+        12..=14 => {
+            let last = Tick(n);
+            agree([
+                table.announce(channel, last),
+                lent.announce(channel, last),
+                sets.announce(c, n),
+            ]);
+        }
+        15..=19 => agree([table.request(), lent.request(), sets.request()]),
         20 if d.roll(8) == 0 => {
             sets.pending = None;
-            assert_eq!(table.renew(), Ok(()));
+            agree([table.renew(), lent.renew(), Ok(())]);
         }
         _ => {
             let asked = sets.pending.map(|(place, first, _)| (place, first));
@@ -201,10 +225,34 @@ fn both(d: &mut Dice, names: u64, table: &mut Table, sets: &mut Sets) {
                 _ => (c, n),
             };
             let status = [1, 2, 3, 4, 4, 5, 99, 0, 6][d.roll(9) as usize];
-            let answer = table.reply(Channel(c), Tick(first), status);
-            assert_eq!(answer, sets.reply(c, first, status));
+            agree([
+                table.reply(Channel(c), Tick(first), status),
+                lent.reply(Channel(c), Tick(first), status),
+                sets.reply(c, first, status),
+            ]);
         }
     }
+}
+
+/// The numbers of a table, by docs/STATES.md.
+fn numbers_of(table: &Table) -> TableNumbers {
+    let mut numbers = [0; COUNT];
+    numbers[ROWS + 2] = 32;
+    numbers[ROWS + 3] = table.last.map_or(31, |last| last as u64);
+    for (place, ledger) in table.places.iter().enumerate() {
+        let Some(ledger) = ledger else { continue };
+        let words = ledger.words();
+        numbers[place] = words[0];
+        numbers[ROWS] += 1 << place;
+        if words[2] > words[1] {
+            numbers[ROWS + 1] += 1 << place;
+        }
+        if words[7] > 0 {
+            numbers[ROWS + 2] = place as u64;
+        }
+        numbers[ROWS + 4 + 9 * place..][..9].copy_from_slice(&words);
+    }
+    numbers
 }
 
 /// What the table tells of each place is what the sets have.
@@ -239,13 +287,17 @@ fn the_table_against_plain_sets() {
     for names in [1, 2, 3, 5, 33, 40] {
         for _ in 0..30 {
             let (mut table, mut sets) = (Table::none(), Sets::default());
-            for c in 0..names {
-                assert_eq!(table.open(Channel(c as u16)), sets.open(c as u16));
+            let mut lent = Lent::none();
+            for c in 0..names as u16 {
+                let channel = Channel(c);
+                agree([table.open(channel), lent.open(channel), sets.open(c)]);
             }
             for _ in 0..300 {
-                both(&mut d, names, &mut table, &mut sets);
+                all(&mut d, names, &mut table, &mut lent, &mut sets);
+                assert_eq!(lent.numbers(), numbers_of(&table));
             }
             same(&table, &sets);
+            assert_eq!(Lent::of_numbers(&lent.numbers()), lent);
         }
     }
 }
