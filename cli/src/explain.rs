@@ -5,8 +5,8 @@ use std::fmt::Write;
 use std::ops::ControlFlow;
 
 use rietknoest_host::{
-    entries, private_spans, read, tail_fields, types, Entry, Frame, Record, Refusal, CHECK_SUM,
-    HEADER, LONGEST,
+    broken_field, entries, private_spans, read, tail_fields, types, Entry, Frame, Record, Refusal,
+    CHECK_SUM, HEADER, LONGEST,
 };
 
 use crate::capture::{Source, Step};
@@ -156,14 +156,12 @@ impl Spot {
         );
         // after damage a frame was found by the search, or follows one that was without a gap
         if self.damaged {
-            text.push_str(
-                "it stands after damage, and may lie inside private bytes of a damaged frame (docs/PRIVATE.md)\n",
-            );
+            text.push_str(AFTER_DAMAGE);
         }
         text
     }
 
-    /// More of why the walk's reading is refused: the lengths that suit, or both sums.
+    /// More of why the walk's reading is refused: the lengths that suit, both sums, or the field.
     fn why_not(&self, refusal: Refusal) -> String {
         match refusal {
             Refusal::Length => suiting(&self.bytes),
@@ -172,8 +170,31 @@ impl Spot {
                     .to_string()
             }
             Refusal::Sum => sums(&self.bytes),
+            Refusal::Field if self.damaged => self.broken() + AFTER_DAMAGE,
+            Refusal::Field => self.broken(),
             _ => String::new(),
         }
+    }
+
+    /// The field that breaks its rule, by name, place and rule: none of its bytes.
+    fn broken(&self) -> String {
+        let Some((msg_type, len)) = type_at(&self.bytes).zip(whole(&self.bytes)) else {
+            return String::new();
+        };
+        let body = &self.bytes[HEADER..len - CHECK_SUM];
+        let Ok(Some(field)) = broken_field(msg_type, body) else {
+            return String::new();
+        };
+        let (name, rule) = names::rule(&msg_type.to_be_bytes(), field.index);
+        let name = match field.entry {
+            0 => name.to_string(),
+            entry => format!("{name} of entry {entry}"),
+        };
+        format!(
+            "{name} breaks its rule: {rule} ({} from place {} on)\n",
+            count(field.len, "byte"),
+            self.place + HEADER as u64 + field.place
+        )
     }
 
     /// Where the walk goes on after a refused reading.
@@ -199,6 +220,9 @@ impl Spot {
         format!("the walk does not read here: the place lies {lies}, and no more is told of it\n")
     }
 }
+
+const AFTER_DAMAGE: &str =
+    "it stands after damage, and may lie inside private bytes of a damaged frame (docs/PRIVATE.md)\n";
 
 const DONE: &str = "a frame reads here, 0 (done): every check passes";
 
@@ -315,6 +339,12 @@ fn suiting(bytes: &[u8]) -> String {
     }
 }
 
+/// The length of the frame at the front: with fewer bytes reading asks for more.
+fn whole(bytes: &[u8]) -> Option<usize> {
+    let is_whole = |len: &usize| read(&bytes[..*len], 0) != Err(Refusal::More);
+    (HEADER + CHECK_SUM..=bytes.len()).find(is_whole)
+}
+
 /// Both sums of a frame whose own is wrong, if its type has no private field.
 fn sums(bytes: &[u8]) -> String {
     let Some((msg_type, (_, high))) = type_at(bytes).and_then(|t| Some((t, lengths(t)?))) else {
@@ -324,9 +354,7 @@ fn sums(bytes: &[u8]) -> String {
     if private.map_or(true, |spans| !spans.is_empty()) {
         return "the sums are not shown: a frame of its type has private fields\n".to_string();
     }
-    // the frame's length: with fewer bytes reading asks for more
-    let is_whole = |len: &usize| read(&bytes[..*len], 0) != Err(Refusal::More);
-    let Some(len) = (HEADER + CHECK_SUM..=bytes.len()).find(is_whole) else {
+    let Some(len) = whole(bytes) else {
         return String::new();
     };
     let mut frame = bytes[..len].to_vec();

@@ -128,7 +128,8 @@ Says in words what is answered at a place of a capture, and why. A place is a
 number of bytes from the capture's start, as in the first column of a listing.
 Where a listing has a line for it, the answer is that line's: reading's, or the
 ledger's, with floor and top. Of a frame that reads it shows the public fields,
-and no private one.
+and no private one; for 4 the length that suits, for 5 both sums, unless the
+type has private fields, and for 6 the field that breaks its rule.
 
 --step     the capture is of the STEP line
 --quiet    shows no progress

@@ -5,7 +5,7 @@ use std::ffi::{OsStr, OsString};
 use std::io::{self, IsTerminal};
 use std::ops::ControlFlow;
 
-use rietknoest_host::{listing, text_room, Record, Refusal, Walked, RECORD};
+use rietknoest_host::{lines, listing, text_room, Record, Refusal, Walked, RECORD};
 
 use crate::capture::{Source, Step};
 use crate::{count, each, json, put, say, Status, Trouble};
@@ -100,15 +100,17 @@ impl Listed {
         Ok((text, missing))
     }
 
-    /// A line for each record, and the line of counts.
+    /// A line for each record, and at the end the line of counts.
     fn lines(&self, step: &Step) -> Result<Vec<u8>, Refusal> {
         let records = if self.how.summary { &[] } else { step.records };
         let mut text = vec![0; text_room(records.len() / RECORD)];
-        let bytes = listing(records, &step.walked, &mut text)?;
+        let bytes = if step.is_last {
+            listing(records, &step.walked, &mut text)?
+        } else {
+            lines(records, &mut text)?
+        };
         text.truncate(bytes);
-        if !step.is_last {
-            text.truncate(before_last_line(&text));
-        } else if self.how.summary && self.several {
+        if step.is_last && self.how.summary && self.several {
             text.splice(..0, format!("{}: ", self.name).into_bytes());
         }
         Ok(text)
@@ -169,12 +171,6 @@ fn counts(name: &str, walked: &Walked, others: &Others) -> Result<String, Refusa
         status.held,
         others.join(",")
     ))
-}
-
-/// The place behind the last line but one: every line ends in a newline.
-fn before_last_line(text: &[u8]) -> usize {
-    let ends = text.iter().enumerate().rev().filter(|(_, b)| **b == b'\n');
-    ends.map(|(at, _)| at + 1).nth(1).unwrap_or(0)
 }
 
 /// The frames that the ledger refused since they are of other channels, by channel.

@@ -106,6 +106,53 @@ pub const SNAPSHOT: [(&str, usize, bool); 13] = [
     ("NoMDEntries", 2, false),
 ];
 
+/// The name of a field that a rule is for, and the rule, by the field's number in the order of the
+/// table's widths. Whether one is broken, and which, is the library's to say.
+pub fn rule(letters: &[u8; 4], index: u64) -> (&'static str, &'static str) {
+    match (letters, index) {
+        (b"S001", 2) => ("HeartBtInt", "above 0"),
+        (b"S002", 0) => ("SessionStatus", "at most 9,999"),
+        (b"P001" | b"M201", 0) => ("SecurityType", "13"),
+        (b"P001" | b"M201", 1) | (b"P002", 0) => ("ChannelNO", "at most 4 digits"),
+        (b"P001", 2) => ("ApplLastSeqNum", "at most 18 digits"),
+        (b"P001", 3) => ("EndOfChannel", "Y or N"),
+        (b"P002", 1) => ("ResendType", "1"),
+        (b"P002", 2) => ("ApplBegSeqNum", "above 0, at most 18 digits"),
+        (b"P002", 3) => (
+            "ApplEndSeqNum",
+            "at most 18 digits, and in a request 0 or not below ApplBegSeqNum",
+        ),
+        (b"P002", 4) => ("ResendStatus", "0 to 5 or 99"),
+        (b"M102", 0) => ("SecurityType", "1, 2, 3, 12, 13 or 14"),
+        (b"M102", 1) => ("TradSesMode", "1 to 3"),
+        (b"M102", 2) => ("TradeDate", "at most 8 digits"),
+        (b"M102", 3) => ("LastUpdateTime", "at most 9 digits"),
+        (b"M102", 4) => (
+            "MDStreamID",
+            "a stream of its SecurityType: MD001 to MD004 for 1, MD301 for 2, MD101 and MD102 for 3, \
+             MD201 for 12, MD210 for 13, MDE01 for 14",
+        ),
+        (b"M102", 7) => ("PreClosePx", "at most 13 digits"),
+        (b"M102", 8) => ("TotalVolumeTraded", "at most 16 digits"),
+        (b"M102", 9) => ("NumTrades", "at most 16 digits"),
+        (b"M102", 10) => ("TotalValueTraded", "at most 16 digits"),
+        (b"M102", 12) => ("NoMDEntries", "so many whole entries fill the body"),
+        (b"M102", 14) => ("price", "at most 13 digits"),
+        (b"M102", 15) => ("size", "at most 12 digits"),
+        (b"M102", 16) => ("position", "at most 2 digits"),
+        (b"M201", 2) => ("ApplSeqNum", "above 0, at most 18 digits"),
+        (b"M201", 5) => ("TransactTime", "at most 9 digits"),
+        (b"M201", 6) => ("ExecType", "0, 4 or F"),
+        (b"M201", 7) => ("Price", "at most 13 digits"),
+        (b"M201", 8) => ("OrderQty", "at most 15 digits"),
+        (b"M201", 9) => (
+            "extension",
+            "139 bytes for an order of MD211 to MD216, 53 for a trade of MD217",
+        ),
+        _ => ("a field", "the rule of its type"),
+    }
+}
+
 /// The length of the frame that a record is of.
 pub fn frame_len(record: &Record) -> usize {
     record.body_len as usize + HEADER + CHECK_SUM

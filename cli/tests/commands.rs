@@ -567,6 +567,76 @@ fn explain_tells_lengths_and_sums() {
     }
 }
 
+/// A frame with one byte of its body changed, and the sum that suits.
+fn changed(mut frame: Vec<u8>, at: usize, byte: u8) -> Vec<u8> {
+    frame[24 + at] = byte;
+    let end = frame.len() - 4;
+    frame[end + 3] = frame[..end]
+        .iter()
+        .fold(0, |sum: u8, b| sum.wrapping_add(*b));
+    frame
+}
+
+/// For 6 the lowest field that breaks a rule, by name, rule and place; none of its bytes, and nothing
+/// of the private fields beside it.
+#[test]
+fn explain_names_the_field() {
+    let folder = Folder::new();
+    let explained = |capture: &[u8], place: &str| {
+        let ran = run_on(&folder, &["explain", "-", place], capture);
+        assert_eq!((ran.status, ran.error()), (Some(1), ""));
+        ran.out().to_string()
+    };
+    let line = |capture: &[u8]| explained(capture, "0").lines().nth(1).unwrap().to_string();
+    let channel = [&[13, 0, 100][..], &[0; 7], b"\x09N"].concat();
+    let resend = [
+        &[0, 100, 1][..],
+        &[0; 7],
+        &[4],
+        &[0; 7],
+        &[5, 0],
+        &[b'R'; 32],
+    ]
+    .concat();
+    let logout = [&[0; 4][..], &[b'T'; 256]].concat();
+    let cases = [
+        (changed(logon("SECRET", "B"), 65, 0), "HeartBtInt breaks its rule: above 0 (2 bytes from place 88 on)"),
+        (changed(frame(b"S002", 1, &logout), 0, 1), "SessionStatus breaks its rule: at most 9,999 (4 bytes from place 24 on)"),
+        (changed(frame(b"P001", 1, &channel), 0, 12), "SecurityType breaks its rule: 13 (1 byte from place 24 on)"),
+        (changed(changed(frame(b"P001", 1, &channel), 11, b'X'), 1, 0xFF), "ChannelNO breaks its rule: at most 4 digits (2 bytes from place 25 on)"),
+        (changed(frame(b"P002", 1, &resend), 18, 3), "ApplEndSeqNum breaks its rule: at most 18 digits, and in a request 0 or not below ApplBegSeqNum (8 bytes from place 35 on)"),
+        (changed(tick(1, b"SECRET"), 28, b'1'), "ExecType breaks its rule: 0, 4 or F (1 byte from place 52 on)"),
+    ];
+    for (capture, said) in cases {
+        assert_eq!(line(&capture), said);
+        let all = explained(&capture, "0");
+        for secret in ["SECRET", "RRR", "TTT"] {
+            assert!(!all.contains(secret));
+        }
+        // behind damage it is told with a warning
+        let behind = [vec![0xFF], heartbeats(1), capture].concat();
+        let told = explained(&behind, "29");
+        assert!(told
+            .lines()
+            .nth(2)
+            .unwrap()
+            .starts_with("it stands after damage"));
+    }
+
+    let sample = sample();
+    let snapshot = sample[416..416 + 130 + 28].to_vec();
+    assert_eq!(
+        line(&changed(snapshot.clone(), 73 + 19 + 2, 1)),
+        "price of entry 2 breaks its rule: at most 13 digits (8 bytes from place 118 on)"
+    );
+    assert_eq!(
+        line(&changed(snapshot.clone(), 72, 9)),
+        "NoMDEntries breaks its rule: so many whole entries fill the body (2 bytes from place 95 on)"
+    );
+    assert!(line(&changed(snapshot, 0, 2))
+        .starts_with("MDStreamID breaks its rule: a stream of its SecurityType: "));
+}
+
 /// The sample has a refusal for each number that reading gives.
 #[test]
 fn explain_tells_a_refusal_by_number_and_name() {
@@ -598,7 +668,7 @@ fn explain_tells_a_refusal_by_number_and_name() {
         assert!(!ran.out().contains("no frame reads here"), "{place}");
         let mut lines = ran.out().lines().skip(1);
         assert!(lines.any(|line| line.starts_with(more)), "{place}");
-        assert!(ran.out().lines().count() <= 4);
+        assert!(ran.out().lines().count() <= 5);
         assert_eq!((ran.status, ran.error()), (Some(1), ""));
     }
     let beyond = "the place is beyond the end, 4451";

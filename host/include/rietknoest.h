@@ -170,6 +170,22 @@ RK_SIZE(rk_field, 4);
  * Returns 0, 3, 4, 6, by the body's length. 0 writes *told. */
 uint32_t rk_tail_field(const uint8_t *body, size_t len, size_t i, rk_field *told);
 
+/* The field of a body that breaks a rule; any = 0 and zeros if every rule holds. */
+typedef struct {
+    uint64_t any;
+    uint64_t place; /* in the body */
+    uint64_t len;
+    uint64_t index; /* its number in the order of the type's widths, counted from 0. An M201's extension
+                     * is 9; type, price, size and position of an M102 entry are 13 to 16 */
+    uint64_t entry; /* the number of that entry, counted from 1; 0 for any other field */
+} rk_broken;
+RK_SIZE(rk_broken, 5);
+
+/* Why reading answers 6: the lowest field of a body of that type whose rule is broken. It is told
+ * from public bytes alone.
+ * Returns 0, 2, 3, 4. 0 writes *told. */
+uint32_t rk_broken_field(uint32_t msg_type, const uint8_t *body, size_t len, rk_broken *told);
+
 /* Checks that the entries of an M102 body can be read.
  * Returns 0, 3, 4, 6. 0 writes the first entry's place to *told. */
 uint32_t rk_entries(const uint8_t *body, size_t len, uint64_t *told);
@@ -426,6 +442,36 @@ typedef struct {
 } rk_counts;
 RK_SIZE(rk_counts, 3);
 
+/* A record, 64 bytes, as a walk and a stream write them: numbers, high byte first. */
+typedef struct {
+    uint8_t place[8];
+    uint8_t msg_type[4]; /* four spaces if the reading was refused */
+    uint8_t answer[4];   /* 0, the number of a refused reading, or the ledger's */
+    uint8_t seq[8];      /* MsgSeqNum; this and the next four are 0 if the reading was refused */
+    uint8_t tick[8];     /* the tick number */
+    uint8_t channel[2];
+    uint8_t zero_2[2];
+    uint8_t body_len[4]; /* BodyLength */
+    uint8_t floor[8];    /* the ledger's after the reading */
+    uint8_t top[8];
+    uint8_t zero_8[8];
+} rk_record_bytes;
+RK_SIZE(rk_record_bytes, 8);
+
+/* The same as a row of numbers. */
+typedef struct {
+    uint64_t place;
+    uint64_t msg_type;
+    uint64_t answer;
+    uint64_t seq;
+    uint64_t tick;
+    uint64_t channel;
+    uint64_t body_len;
+    uint64_t floor;
+    uint64_t top;
+} rk_reading;
+RK_SIZE(rk_reading, 9);
+
 typedef struct {
     uint64_t bytes;
     uint64_t frames;
@@ -435,11 +481,17 @@ typedef struct {
 } rk_cleaned;
 RK_SIZE(rk_cleaned, 3);
 
-/* Walks a capture: a record of 64 bytes for each reading, and the ledger of channel 100. A record has
- * these numbers, high byte first: place 8 bytes, MsgType 4 (spaces if the reading was refused),
- * answer 4, MsgSeqNum 8, tick number 8, channel 2, zero 2, BodyLength 4, floor 8, top 8, zero 8.
+/* Walks a capture: a record (rk_record_bytes) for each reading, and the ledger of channel 100.
  * Returns 0, 8. 0 writes the first 64 * told->records bytes of records, *state and *told. */
 uint32_t rk_walk(const uint8_t *capture, size_t len, uint8_t *records, size_t records_len, rk_ledger *state, rk_counts *told);
+
+/* Reads the record at the front of bytes; those after its 64 do not matter.
+ * Returns 0, 1 (fewer than 64 bytes). 0 writes *told. */
+uint32_t rk_record(const uint8_t *bytes, size_t len, rk_reading *told);
+
+/* The listing without its last line: a line for each whole record. RK_TEXT_ROOM is always room enough.
+ * Returns 0, 8. 0 writes the first *told bytes of text, and *told. */
+uint32_t rk_lines(const uint8_t *records, size_t records_len, uint8_t *text, size_t text_len, uint64_t *told);
 
 /* The listing of a walk's records: a line for each whole record, then the last line.
  * Returns 0, 8, 13. 0 writes *told, and as many bytes of text, without a terminating zero. */

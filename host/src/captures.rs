@@ -59,6 +59,14 @@ pub fn listing(records: &[u8], walked: &Walked, text: &mut [u8]) -> Result<usize
     result(answer, bytes as usize)
 }
 
+/// The listing without its last line: a line for each whole record of `records`. Returns how many
+/// bytes of `text` they have; 8 if they do not fit.
+pub fn lines(records: &[u8], text: &mut [u8]) -> Result<usize, Refusal> {
+    let mut bytes = 0;
+    let answer = raw::lines(records, text, &mut bytes);
+    result(answer, bytes as usize)
+}
+
 /// The result of cleaning a capture. `after_damage` counts the frames that the search found after
 /// damage. One of these may come from private bytes of a damaged frame; so may the frames that
 /// follow it without a gap, which are not counted.

@@ -125,6 +125,33 @@ pub fn tail_fields(body: &[u8]) -> Result<Vec<Field>, Refusal> {
     }
 }
 
+/// A field of a body that breaks a rule: where it starts in the body, how many bytes it has, and its
+/// number in the order of the type's widths, counted from 0. An M201's extension is number 9; type,
+/// price, size and position of an M102 entry are 13 to 16, and `entry` is that entry's number,
+/// counted from 1, and 0 for any other field.
+#[derive(Clone, Copy, Debug, Default, PartialEq, Eq)]
+pub struct BrokenField {
+    pub place: u64,
+    pub len: u64,
+    pub index: u64,
+    pub entry: u64,
+}
+
+/// Why reading answers 6: the lowest field of a body of that type whose rule is broken, and none if
+/// every rule holds. 2, 3 or 4 if no frame of that type has such a body. It is told from public
+/// bytes alone.
+pub fn broken_field(msg_type: u32, body: &[u8]) -> Result<Option<BrokenField>, Refusal> {
+    let mut row = raw::BrokenRow::default();
+    let answer = raw::broken_field(msg_type, body, &mut row);
+    let field = BrokenField {
+        place: row.place,
+        len: row.len,
+        index: row.index,
+        entry: row.entry,
+    };
+    result(answer, (row.any != 0).then_some(field))
+}
+
 /// An entry of an M102 body, with its kind as two letters.
 #[derive(Clone, Copy, Debug, PartialEq, Eq)]
 pub enum Entry {

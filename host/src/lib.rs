@@ -23,12 +23,12 @@ mod stream;
 pub mod types;
 
 pub use captures::{
-    clean, first_unclean, listing, records_room, text_room, walk, Cleaned, Walked, RECORD,
+    clean, first_unclean, lines, listing, records_room, text_room, walk, Cleaned, Walked, RECORD,
 };
 pub use channels::{ChannelRequest, Channels};
 pub use frames::{
-    entries, entry, private_spans, read, scrub, search, tail_fields, write, Entries, Entry, Field,
-    Frame, Span, CHECK_SUM, HEADER, LONGEST,
+    broken_field, entries, entry, private_spans, read, scrub, search, tail_fields, write,
+    BrokenField, Entries, Entry, Field, Frame, Span, CHECK_SUM, HEADER, LONGEST,
 };
 pub use ledger::{Ledger, LedgerStatus, Passed, Request, Settled, STATE_FORM};
 pub use month::{Figures, Month};

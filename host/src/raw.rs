@@ -118,6 +118,32 @@ pub struct Finding {
     pub place: u64,
 }
 
+/// A field that breaks a rule, or none if `any` is 0.
+#[derive(Default)]
+#[repr(C)]
+pub struct BrokenRow {
+    pub any: u64,
+    pub place: u64,
+    pub len: u64,
+    pub index: u64,
+    pub entry: u64,
+}
+
+/// A record's numbers.
+#[derive(Default)]
+#[repr(C)]
+pub struct ReadingRow {
+    pub place: u64,
+    pub msg_type: u64,
+    pub answer: u64,
+    pub seq: u64,
+    pub tick: u64,
+    pub channel: u64,
+    pub body_len: u64,
+    pub floor: u64,
+    pub top: u64,
+}
+
 /// What a session's call tells: the MsgType to send, 0 for nothing, its number, and 1 for a dead line.
 #[derive(Default)]
 #[repr(C)]
@@ -145,6 +171,7 @@ extern "C" {
     fn rk_scrub(frame: *mut u8, len: usize, told: *mut u64) -> u32;
     fn rk_private(msg_type: u32, body: *const u8, len: usize, i: usize, told: *mut Span) -> u32;
     fn rk_tail_field(body: *const u8, len: usize, i: usize, told: *mut Field) -> u32;
+    fn rk_broken_field(msg_type: u32, body: *const u8, len: usize, told: *mut BrokenRow) -> u32;
     fn rk_entries(body: *const u8, len: usize, told: *mut u64) -> u32;
     fn rk_entry(body: *const u8, len: usize, place: usize, told: *mut EntryRow) -> u32;
     fn rk_ledger_open(channel: u16, state: *mut Ledger) -> u32;
@@ -157,6 +184,8 @@ extern "C" {
     fn rk_ledger_missing(state: *const Ledger, channel: u16, a: u64, b: u64, told: *mut u64) -> u32;
     fn rk_channels(table: *mut Channels, exchange: *mut Exchange);
     fn rk_walk(capture: *const u8, len: usize, records: *mut u8, records_len: usize, state: *mut Ledger, told: *mut Counts) -> u32;
+    fn rk_record(bytes: *const u8, len: usize, told: *mut ReadingRow) -> u32;
+    fn rk_lines(records: *const u8, records_len: usize, text: *mut u8, text_len: usize, told: *mut u64) -> u32;
     fn rk_listing(records: *const u8, records_len: usize, frames: u64, refused: u64, state: *const Ledger, text: *mut u8, text_len: usize, told: *mut u64) -> u32;
     fn rk_clean(capture: *const u8, len: usize, out: *mut u8, out_len: usize, told: *mut Cleaned) -> u32;
     fn rk_is_clean(capture: *const u8, len: usize, told: *mut Found) -> u32;
@@ -228,6 +257,12 @@ pub fn tail_field(body: &[u8], i: usize, told: &mut Field) -> u32 {
     // SAFETY: `body` is passed with its own length and only read; any number is allowed; `told` is a
     // row of four.
     unsafe { rk_tail_field(body.as_ptr(), body.len(), i, told) }
+}
+
+pub fn broken_field(msg_type: u32, body: &[u8], told: &mut BrokenRow) -> u32 {
+    // SAFETY: `body` is passed with its own length and only read; any type is allowed; `told` is a
+    // row of five.
+    unsafe { rk_broken_field(msg_type, body.as_ptr(), body.len(), told) }
 }
 
 pub fn entries(body: &[u8], told: &mut u64) -> u32 {
@@ -321,6 +356,21 @@ pub fn walk(capture: &[u8], records: &mut [u8], state: &mut Ledger, told: &mut C
     // length; `state` is a row of nine, `told` one of three. The last three are `&mut`: none
     // overlaps another argument.
     unsafe { rk_walk(read, len, written, room, state, told) }
+}
+
+pub fn record(bytes: &[u8], told: &mut ReadingRow) -> u32 {
+    // SAFETY: `bytes` is passed with its own length and only read, any bytes in it; `told` is a row
+    // of nine.
+    unsafe { rk_record(bytes.as_ptr(), bytes.len(), told) }
+}
+
+pub fn lines(records: &[u8], text: &mut [u8], told: &mut u64) -> u32 {
+    let (read, len) = (records.as_ptr(), records.len());
+    let (written, room) = (text.as_mut_ptr(), text.len());
+    // SAFETY: `records` is passed with its own length and only read, any bytes in it; `text` is
+    // passed with its own length; `told` is one number. The last two are `&mut`: neither overlaps
+    // another argument.
+    unsafe { rk_lines(read, len, written, room, told) }
 }
 
 pub fn listing(

@@ -1,7 +1,8 @@
 //! The records of a walk, taken apart.
 
 use crate::captures::RECORD;
-use crate::numbers::{ChannelNumber, Refusal, SessionNumber, TickNumber};
+use crate::numbers::{always, ChannelNumber, Refusal, SessionNumber, TickNumber};
+use crate::raw;
 
 /// One record of a walk. The names are those of the header's structs.
 #[derive(Clone, Copy, Debug, Default, PartialEq, Eq)]
@@ -21,24 +22,22 @@ pub struct Record {
 }
 
 impl Record {
-    /// The record in 64 bytes, numbers high byte first: place 8, MsgType 4, answer 4, MsgSeqNum 8,
-    /// tick number 8, channel 2, zero 2, BodyLength 4, floor 8, top 8, zero 8.
+    /// The record in 64 bytes, as a walk or a stream writes it.
     #[must_use]
     pub fn of(bytes: &[u8; RECORD]) -> Record {
-        let number = |from: usize, width: usize| {
-            let digits = &bytes[from..from + width];
-            digits.iter().fold(0, |n, b| n << 8 | u64::from(*b))
-        };
+        let mut row = raw::ReadingRow::default();
+        let answer = raw::record(bytes, &mut row);
+        let row = always(answer, row);
         Record {
-            place: number(0, 8),
-            msg_type: [bytes[8], bytes[9], bytes[10], bytes[11]],
-            answer: number(12, 4) as u32,
-            seq: SessionNumber::new(number(16, 8)),
-            tick: TickNumber::new(number(24, 8)),
-            channel: ChannelNumber::new(number(32, 2) as u16),
-            body_len: number(36, 4) as u32,
-            floor: TickNumber::new(number(40, 8)),
-            top: TickNumber::new(number(48, 8)),
+            place: row.place,
+            msg_type: (row.msg_type as u32).to_be_bytes(),
+            answer: row.answer as u32,
+            seq: SessionNumber::new(row.seq),
+            tick: TickNumber::new(row.tick),
+            channel: ChannelNumber::new(row.channel as u16),
+            body_len: row.body_len as u32,
+            floor: TickNumber::new(row.floor),
+            top: TickNumber::new(row.top),
         }
     }
 

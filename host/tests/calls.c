@@ -230,6 +230,13 @@ int main(void) {
                 TELL(t.row.place), TELL(t.row.len), TELL(t.row.text), TELL(t.row.hidden), printf(" ");
             }
             kept_from(&input, 0);
+        } else if (strcmp(name, "broken") == 0) {
+            uint32_t type = (uint32_t)number();
+            uint8_t *b = bytes();
+            ROW(rk_broken, t);
+            answer = rk_broken_field(type, b, input.len, &t.row);
+            if (ANSWERED(answer, t)) TELL(t.row.any), TELL(t.row.place), TELL(t.row.len), TELL(t.row.index), TELL(t.row.entry);
+            kept_from(&input, 0);
         } else if (strcmp(name, "entries") == 0) {
             uint8_t *b = bytes();
             ROW(uint64_t, t);
@@ -311,6 +318,22 @@ int main(void) {
             kept_from(&output, answer == RK_DONE ? 64 * t.row.records : 0);
             kept_from(&input, 0);
             ledger_kept(&was, answer);
+        } else if (strcmp(name, "record") == 0) {
+            uint8_t *b = bytes();
+            ROW(rk_reading, t);
+            answer = rk_record(b, input.len, &t.row);
+            if (ANSWERED(answer, t)) {
+                TELL(t.row.place), TELL(t.row.msg_type), TELL(t.row.answer), TELL(t.row.seq), TELL(t.row.tick);
+                TELL(t.row.channel), TELL(t.row.body_len), TELL(t.row.floor), TELL(t.row.top);
+            }
+            kept_from(&input, 0);
+        } else if (strcmp(name, "lines") == 0) {
+            uint8_t *text = room(), *b = bytes();
+            ROW(uint64_t, t);
+            answer = rk_lines(b, input.len, text, output.len, &t.row);
+            if (ANSWERED(answer, t)) TELL(t.row), print_bytes(&output, t.row);
+            kept_from(&output, answer == RK_DONE ? t.row : 0);
+            kept_from(&input, 0);
         } else if (strcmp(name, "listing") == 0) {
             uint64_t frames = number(), refused = number();
             uint8_t *text = room(), *b = bytes();

@@ -6,6 +6,7 @@
 //! A run that does not say takes 200,000 generated cases; the gate says a million.
 
 use oracle::answers::{Answer, Answers, Fed, Oracle, Parts, Shown, Told, Walked};
+use oracle::broken::Broken;
 use oracle::cases::text::{compare, difference};
 use oracle::cases::{self, NUMBERS};
 use oracle::clean::Cleaned;
@@ -127,6 +128,16 @@ impl Answers for Library {
         Ok(spans.iter().map(span).collect())
     }
 
+    fn broken(&self, msg_type: [u8; 4], body: &[u8]) -> Answer<Option<Broken>> {
+        let broken = plain(host::broken_field(name(msg_type), body))?;
+        Ok(broken.map(|b| Broken {
+            place: b.place,
+            len: b.len,
+            index: b.index,
+            entry: b.entry,
+        }))
+    }
+
     fn entries(&self, body: &[u8]) -> Answer<Vec<(Entry, u64)>> {
         let mut steps = plain(host::entries(body))?;
         let mut all = Vec::new();
@@ -230,6 +241,7 @@ impl Answers for Library {
             host::text_room(records.len() / host::RECORD) >= bytes,
             "text_room"
         );
+        without_the_last_line(records, &text[..bytes]);
         Ok(bytes)
     }
 
@@ -290,4 +302,17 @@ fn generated_cases() {
     let ours = |seed, n| cases::generated(&Library, seed, n);
     let theirs = |seed, n| cases::generated(&Oracle, seed, n);
     compare(&NUMBERS, 1, ours, theirs);
+}
+
+/// The lines of the records are the listing without its last line; a byte less is no room for them.
+fn without_the_last_line(records: &[u8], listing: &[u8]) {
+    let mut lines = listing.to_vec();
+    let bytes = host::lines(records, &mut lines).expect("room");
+    let last = listing.strip_prefix(&lines[..bytes]).expect("the front");
+    let ends = last.iter().filter(|byte| **byte == b'\n').count();
+    assert!(ends == 1 && last.ends_with(b"\n"), "one line is left");
+    if bytes > 0 {
+        let refused = host::lines(records, &mut lines[..bytes - 1]);
+        assert_eq!(refused, Err(Refusal::Room));
+    }
 }

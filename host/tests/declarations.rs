@@ -44,11 +44,11 @@ fn run(command: &mut Command, input: &[u8]) -> Vec<u8> {
 
 /// The crates of which the library is made, and how many functions each has for others.
 const EXPORTS: [(&str, usize); 9] = [
-    ("host_frames", 8),
+    ("host_frames", 9),
     ("host_ledger", 8),
     ("host_channels", 1),
     ("host_session", 7),
-    ("host_captures", 4),
+    ("host_captures", 6),
     ("host_stream", 5),
     ("host_step", 4),
     ("host_market", 3),
@@ -588,6 +588,12 @@ fn spans(s: &mut Script, name: u32, body: &[u8]) {
     }
     s.expected.push(line + &answer.to_string());
 
+    let broken = host::broken_field(name, body).map(|field| {
+        let row = field.map_or(vec![0; 5], |f| vec![1, f.place, f.len, f.index, f.entry]);
+        (row, None)
+    });
+    s.ask("broken", &format!("{name} {}", hex(body)), broken, None);
+
     writeln!(s.asked, "fields {}", hex(body)).expect("memory");
     let fields = host::tail_fields(body);
     let answer = fields.as_ref().err().map_or(0, |r| r.number());
@@ -737,6 +743,15 @@ fn captures(s: &mut Script, d: &mut Dice) {
     });
     s.ask("walk", &asked, answer, Some(&ledger));
 
+    record(s, &records[..records.len().min(host::RECORD)]);
+    let mut text = vec![0; host::text_room(records.len() / host::RECORD)];
+    let room = host::lines(&records, &mut text).expect("room for all");
+    text.truncate(about(d, room));
+    let asked = format!("{} {}", text.len(), hex(&records));
+    let answer = host::lines(&records, &mut text);
+    let answer = answer.map(|n| (vec![n as u64], Some(&text[..n])));
+    s.ask("lines", &asked, answer, None);
+
     let counts = host::Walked { ledger, ..whole };
     let mut text = vec![0; host::text_room(records.len() / host::RECORD)];
     let room = host::listing(&records, &counts, &mut text).unwrap_or(0);
@@ -760,6 +775,23 @@ fn captures(s: &mut Script, d: &mut Dice) {
     s.ask("clean", &asked, answer, None);
     is_clean(s, joined);
     is_clean(s, &capture);
+}
+
+/// A record, or 1 if it is cut short: the wrapper takes whole ones alone.
+fn record(s: &mut Script, bytes: &[u8]) {
+    let answer = match bytes.try_into() {
+        Ok(bytes) => {
+            let r = host::Record::of(bytes);
+            let letters = u64::from(u32::from_be_bytes(r.msg_type));
+            let [seq, tick, channel] = [r.seq.value(), r.tick.value(), r.channel.value().into()];
+            let head = vec![r.place, letters, r.answer.into(), seq, tick, channel];
+            let (floor, top) = (r.floor.value(), r.top.value());
+            let row = [head, vec![r.body_len.into(), floor, top]].concat();
+            Ok((row, None))
+        }
+        Err(_) => Err(Refusal::More),
+    };
+    s.ask("record", &hex(bytes), answer, None);
 }
 
 fn is_clean(s: &mut Script, capture: &[u8]) {
@@ -1094,6 +1126,9 @@ fn c_gets_the_answers_that_rust_gets() {
         for n in numbers {
             assert!(s.given.contains(&(call, *n)), "{call} never gave {n}");
         }
+    }
+    for (call, n) in [("record", 0), ("record", 1), ("lines", 0), ("lines", 8)] {
+        assert!(s.given.contains(&(call, n)), "{call} never gave {n}");
     }
     // spans have lines of their own, and `damaged` is no call
     let aside = ["private", "damaged"];

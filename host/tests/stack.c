@@ -37,6 +37,8 @@ static void *calls(void *unused) {
     static rk_found found;
     static rk_span span;
     static rk_field field;
+    static rk_broken broken;
+    static rk_reading reading;
     static rk_md_entry entry;
     static rk_ledger ledger;
     static rk_passed passed;
@@ -70,6 +72,8 @@ static void *calls(void *unused) {
     CALL(rk_scrub, out, len, &number);
     CALL(rk_private, RK_M201, tick, 184, 0, &span);
     CALL(rk_tail_field, tick, 184, 3, &field);
+    CALL(rk_broken_field, RK_M201, tick, 184, &broken);
+    CALL(rk_broken_field, RK_M102, snapshot, 130, &broken);
     CALL(rk_entries, snapshot, 130, &number);
     CALL(rk_entry, snapshot, 130, 73, &entry);
     CALL(rk_ledger_open, 100, &ledger);
@@ -81,6 +85,8 @@ static void *calls(void *unused) {
     CALL(rk_ledger_missing, &ledger, 100, 1, 9, &number);
     CALL(rk_ledger_renew, &ledger);
     CALL(rk_walk, capture, len, records, sizeof records, &ledger, &counts);
+    CALL(rk_record, records, sizeof records, &reading);
+    CALL(rk_lines, records, (size_t)counts.records * 64, text, sizeof text, &number);
     CALL(rk_listing, records, (size_t)counts.records * 64, counts.frames, counts.refused, &ledger, text, sizeof text, &number);
     CALL(rk_clean, capture, len, out, sizeof out, &cleaned);
     CALL(rk_is_clean, capture, len, &found);

@@ -4,6 +4,7 @@
 //! docs/STATES.md has them, so that states made by hand can be asked too.
 
 use crate::answer::No;
+use crate::broken::{broken_of, Broken};
 use crate::bytes::number;
 use crate::clean::{clean, first_unclean, Cleaned};
 use crate::entries::{Entry, Reader};
@@ -107,6 +108,7 @@ pub trait Answers {
     fn search(&self, bytes: &[u8], from: usize) -> Answer<Option<usize>>;
     fn scrub(&self, buffer: &mut [u8]) -> Answer<usize>;
     fn private(&self, msg_type: [u8; 4], body: &[u8]) -> Answer<Vec<Span>>;
+    fn broken(&self, msg_type: [u8; 4], body: &[u8]) -> Answer<Option<Broken>>;
 
     /// Every step of a reader opened on a body, each with the place behind it.
     fn entries(&self, body: &[u8]) -> Answer<Vec<(Entry, u64)>>;
@@ -237,6 +239,10 @@ impl Answers for Oracle {
 
     fn private(&self, msg_type: [u8; 4], body: &[u8]) -> Answer<Vec<Span>> {
         plain(private_of(msg_type, body))
+    }
+
+    fn broken(&self, msg_type: [u8; 4], body: &[u8]) -> Answer<Option<Broken>> {
+        plain(broken_of(msg_type, body))
     }
 
     fn entries(&self, body: &[u8]) -> Answer<Vec<(Entry, u64)>> {

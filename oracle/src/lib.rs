@@ -11,6 +11,7 @@
 pub mod alike;
 pub mod answer;
 pub mod answers;
+pub mod broken;
 pub mod bytes;
 pub mod calendar;
 pub mod cases;

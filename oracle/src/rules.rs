@@ -185,7 +185,7 @@ pub fn entry_count(body: &[u8]) -> usize {
 
 /// "SecurityType and stream pair as 1 with MD001 to MD004, 2 with MD301,
 /// 3 with MD101 or MD102, 12 with MD201, 13 with MD210, 14 with MDE01."
-fn stream_pairs(security_type: u64, stream: &[u8]) -> bool {
+pub fn stream_pairs(security_type: u64, stream: &[u8]) -> bool {
     match security_type {
         1 => [b"MD001", b"MD002", b"MD003", b"MD004"]
             .iter()

@@ -10,7 +10,7 @@ use lib.Dec.{eqb, leb}
 use lib.ListN.{length}
 use Rattle.terms.specs.Paper.{one-number}
 use Rattle.terms.specs.Cases.{two}
-use Rattle.octets.specs.Papers.{room-there, laid-kept}
+use Rattle.octets.specs.Papers.{roomFor, laidIfRoom, room-there, laid-kept}
 use Rattle.frame_spec.specs.Frame.{checked}
 use Rattle.ledger_spec.specs.Calls.{Ask, Missing}
 use Rattle.walk_spec.specs.Walk.{fitsIn, walkAnswer, walkLeaves}
@@ -43,6 +43,13 @@ unfolding clean.cleanAnswer clean.cleanLeaves
 clean-kept s d z =
     ⊎-elim (λ (t : clean.fitsIn s (length d) ≡ true). absurd (z (rw t))) (λ (f : clean.fitsIn s (length d) ≡ false). rw f) (two (clean.fitsIn s (length d)))
 
+-- bytes laid at the front
+pub lines-kept : (bytes text : List ℕ) → (roomFor 0 (length bytes) (length text) .number ≡ 0 → ⊥) → laidIfRoom 0 bytes text ≡ text
+lines-kept bytes text z =
+    ⊎-elim (λ (r : leb (0 + length bytes) (length text) ≡ true). absurd (z (one-number (room-there 0 (length bytes) (length text) r))))
+    (λ (f : leb (0 + length bytes) (length text) ≡ false). laid-kept 0 (length bytes) bytes text refl f)
+    (two (leb (0 + length bytes) (length text)))
+
 module _ (records : List ℕ) (frames refused : ℕ) (w text : List ℕ) where
   abbrev bytes : List ℕ
   bytes = listed records frames refused w
@@ -51,8 +58,6 @@ module _ (records : List ℕ) (frames refused : ℕ) (w text : List ℕ) where
   unfolding listingTold listingLeaves checked
   listing-kept z =
       ⊎-elim (λ (t : eqb (callTold w (Ask Missing) .number) 0 ≡ true).
-      ⊎-elim (λ (r : leb (0 + length bytes) (length text) ≡ true). absurd (z (rw t (one-number (room-there 0 (length bytes) (length text) r)))))
-      (λ (f : leb (0 + length bytes) (length text) ≡ false). rw t (laid-kept 0 (length bytes) bytes text refl f))
-      (two (leb (0 + length bytes) (length text))))
+      rw t (lines-kept bytes text (λ (e : roomFor 0 (length bytes) (length text) .number ≡ 0). z (rw t e))))
       (λ (f : eqb (callTold w (Ask Missing) .number) 0 ≡ false). rw f)
       (two (eqb (callTold w (Ask Missing) .number) 0))

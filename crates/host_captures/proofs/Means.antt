@@ -4,18 +4,18 @@ use Prim.Native.Nat.{ℕ, _+_, _*_, _/_, _≤_, _<_}
 use mathlib.Core.Path.{_≡_, refl, sym, ap, _∙_}
 use mathlib.Core.Bool.{true, false}
 use mathlib.Core.Logic.{⊎-elim, _↔_}
-use mathlib.Core.List.{List, [], _∷_}
+use mathlib.Core.List.{List, [], _∷_, _++_}
 use native.Mathlib.Nat.{zero-add}
 use native.Mathlib.Omega.{arith}
 use contract.Lifetimes.{Lfts}
-use borrow.Author.Tests.{le-leb, lt-leb}
+use borrow.Author.Tests.{le-leb, lt-leb, lt-ltb, le-ltb}
 use borrow.Fn.Kinds.{Dens, endedOf, resT}
 use denote.Ref.{now}
 use denote.Triple.Clauses.{AtExit}
 use lib.Dec.{leb}
 use lib.ListN.{length, getD}
 use Rattle.terms.specs.Paper.{Paper, one-number}
-use Rattle.terms.specs.Cases.{two}
+use Rattle.terms.specs.Cases.{two, less}
 use Rattle.octets.specs.Papers.{roomFor, laidIfRoom, room-there, room-lacks, laid-there, laid-kept}
 use Rattle.frame_spec.specs.Frame.{checked}
 use Rattle.ledger_spec.specs.Calls.{Ask, Missing, ownNumber, numberTo, answerTo}
@@ -30,21 +30,71 @@ use Rattle.clean_spec.specs.Checks.{First, Differs, d-none, d-first, differs, c
 use Rattle.clean_spec.specs.Clean as cleans
 use Rattle.clean_spec.specs.Clean.{cleanOf, differOf, checkOf}
 use Rattle.listing_text.specs.Listed.{lastAt}
-use Rattle.listing_text.specs.Whole.{listingOf}
+use Rattle.octets.specs.Octets.{laid}
+use Rattle.record.specs.Record.{recordAt}
+use Rattle.record.specs.Back.{read-back}
+use Rattle.listing_text.specs.Text.{summaryOf}
+use Rattle.listing_text.specs.Whole.{linesIn, listingOf}
 use Rattle.host_words.specs.Told.{perhaps, toldBy, Tells}
 use Rattle.host_words.specs.Words.{bookIn}
 use Rattle.host_words.specs.Calls.{keptBy, callTold}
-use Rattle.host_captures.specs.Captures.{walkWords, listed, listingTold, listingLeaves, cleanTold}
+use Rattle.host_captures.specs.Captures.{walkWords, recordNumbers, recordTold, lastLine, listed, listingTold, listingLeaves, cleanTold}
 use Rattle.host_captures.specs.Listed.{HostListed}
-use Rattle.host_captures.specs.Means.{HostCleaned, HostChecked}
+use Rattle.host_captures.specs.Means.{HostRecord, HostCleaned, HostChecked}
 use Rattle.host_captures.proofs.rk_walk.Reads as walk
 use Rattle.host_captures.proofs.rk_walk.Kinds as walk-kinds
+use Rattle.host_captures.proofs.rk_record.Reads as record-read
+use Rattle.host_captures.proofs.rk_record.Kinds as record-kinds
+use Rattle.host_captures.proofs.rk_lines.Reads as lines
+use Rattle.host_captures.proofs.rk_lines.Kinds as lines-kinds
 use Rattle.host_captures.proofs.rk_listing.Reads as listing
 use Rattle.host_captures.proofs.rk_listing.Kinds as listing-kinds
 use Rattle.host_captures.proofs.rk_clean.Reads as clean
 use Rattle.host_captures.proofs.rk_clean.Kinds as clean-kinds
 use Rattle.host_captures.proofs.rk_is_clean.Reads as is-clean
 use Rattle.host_captures.proofs.rk_is_clean.Kinds as is-clean-kinds
+
+-- ======== A record
+
+number-of : (b : List ℕ) → ((recordTold b .number ≡ 0) ↔ (64 ≤ length b)) × ((recordTold b .number ≡ 1) ↔ (length b < 64))
+unfolding recordTold
+number-of b =
+    ⊎-elim
+    (λ (h : length b < 64). rw (lt-ltb (length b) 64 h) ((λ e. absurd (omega arith), λ (k : 64 ≤ length b). absurd (omega arith)), (λ e. h, λ k. refl)))
+    (λ (h : 64 ≤ length b). rw (le-ltb (length b) 64 h) ((λ e. h, λ k. refl), (λ e. absurd (omega arith), λ (k : length b < 64). absurd (omega arith))))
+    (less (length b) 64)
+
+module _ (κs : Lfts 2) (a : Dens κs record-kinds.ps) (x : resT record-kinds.r κs .Denot) (s : AtExit (endedOf 2 record-kinds.ps record-kinds.r) κs) (p : record-read.Post κs a x s) where
+  record-row : x ≡ 0 → now (s .1 .0) ≡ recordNumbers (recordAt 0 (now (a .0)))
+  unfolding toldBy recordTold
+  record-row z = p .told ∙ rw (sym (p .answered) ∙ z)
+
+  pub rk-record-tells : HostRecord (now (a .0)) x (now (s .1 .0))
+  unfolding recordAt
+  rk-record-tells =
+      record {
+        given-0 = rw (p .answered) (number-of (now (a .0)) .0);
+        given-1 = rw (p .answered) (number-of (now (a .0)) .1);
+        told = record-row;
+        back = λ r f e z. record-row z ∙ ap recordNumbers (ap (recordAt 0) e ∙ read-back r f);
+      }
+
+-- ======== The lines: those of the listing without its last line
+
+pub rk-lines-then-last : (records : List ℕ) (frames refused : ℕ) (w : List ℕ) → listed records frames refused w ≡ linesIn records ++ summaryOf (lastLine frames refused w)
+unfolding listingOf
+rk-lines-then-last records frames refused w = refl
+
+pub rk-lines-lays : (κs : Lfts 3) (a : Dens κs lines-kinds.ps) (x : resT lines-kinds.r κs .Denot) (s : AtExit (endedOf 3 lines-kinds.ps lines-kinds.r) κs) → lines.Post κs a x s
+    → length (linesIn (now (a .0))) ≤ length (now (a .1 .0)) → (x ≡ 0) × ((now (s .1 .1 .0) ≡ length (linesIn (now (a .0)))) × (now (s .1 .0) ≡ laid 0 (linesIn (now (a .0))) (now (a .1 .0))))
+unfolding toldBy
+rk-lines-lays κs a x s p h =
+    let bs = linesIn (now (a .0)) in
+    let t = le-leb (0 + length bs) (length (now (a .1 .0))) (omega arith) in
+    let r = room-there 0 (length bs) (length (now (a .1 .0))) t in (
+      p .0 .answered ∙ one-number r,
+      (ap (λ (l : List ℕ). getD l 0 0) (rw r at (p .0 .told)), p .1 ∙ laid-there 0 (length bs) bs (now (a .1 .0)) refl t),
+    )
 
 -- ======== Cleaning
 

@@ -7,9 +7,13 @@ use denote.Ref.{now}
 use Rattle.terms.specs.OneAnswer.{OneAnswer}
 use Rattle.terms.specs.OneBuffer.{OneBuffer, RefusedKeeps}
 use Rattle.host_words.specs.Told.{both, Refuses, tells-kept}
-use Rattle.host_captures.proofs.Kept.{walk-kept, walk-left, clean-kept, listing-kept}
+use Rattle.host_captures.proofs.Kept.{walk-kept, walk-left, clean-kept, lines-kept, listing-kept}
 use Rattle.host_captures.proofs.rk_walk.Reads as rk-walk
 use Rattle.host_captures.proofs.rk_walk.Kinds as rk-walk-kinds
+use Rattle.host_captures.proofs.rk_record.Reads as rk-record
+use Rattle.host_captures.proofs.rk_record.Kinds as rk-record-kinds
+use Rattle.host_captures.proofs.rk_lines.Reads as rk-lines
+use Rattle.host_captures.proofs.rk_lines.Kinds as rk-lines-kinds
 use Rattle.host_captures.proofs.rk_listing.Reads as rk-listing
 use Rattle.host_captures.proofs.rk_listing.Kinds as rk-listing-kinds
 use Rattle.host_captures.proofs.rk_clean.Reads as rk-clean
@@ -25,6 +29,24 @@ rk-walk-one-buffer κs a x y s t p q = ap₂ both (p .0 .told ∙ sym (q .0 .tol
 
 pub rk-walk-refused-keeps : RefusedKeeps _ rk-walk-kinds.ps rk-walk-kinds.r rk-walk.Post (λ κs x. Refuses x) (λ κs a. both (now (a .1 .1 .1 .0)) (both (now (a .1 .1 .0)) (now (a .1 .0)))) (λ κs s. both (now (s .1 .1 .1 .0)) (both (now (s .1 .1 .0)) (now (s .1 .0))))
 rk-walk-refused-keeps κs a x s p w = ap₂ both (tells-kept (p .0) w) (ap₂ both (p .1 .0 ∙ walk-kept _ (now (a .1 .0)) (λ z. w (p .0 .answered ∙ z)) (now (a .1 .1 .0))) (p .1 .1 ∙ walk-left _ _ (λ z. w (p .0 .answered ∙ z))))
+
+pub rk-record-one-answer : OneAnswer _ rk-record-kinds.ps rk-record-kinds.r rk-record.Post
+rk-record-one-answer κs a x y s t p q = p .answered ∙ sym (q .answered)
+
+pub rk-record-one-buffer : OneBuffer _ rk-record-kinds.ps rk-record-kinds.r rk-record.Post (λ κs s. now (s .1 .0))
+rk-record-one-buffer κs a x y s t p q = p .told ∙ sym (q .told)
+
+pub rk-record-refused-keeps : RefusedKeeps _ rk-record-kinds.ps rk-record-kinds.r rk-record.Post (λ κs x. Refuses x) (λ κs a. now (a .1 .0)) (λ κs s. now (s .1 .0))
+rk-record-refused-keeps κs a x s p w = tells-kept p w
+
+pub rk-lines-one-answer : OneAnswer _ rk-lines-kinds.ps rk-lines-kinds.r rk-lines.Post
+rk-lines-one-answer κs a x y s t p q = p .0 .answered ∙ sym (q .0 .answered)
+
+pub rk-lines-one-buffer : OneBuffer _ rk-lines-kinds.ps rk-lines-kinds.r rk-lines.Post (λ κs s. both (now (s .1 .1 .0) ∷ []) (now (s .1 .0)))
+rk-lines-one-buffer κs a x y s t p q = ap₂ both (p .0 .told ∙ sym (q .0 .told)) (p .1 ∙ sym (q .1))
+
+pub rk-lines-refused-keeps : RefusedKeeps _ rk-lines-kinds.ps rk-lines-kinds.r rk-lines.Post (λ κs x. Refuses x) (λ κs a. both (now (a .1 .1 .0) ∷ []) (now (a .1 .0))) (λ κs s. both (now (s .1 .1 .0) ∷ []) (now (s .1 .0)))
+rk-lines-refused-keeps κs a x s p w = ap₂ both (tells-kept (p .0) w) (p .1 ∙ lines-kept _ _ (λ z. w (p .0 .answered ∙ z)))
 
 pub rk-listing-one-answer : OneAnswer _ rk-listing-kinds.ps rk-listing-kinds.r rk-listing.Post
 rk-listing-one-answer κs a x y s t p q = p .0 .answered ∙ sym (q .0 .answered)

@@ -39,13 +39,17 @@ use Rattle.walk_spec.specs.Walk as Walk
 use Rattle.walk_spec.specs.Walk.{madeOf, recordBy, bookBy, accepts, refuses, framesOf, refusedOf, walkAnswer, walkBook, walkLeaves}
 use Rattle.clean_spec.specs.Clean as Clean
 use Rattle.clean_spec.specs.Clean.{framesIn, cleanOf, foundBy, foundIn, cleanAnswer, cleanLeaves, differOf, checkOf}
-use Rattle.listing_text.specs.Whole.{recordsFrom, recordsIn, linesOf, listingOf}
+use Rattle.listing_text.specs.Whole.{recordsFrom, recordsIn, linesOf, linesIn, listingOf}
 use Rattle.host_words.specs.Words.{wordsOf, pendingIn, ledgerIn}
 use Rattle.host_words.specs.Calls.{keptBy}
 use Rattle.host_words.specs.Told.{toldBy, Tells}
-use Rattle.host_captures.specs.Captures.{walkWords, listingTold, listingLeaves, cleanTold}
+use Rattle.host_captures.specs.Captures.{walkWords, recordTold, listingTold, listingLeaves, cleanTold}
 use Rattle.host_captures.proofs.rk_walk.Reads as rk-walk
 use Rattle.host_captures.proofs.rk_walk.Kinds as rk-walk-kinds
+use Rattle.host_captures.proofs.rk_record.Reads as rk-record
+use Rattle.host_captures.proofs.rk_record.Kinds as rk-record-kinds
+use Rattle.host_captures.proofs.rk_lines.Reads as rk-lines
+use Rattle.host_captures.proofs.rk_lines.Kinds as rk-lines-kinds
 use Rattle.host_captures.proofs.rk_listing.Reads as rk-listing
 use Rattle.host_captures.proofs.rk_listing.Kinds as rk-listing-kinds
 use Rattle.host_captures.proofs.rk_clean.Reads as rk-clean
@@ -88,6 +92,33 @@ rk-walk-rules-out =
     (λ c p. said (p .0, ap₂ (λ (w d : List ℕ). w ++ d) (p .1 .0) (p .1 .1)))
     _
     refl
+
+-- RK_RECORD: bytes, and the told row before
+abbrev pub rk-record-wrong : List (Row (List ℕ × List ℕ) (ℕ × List ℕ))
+rk-record-wrong =
+    (recordOf recordB, replicate 9 7) only (0, 29 ∷ 0x50303031 ∷ 0 ∷ 2 ∷ 3 ∷ 100 ∷ 12 ∷ 0 ∷ 3 ∷ [])
+    ∷ (recordOf recordB, replicate 9 7) never (0, 29 ∷ 0x50303031 ∷ 0 ∷ 2 ∷ 100 ∷ 3 ∷ 12 ∷ 0 ∷ 3 ∷ [])  -- tick number and channel swapped
+    ∷ (recordOf recordFF ++ (9 ∷ []), replicate 9 7) only (0, 28 ∷ 0x20202020 ∷ 2 ∷ 0 ∷ 0 ∷ 0 ∷ 0 ∷ 0 ∷ 0 ∷ [])  -- what stands behind it told of
+    ∷ (replicate 63 0, replicate 9 7) only (1, replicate 9 7)  -- a record cut short told as if it were whole
+    ∷ []
+
+pub rk-record-rules-out : RulesOut (Kept _ rk-record-kinds.ps rk-record-kinds.r rk-record.Post) (λ c. (now (c .args .0), now (c .args .1 .0))) (λ c. (c .result, now (c .exit .1 .0))) rk-record-wrong
+unfolding numeral digitsOf firstHalf secondHalf recordOf recordAt blankOf recordTold toldBy
+rk-record-rules-out =
+    ruled (beside numbers lists) (λ (i : List ℕ × List ℕ). (recordTold (i .0) .number, toldBy (recordTold (i .0)) (i .1))) (λ c p. ap₂ (λ (n : ℕ) (r : List ℕ). (n, r)) (p .answered) (p .told)) _ refl
+
+-- RK_LINES: the bytes of records, a buffer for the text, and the told number before
+abbrev pub rk-lines-wrong : List (Row (List ℕ × (List ℕ × ℕ)) Outcome)
+rk-lines-wrong =
+    (recordOf recordFF, (replicate 21 7, 7)) only shown 0 (20 ∷ []) (lineOf recordFF ++ (7 ∷ []))  -- a last line laid too
+    ∷ (recordOf recordFF, (replicate 19 7, 7)) only shown 8 (7 ∷ []) (replicate 19 7)  -- nothing laid beside 8
+    ∷ ([], ([], 7)) only shown 0 (0 ∷ []) []  -- no records are refused
+    ∷ []
+
+pub rk-lines-rules-out : RulesOut (Kept _ rk-lines-kinds.ps rk-lines-kinds.r rk-lines.Post) (λ c. (now (c .args .0), (now (c .args .1 .0), now (c .args .1 .1 .0)))) (λ c. shown (c .result) (now (c .exit .1 .1 .0) ∷ []) (now (c .exit .1 .0))) rk-lines-wrong
+unfolding numeral digitsOf laid roomFor laidIfRoom decimalOf widthIn firstHalf secondHalf recordOf recordAt blankOf column typeColumn firstColumns lastColumns lineOf recordsFrom recordsIn linesOf toldBy
+rk-lines-rules-out =
+    ruled (beside numbers (beside lists lists)) (λ (i : List ℕ × (List ℕ × ℕ)). tells (roomFor 0 (length (linesIn (i .0))) (length (i .1 .0))) (i .1 .1 ∷ []) (laidIfRoom 0 (linesIn (i .0)) (i .1 .0))) (λ c p. said p) _ refl
 
 -- RK_LISTING: the bytes of records, frames and refused, the ledger's words; a buffer for the text,
 -- and the told number before

@@ -1,11 +1,12 @@
 -- What the host is told of whole captures.
 use Prim.Native.Nat.{ℕ}
 use mathlib.Core.Path.{_≡_, refl, ap₂, _∙_}
-use mathlib.Core.List.{List}
-use lib.Dec.{eqb}
+use mathlib.Core.Bool.{false}
+use mathlib.Core.List.{List, [], _∷_}
+use lib.Dec.{eqb, ltb}
 use lib.ListN.{length}
 use borrow.Author.Tests.{ne-eqb}
-use Rattle.terms.specs.Paper.{Paper, pick}
+use Rattle.terms.specs.Paper.{Paper, answer, pick}
 use Rattle.terms.specs.declared.TickNumber.{TickNumber}
 use Rattle.octets.specs.Papers.{roomFor, laidIfRoom}
 use Rattle.frame_spec.specs.Frame.{checked}
@@ -13,6 +14,8 @@ use Rattle.ledger_spec.specs.Words.{valueAt}
 use Rattle.ledger_spec.specs.Calls.{Ask, Missing}
 use Rattle.ledger.specs.State.{ledgerOf}
 use Rattle.ledger.specs.declared.Ledger.{Ledger}
+use Rattle.record.specs.declared.Record.{Record}
+use Rattle.record.specs.Record.{recordAt}
 use Rattle.listing_text.specs.declared.Summary.{Summary}
 use Rattle.walk_spec.specs.Walk.{walkAnswer, walkBook}
 use Rattle.listing_text.specs.Whole.{listingOf}
@@ -24,6 +27,14 @@ use Rattle.host_words.specs.Calls.{keptBy, callTold}
 -- the words after a walk: those of channel 100's ledger; beside 8 as they were
 unfoldable pub walkWords : List ℕ → ℕ → List ℕ → List ℕ
 walkWords capture room was = keptBy (walkAnswer capture room .number) (ledgerOf (walkBook capture room)) was
+
+-- a record's numbers, in the order of its bytes
+abbrev pub recordNumbers : Record → List ℕ
+recordNumbers r = r .place ∷ r .«msg_type» ∷ r .answer ∷ r .seq .0 ∷ r .tick .0 ∷ r .channel .0 ∷ r .«body_len» ∷ r .floor .0 ∷ r .top .0 ∷ []
+
+-- 1 where the 64 bytes are not all there
+unfoldable pub recordTold : List ℕ → Paper
+recordTold bytes = answer (pick (ltb (length bytes) 64) 1 0) (recordNumbers (recordAt 0 bytes))
 
 -- the numbers of the last line
 abbrev pub lastLine : ℕ → ℕ → List ℕ → Summary
@@ -51,6 +62,10 @@ unfoldable pub cleanTold : List ℕ → Paper
 cleanTold capture = retold perhaps (checkOf capture)
 
 -- PROOFS
+
+pub record-told : (b : List ℕ) (r : Record) → r ≡ recordAt 0 b → ltb (length b) 64 ≡ false → answer 0 (recordNumbers r) ≡ recordTold b
+unfolding recordTold
+record-told b r e h = rw (h, e)
 
 pub walk-words : (capture : List ℕ) (room : ℕ) (was : List ℕ) {n : ℕ} {l : Ledger} {row : List ℕ} → n ≡ walkAnswer capture room .number → l ≡ ledgerOf (walkBook capture room)
     → row ≡ keptBy n l was → row ≡ walkWords capture room was

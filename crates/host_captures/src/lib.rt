@@ -4,10 +4,12 @@
 ghost use mathlib.Core.Path.{_≡_};
 ghost use mathlib.Core.List.{[], _∷_};
 ghost use lib.ListN.{length};
+ghost use Rattle.octets.specs.Papers.{roomFor, laidIfRoom};
+ghost use Rattle.listing_text.specs.Whole.{linesIn};
 ghost use Rattle.walk_spec.specs.Walk.{walkAnswer, walkLeaves};
 ghost use Rattle.clean_spec.specs.Clean.{cleanAnswer, cleanLeaves};
 ghost use Rattle.host_words.specs.Told.{Tells};
-ghost use Rattle.host_captures.specs.Captures.{walkWords, listingTold, listingLeaves, cleanTold};
+ghost use Rattle.host_captures.specs.Captures.{walkWords, recordTold, listingTold, listingLeaves, cleanTold};
 use clean::Check;
 use listing_text::Summary;
 
@@ -38,6 +40,46 @@ pub extern "C" fn rk_walk(
         ];
     }
     answer
+}
+
+// One record of a walk, the first 64 bytes; 1 where there are fewer. Results, as document 01 lays
+// them out: place, MsgType, answer, MsgSeqNum, tick number, channel, BodyLength, floor, top.
+#[no_mangle]
+pub extern "C" fn rk_record(bytes: &[u8], told: &mut [u64; 9]) -> u32
+    ensures { λ r. ⌜ Tells (recordTold (now (bytes .entry))) (now (told .entry)) r (now (told .exit)) ⌝ }
+{
+    if bytes.len() < 64 {
+        return 1;
+    }
+    let read = record::record_at(bytes, 0);
+    let seq = read.seq;
+    let tick = read.tick;
+    let channel = read.channel;
+    let floor = read.floor;
+    let top = read.top;
+    *told = [
+        read.place,
+        read.msg_type as u64,
+        read.answer as u64,
+        seq.value(),
+        tick.value(),
+        channel.value() as u64,
+        read.body_len as u64,
+        floor.value(),
+        top.value(),
+    ];
+    0
+}
+
+// The lines of the listing without the last one: a line of each whole record. Result: how many
+// bytes; or 8.
+#[no_mangle]
+pub extern "C" fn rk_lines(records: &[u8], text: &mut [u8], told: &mut u64) -> u32
+    ensures { λ r. ⌜ Tells (roomFor 0 (length (linesIn (now (records .entry)))) (length (now (text .entry)))) (now (told .entry) ∷ []) r (now (told .exit) ∷ [])
+        × (now (text .exit) ≡ laidIfRoom 0 (linesIn (now (records .entry))) (now (text .entry))) ⌝ }
+{
+    let laid = listing_text::put_lines(text, records);
+    host_words::told_bytes(laid, told)
 }
 
 // The listing of what a walk left: the line of each whole record, then the last line. Result: how

@@ -21,6 +21,8 @@ use Rattle.rules.specs.declared.Kind.the-variants.{S001, S002, S003, P001, P002
 use Rattle.rules.specs.Rules.{short, long}
 use Rattle.rules.specs.Meaning.{size-one}
 use Rattle.rules.specs.Table.{kindOf, suits, measureOf}
+use Rattle.broken.specs.Broken.{brokenOf}
+use Rattle.broken.specs.Meaning.{broken-none, broken-lowest, broken-within}
 use Rattle.frame_spec.specs.Frame.{bodyLength, body, readOf}
 use Rattle.frame_spec.specs.GivenRead.{read-given}
 use Rattle.frame_spec.specs.GivenWrite.{write-given}
@@ -43,8 +45,8 @@ use Rattle.private.specs.Cover.{Covers, spans-cover}
 use Rattle.private.specs.Scrub.{scrubAnswer}
 use Rattle.walk_spec.specs.Literal.{typeIn}
 use Rattle.host_words.specs.Told.{toldBy, Tells, seen}
-use Rattle.host_frames.specs.Frames.{viewNumbers, readTold, searchTold, privateTold, entriesTold, entryNumbers, entryTold}
-use Rattle.host_frames.specs.Means.{bodyNumbers, HostRead, HostWrote, HostFound, HostScrubbed, HostOpened, HostStepped}
+use Rattle.host_frames.specs.Frames.{viewNumbers, readTold, searchTold, privateTold, brokenTold, entriesTold, entryNumbers, entryTold}
+use Rattle.host_frames.specs.Means.{bodyNumbers, HostRead, HostWrote, HostFound, HostScrubbed, HostBroken, HostOpened, HostStepped}
 use Rattle.host_frames.proofs.rk_read.Reads as read
 use Rattle.host_frames.proofs.rk_read.Kinds as read-kinds
 use Rattle.host_frames.proofs.rk_write.Reads as write
@@ -55,6 +57,8 @@ use Rattle.host_frames.proofs.rk_scrub.Reads as scrub
 use Rattle.host_frames.proofs.rk_scrub.Kinds as scrub-kinds
 use Rattle.host_frames.proofs.rk_private.Reads as private
 use Rattle.host_frames.proofs.rk_private.Kinds as private-kinds
+use Rattle.host_frames.proofs.rk_broken_field.Reads as broken
+use Rattle.host_frames.proofs.rk_broken_field.Kinds as broken-kinds
 use Rattle.host_frames.proofs.rk_entries.Reads as entries
 use Rattle.host_frames.proofs.rk_entries.Kinds as entries-kinds
 use Rattle.host_frames.proofs.rk_entry.Reads as entry
@@ -214,7 +218,7 @@ pub rk-search-finds : (κs : Lfts 2) (a : Dens κs find-kinds.ps) (x : resT find
     → HostFound (now (a .0)) (a .1 .0) x (now (s .1 .1 .0))
 rk-search-finds κs a x s p = host-found (now (a .0)) (a .1 .0) p
 
--- ======== Private spans, and entries
+-- ======== Private spans
 
 -- 0 exactly where reading's checks of type and length pass, and then place, length and filling byte
 -- of span number i; else the number of the check
@@ -231,6 +235,25 @@ rk-private-within κs a x s p z =
     let r = rk-private-span κs a x s p in
     let covers = spans-cover (kindOf (a .0)) (now (a .1 .0)) (fits _ _ (sym (r .0) ∙ z) .suit) in
     (covers, rw (r .1 z) (covers .within (a .1 .1 .0)))
+
+-- ======== The field that breaks a rule
+
+pub rk-broken-field-tells : (κs : Lfts 2) (a : Dens κs broken-kinds.ps) (x : resT broken-kinds.r κs .Denot) (s : AtExit (endedOf 2 broken-kinds.ps broken-kinds.r) κs) → broken.Post κs a x s
+    → HostBroken (kindOf (a .0)) (now (a .1 .0)) x (now (s .1 .1 .0))
+unfolding brokenTold toldBy
+rk-broken-field-tells κs a x s p =
+    let k = kindOf (a .0) in
+    let b = now (a .1 .0) in
+    record {
+      field = brokenOf k b;
+      given = p .answered;
+      told = λ (z : x ≡ 0). p .told ∙ rw (sym (p .answered) ∙ z);
+      holds = λ (z : x ≡ 0). broken-none k b (fits k (length b) (sym (p .answered) ∙ z) .is);
+      lowest-field = broken-lowest k b;
+      within = λ (z : x ≡ 0). broken-within k b (sym (p .answered) ∙ z);
+    }
+
+-- ======== Entries
 
 pub rk-entries-opens : (κs : Lfts 2) (a : Dens κs entries-kinds.ps) (x : resT entries-kinds.r κs .Denot) (s : AtExit (endedOf 2 entries-kinds.ps entries-kinds.r) κs) → entries.Post κs a x s
     → HostOpened (now (a .0)) x (now (s .1 .0))

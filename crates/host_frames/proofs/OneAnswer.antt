@@ -21,6 +21,8 @@ use Rattle.host_frames.proofs.rk_private.Reads as rk-private
 use Rattle.host_frames.proofs.rk_private.Kinds as rk-private-kinds
 use Rattle.host_frames.proofs.rk_tail_field.Reads as rk-tail-field
 use Rattle.host_frames.proofs.rk_tail_field.Kinds as rk-tail-field-kinds
+use Rattle.host_frames.proofs.rk_broken_field.Reads as rk-broken-field
+use Rattle.host_frames.proofs.rk_broken_field.Kinds as rk-broken-field-kinds
 use Rattle.host_frames.proofs.rk_entries.Reads as rk-entries
 use Rattle.host_frames.proofs.rk_entries.Kinds as rk-entries-kinds
 use Rattle.host_frames.proofs.rk_entry.Reads as rk-entry
@@ -79,6 +81,15 @@ rk-tail-field-one-buffer κs a x y s t p q = p .told ∙ sym (q .told)
 
 pub rk-tail-field-refused-keeps : RefusedKeeps _ rk-tail-field-kinds.ps rk-tail-field-kinds.r rk-tail-field.Post (λ κs x. Refuses x) (λ κs a. now (a .1 .1 .0)) (λ κs s. now (s .1 .1 .0))
 rk-tail-field-refused-keeps κs a x s p w = tells-kept p w
+
+pub rk-broken-field-one-answer : OneAnswer _ rk-broken-field-kinds.ps rk-broken-field-kinds.r rk-broken-field.Post
+rk-broken-field-one-answer κs a x y s t p q = p .answered ∙ sym (q .answered)
+
+pub rk-broken-field-one-buffer : OneBuffer _ rk-broken-field-kinds.ps rk-broken-field-kinds.r rk-broken-field.Post (λ κs s. now (s .1 .1 .0))
+rk-broken-field-one-buffer κs a x y s t p q = p .told ∙ sym (q .told)
+
+pub rk-broken-field-refused-keeps : RefusedKeeps _ rk-broken-field-kinds.ps rk-broken-field-kinds.r rk-broken-field.Post (λ κs x. Refuses x) (λ κs a. now (a .1 .1 .0)) (λ κs s. now (s .1 .1 .0))
+rk-broken-field-refused-keeps κs a x s p w = tells-kept p w
 
 pub rk-entries-one-answer : OneAnswer _ rk-entries-kinds.ps rk-entries-kinds.r rk-entries.Post
 rk-entries-one-answer κs a x y s t p q = p .answered ∙ sym (q .answered)

@@ -12,7 +12,8 @@ use Rattle.octets.specs.Octets.{numeral, digitsOf, laid, sum8, sumOf}
 use Rattle.calendar.specs.Calendar.{leap, daysIn, realParts, realTime}
 use Rattle.rules.specs.Table.{kindOf, suits, measureOf}
 use Rattle.rules.specs.Fields.{layoutOf, suitsTail, tailOk, p001Ok, p002Ok, m102ValuesOk, entrySize, entryOk, entriesOk, m102Ok, fieldsOk, judgeOf}
-use Rattle.rules.specs.Bodies.{resendBody, snapshotBody, tickOn}
+use Rattle.rules.specs.Bodies.{channelBody, resendBody, snapshotBody, tickOn}
+use Rattle.broken.specs.Broken.{entriesFields, lowestFrom, brokenOf}
 use Rattle.frame_spec.specs.Frame.{checked, readOf, bodyRead}
 use Rattle.frame_spec.specs.Write.{Message, message, plainOf, frameOf, writeOf, leftOf}
 use Rattle.frame_spec.specs.Search.{firstOf, searchOf}
@@ -22,7 +23,7 @@ use Rattle.entries.specs.Reader.{openOf, placed, stands, entryAt, stepOf, place
 use Rattle.private.specs.Private.{tailOf}
 use Rattle.private.specs.Scrub.{painted, summed, scrubAnswer, scrubbed}
 use Rattle.host_words.specs.Told.{toldBy, Tells}
-use Rattle.host_frames.specs.Frames.{readTold, searchTold, privateTold, tailNumber, tailTold, entriesTold, entryNumbers, entryTold}
+use Rattle.host_frames.specs.Frames.{readTold, searchTold, privateTold, tailNumber, tailTold, brokenTold, entriesTold, entryNumbers, entryTold}
 use Rattle.host_frames.proofs.rk_read.Reads as rk-read
 use Rattle.host_frames.proofs.rk_read.Kinds as rk-read-kinds
 use Rattle.host_frames.proofs.rk_write.Reads as rk-write
@@ -35,6 +36,8 @@ use Rattle.host_frames.proofs.rk_private.Reads as rk-private
 use Rattle.host_frames.proofs.rk_private.Kinds as rk-private-kinds
 use Rattle.host_frames.proofs.rk_tail_field.Reads as rk-tail-field
 use Rattle.host_frames.proofs.rk_tail_field.Kinds as rk-tail-field-kinds
+use Rattle.host_frames.proofs.rk_broken_field.Reads as rk-broken-field
+use Rattle.host_frames.proofs.rk_broken_field.Kinds as rk-broken-field-kinds
 use Rattle.host_frames.proofs.rk_entries.Reads as rk-entries
 use Rattle.host_frames.proofs.rk_entries.Kinds as rk-entries-kinds
 use Rattle.host_frames.proofs.rk_entry.Reads as rk-entry
@@ -107,6 +110,21 @@ rk-tail-field-wrong =
 pub rk-tail-field-rules-out : RulesOut (Kept _ rk-tail-field-kinds.ps rk-tail-field-kinds.r rk-tail-field.Post) (λ c. (now (c .args .0), (c .args .1 .0, now (c .args .1 .1 .0)))) (λ c. told (c .result) (now (c .exit .1 .1 .0))) rk-tail-field-wrong
 unfolding numeral digitsOf suits measureOf layoutOf suitsTail tailOk toldBy tailNumber tailTold
 rk-tail-field-rules-out = ruled (beside numbers lists) (λ (i : List ℕ × (ℕ × List ℕ)). tells (tailTold (i .0) (i .1 .0)) (i .1 .1)) (λ c p. said p) _ refl
+
+-- RK_BROKEN_FIELD: a MsgType, a body, and the told row before
+abbrev pub rk-broken-field-wrong : List (Row (ℕ × (List ℕ × List ℕ)) Answer)
+rk-broken-field-wrong =
+    (0x50303031, (channelBody 12 0x58, replicate 5 7)) only told 0 (1 ∷ 0 ∷ 1 ∷ 0 ∷ 0 ∷ [])  -- not EndOfChannel, which is broken too and stands behind
+    ∷ (0x50303031, (channelBody 13 0x59, replicate 5 7)) only told 0 (replicate 5 0)  -- a field told where all hold, or nothing told at all
+    ∷ (0x4D323031, (tickOn 0x4D44323131 0x30 (replicate 138 0x41), replicate 5 7)) never told 6 (replicate 5 7)  -- 6 passed on in place of the field
+    ∷ (0x4D323031, (tickOn 0x4D44323131 0x30 (replicate 138 0x41), replicate 5 7)) only told 0 (1 ∷ 45 ∷ 138 ∷ 9 ∷ 0 ∷ [])  -- its extension, and none of its bytes
+    ∷ (0x50303031, ([], replicate 5 7)) only told 4 (replicate 5 7)  -- a field outside the body
+    ∷ (0x58393939, ([], replicate 5 7)) only told 2 (replicate 5 7)  -- a type of no table said to keep its rules
+    ∷ []
+
+pub rk-broken-field-rules-out : RulesOut (Kept _ rk-broken-field-kinds.ps rk-broken-field-kinds.r rk-broken-field.Post) (λ c. (c .args .0, (now (c .args .1 .0), now (c .args .1 .1 .0)))) (λ c. told (c .result) (now (c .exit .1 .1 .0))) rk-broken-field-wrong
+unfolding numeral digitsOf kindOf suits measureOf layoutOf suitsTail tailOk entriesFields lowestFrom brokenOf toldBy brokenTold
+rk-broken-field-rules-out = ruled (beside numbers lists) (λ (i : ℕ × (List ℕ × List ℕ)). tells (brokenTold (i .0) (i .1 .0)) (i .1 .1)) (λ c p. said p) _ refl
 
 -- ENTRIES: a snapshot of stream MD001 with this SecurityType, and two entries of 10 bytes, of types
 -- 5 and 6 and prices 7 and 8

@@ -10,6 +10,8 @@ use Rattle.rules.specs.declared.Kind.the-variants.{M201}
 use Rattle.rules.specs.Fields.{namedIn, tailOk}
 use Rattle.tails.specs.declared.TailField.{TailField}
 use Rattle.tails.specs.Fields.{tailFields, fieldAt}
+use Rattle.broken.specs.declared.Broken.{Broken}
+use Rattle.broken.specs.Broken.{brokenOf}
 use Rattle.frame_spec.specs.Frame.{msgType, readOf, bodyRead}
 use Rattle.frame_spec.specs.Search.{searchOf}
 use Rattle.frame_view.specs.declared.View.{View}
@@ -50,6 +52,13 @@ tailNumber body = pick (eqb (measureOf M201 (length body)) 0) (pick (tailOk body
 
 unfoldable pub tailTold : List ℕ → ℕ → Paper
 tailTold body i = answer (tailNumber body) (fieldNumbers (fieldAt i (tailFields (namedIn body) (length body))))
+
+-- the lowest field that breaks a rule: 1, place, length, number, entry; or zeros
+abbrev pub brokenNumbers : Broken → List ℕ
+brokenNumbers f = f .found ∷ f .place ∷ f .len ∷ f .index ∷ f .entry ∷ []
+
+unfoldable pub brokenTold : ℕ → List ℕ → Paper
+brokenTold type body = answer (measureOf (kindOf type) (length body)) (brokenNumbers (brokenOf (kindOf type) body))
 
 -- the first entry stands at 73
 unfoldable pub entriesTold : List ℕ → Paper

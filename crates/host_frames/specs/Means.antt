@@ -11,6 +11,11 @@ use Rattle.terms.specs.Letters.{spelled}
 use Rattle.octets.specs.Octets.{be}
 use Rattle.rules.specs.declared.Kind.{Kind}
 use Rattle.rules.specs.declared.Kind.the-variants.{S001, S002, S003, P001, P002, M101, M102, M201, Unknown}
+use Rattle.rules.specs.Rules.{FieldRules}
+use Rattle.rules.specs.Table.{measureOf}
+use Rattle.broken.specs.declared.Broken.{Broken}
+use Rattle.broken.specs.Broken.{fieldsOf, none}
+use Rattle.broken.specs.Meaning.{Lowest, Within}
 use Rattle.frame_spec.specs.Frame.{readOf}
 use Rattle.frame_spec.specs.Given.{Reads, Writes}
 use Rattle.frame_spec.specs.Lowest.{ReadsAt, LowestPlace}
@@ -87,6 +92,17 @@ pub record HostFound (s : List ℕ) (from x : ℕ) (row : List ℕ) : Type 0 whe
 pub record HostScrubbed (d : List ℕ) (x told : ℕ) (d′ : List ℕ) : Type 0 where
   pub scrubbing : seen x (told ∷ []) ≡ scrubAnswer d
   pub buffer : d′ ≡ scrubbed d
+
+-- rk_broken_field of a type and a body b: 0 exactly where reading's checks of type and length pass;
+-- then none is told exactly where the field rules hold, else the lowest field that breaks one, and it
+-- lies within the body
+pub record HostBroken (k : Kind) (b : List ℕ) (x : ℕ) (row : List ℕ) : Type 0 where
+  pub field : Broken
+  pub given : x ≡ measureOf k (length b)
+  pub told : x ≡ 0 → row ≡ field .found ∷ field .place ∷ field .len ∷ field .index ∷ field .entry ∷ []
+  pub holds : x ≡ 0 → (field ≡ none) ↔ FieldRules k b
+  pub lowest-field : (field ≡ none → ⊥) → Lowest (fieldsOf k b) field
+  pub within : x ≡ 0 → Within (length b) field
 
 -- ENTRIES OF THE BODY b
 

@@ -8,7 +8,7 @@ ghost use Rattle.frame_spec.specs.Write.{message, writeOf, leftOf};
 ghost use Rattle.private.specs.Scrub.{scrubAnswer, scrubbed};
 ghost use Rattle.entries.specs.Papers.{entryPaper};
 ghost use Rattle.host_words.specs.Told.{Tells};
-ghost use Rattle.host_frames.specs.Frames.{readTold, searchTold, privateTold, tailTold, entriesTold, entryNumbers, entryTold};
+ghost use Rattle.host_frames.specs.Frames.{readTold, searchTold, privateTold, tailTold, brokenTold, entriesTold, entryNumbers, entryTold};
 use entries::Entry;
 use frame::Found;
 use frame::Read;
@@ -133,6 +133,32 @@ pub extern "C" fn rk_tail_field(body: &[u8], i: usize, told: &mut [u64; 4]) -> u
             }
             let f = tails::tail_field(layout, body.len(), i);
             *told = [f.place as u64, f.len as u64, f.text, f.hidden];
+            0
+        }
+    }
+}
+
+// Which field of a body of that type breaks a rule of number 6: the lowest, in the order of document
+// 01's widths. Results: 1, where the field starts in the body, how many bytes it has, its number in
+// that order, counted from 0, and for a field of an M102 entry the number of the entry, counted from
+// 1, else 0; or five times 0 where every rule holds. An M201's extension is number 9; the fields of
+// an entry are numbers 13 to 16.
+#[no_mangle]
+pub extern "C" fn rk_broken_field(msg_type: u32, body: &[u8], told: &mut [u64; 5]) -> u32
+    ensures { λ r. ⌜ Tells (brokenTold «msg_type» (now (body .entry))) (now (told .entry)) r (now (told .exit)) ⌝ }
+{
+    let kind = rules::kind_of(msg_type);
+    match rules::measure(kind, body.len()) {
+        Verdict::Refused(why) => why.number(),
+        Verdict::Fine => {
+            let f = broken::broken_field(kind, body);
+            *told = [
+                f.found,
+                f.place as u64,
+                f.len as u64,
+                f.index,
+                f.entry as u64,
+            ];
             0
         }
     }

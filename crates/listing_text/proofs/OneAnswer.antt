@@ -10,6 +10,8 @@ use Rattle.listing_text.proofs.put_line.Reads as put-line
 use Rattle.listing_text.proofs.put_line.Kinds as put-line-kinds
 use Rattle.listing_text.proofs.put_summary.Reads as put-summary
 use Rattle.listing_text.proofs.put_summary.Kinds as put-summary-kinds
+use Rattle.listing_text.proofs.put_lines.Reads as put-lines
+use Rattle.listing_text.proofs.put_lines.Kinds as put-lines-kinds
 use Rattle.listing_text.proofs.put_listing.Reads as put-listing
 use Rattle.listing_text.proofs.put_listing.Kinds as put-listing-kinds
 
@@ -30,6 +32,15 @@ put-summary-one-buffer κs a x y s t p q = p .1 ∙ sym (q .1)
 
 pub put-summary-refused-keeps : RefusedKeeps _ put-summary-kinds.ps put-summary-kinds.r put-summary.Post (λ κs x. Refuses x) (λ κs a. now (a .0)) (λ κs s. now (s .0))
 put-summary-refused-keeps κs a x s p w = refused-kept _ _ _ _ _ x refl w (p .0) (p .1)
+
+pub put-lines-one-answer : OneAnswer _ put-lines-kinds.ps put-lines-kinds.r put-lines.Post
+put-lines-one-answer κs a x y s t p q = written-one x y (p .0 ∙ sym (q .0))
+
+pub put-lines-one-buffer : OneBuffer _ put-lines-kinds.ps put-lines-kinds.r put-lines.Post (λ κs s. now (s .0))
+put-lines-one-buffer κs a x y s t p q = p .1 ∙ sym (q .1)
+
+pub put-lines-refused-keeps : RefusedKeeps _ put-lines-kinds.ps put-lines-kinds.r put-lines.Post (λ κs x. Refuses x) (λ κs a. now (a .0)) (λ κs s. now (s .0))
+put-lines-refused-keeps κs a x s p w = refused-kept _ _ _ _ _ x refl w (p .0) (p .1)
 
 pub put-listing-one-answer : OneAnswer _ put-listing-kinds.ps put-listing-kinds.r put-listing.Post
 put-listing-one-answer κs a x y s t p q = written-one x y (p .0 ∙ sym (q .0))

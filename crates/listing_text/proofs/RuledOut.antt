@@ -20,7 +20,9 @@ use Rattle.listing_text.proofs.put_line.Reads as put-line
 use Rattle.listing_text.proofs.put_line.Kinds as put-line-kinds
 use Rattle.listing_text.proofs.put_summary.Reads as put-summary
 use Rattle.listing_text.proofs.put_summary.Kinds as put-summary-kinds
-use Rattle.listing_text.specs.Whole.{recordsFrom, recordsIn, linesOf, listingOf}
+use Rattle.listing_text.specs.Whole.{recordsFrom, recordsIn, linesOf, linesIn, listingOf}
+use Rattle.listing_text.proofs.put_lines.Reads as put-lines
+use Rattle.listing_text.proofs.put_lines.Kinds as put-lines-kinds
 use Rattle.listing_text.proofs.put_listing.Reads as put-listing
 use Rattle.listing_text.proofs.put_listing.Kinds as put-listing-kinds
 
@@ -53,6 +55,20 @@ pub put-summary-rules-out : RulesOut (Kept _ put-summary-kinds.ps put-summary-ki
 unfolding digitsOf laid roomFor laidIfRoom decimalOf widthIn column named summaryOf
 put-summary-rules-out =
     ruled lefts (λ (i : List ℕ × (ℕ × Summary)). left (roomFor (i .1 .0) (length (summaryOf (i .1 .1))) (length (i .0))) (laidIfRoom (i .1 .0) (summaryOf (i .1 .1)) (i .0))) (λ c p. left-is p) _ refl
+
+-- a buffer and the bytes of records; the answer, and the buffer then. The lines of A and of FF have
+-- 19 and 20 bytes.
+abbrev pub put-lines-wrong : List (Row (List ℕ × List ℕ) Left)
+put-lines-wrong =
+    (replicate 40 7, recordOf recordA ++ recordOf recordFF) only left (answer 0 (39 ∷ [])) (lineOf recordA ++ (lineOf recordFF ++ (7 ∷ [])))  -- a last line laid too
+    ∷ (replicate 39 7, recordOf recordA ++ recordOf recordFF) never left (refusal 8) (replicate 39 7)  -- room kept for a last line
+    ∷ (replicate 38 7, recordOf recordA ++ recordOf recordFF) only left (refusal 8) (replicate 38 7)  -- the first line laid beside 8
+    ∷ ([], replicate 63 7) only left (answer 0 (0 ∷ [])) []  -- a record cut short given a line
+    ∷ []
+
+pub put-lines-rules-out : RulesOut (Kept _ put-lines-kinds.ps put-lines-kinds.r put-lines.Post) (λ c. (now (c .args .0), now (c .args .1 .0))) (λ c. left (writtenPaper (c .result)) (now (c .exit .0))) put-lines-wrong
+unfolding numeral digitsOf laid roomFor laidIfRoom decimalOf widthIn firstHalf secondHalf recordOf recordAt blankOf column typeColumn firstColumns lastColumns lineOf recordsFrom recordsIn linesOf
+put-lines-rules-out = ruled lefts (λ (i : List ℕ × List ℕ). left (roomFor 0 (length (linesIn (i .1))) (length (i .0))) (laidIfRoom 0 (linesIn (i .1)) (i .0))) (λ c p. left-is p) _ refl
 
 -- the numbers of the last line, which has 43 bytes then; the lines of A and of FF have 19 and 20
 abbrev few : Summary

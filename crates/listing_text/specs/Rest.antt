@@ -1,70 +1,74 @@
--- What is still to be laid once the lines of the first k records are: the loops go by it.
+-- The lines still to be laid once those of the first k records are: the loops go by them.
 use Prim.Native.Nat.{ℕ, suc, _+_, _*_, _/_, _-_, _≤_, _<_}
 use mathlib.Core.Path.{_≡_, refl, sym, ap, _∙_}
-use mathlib.Core.Bool.{false}
-use mathlib.Core.List.{List, _++_, append-assoc}
+use mathlib.Core.Bool.{Bool, false}
+use mathlib.Core.List.{List, [], _++_}
 use native.Mathlib.Nat.{zero-add}
 use native.Mathlib.Omega.{arith}
 use lib.Dec.{leb}
 use lib.ListN.{length, length-append}
 use borrow.Author.Tests.{lt-leb}
 use Rattle.octets.specs.Octets.{laid}
-use Rattle.octets.specs.Overlays.{laid-append, room-test}
-use Rattle.listing_text.specs.declared.Summary.{Summary}
+use Rattle.octets.specs.Overlays.{laid-append, laid-none, room-test}
 use Rattle.record.specs.Record.{recordAt}
+use Rattle.listing_text.specs.declared.Summary.{Summary}
 use Rattle.listing_text.specs.Text.{lineOf, summaryOf}
 use Rattle.record.specs.Stored.{Stored, stored-length}
-use Rattle.listing_text.specs.Whole.{recordsFrom, recordsIn, linesOf, listingOf}
+use Rattle.listing_text.specs.Whole.{recordsFrom, recordsIn, linesOf, linesIn, listingOf}
 
-module _ (s : List ℕ) (last : Summary) where
-  -- the lines from record k on, and the last line
+module _ (s : List ℕ) where
+  -- the lines from record k on
   unfoldable pub restOf : ℕ → List ℕ
-  restOf k = linesOf (recordsFrom k (length s / 64 - k) s) ++ summaryOf last
+  restOf k = linesOf (recordsFrom k (length s / 64 - k) s)
 
-  pub rest-first : restOf 0 ≡ listingOf s last
-  unfolding restOf listingOf recordsIn
+  pub rest-first : restOf 0 ≡ linesIn s
+  unfolding restOf recordsIn
   rest-first = let e : length s / 64 - 0 ≡ length s / 64 = omega arith in rw e
 
   pub rest-step : (k : ℕ) → k < length s / 64 → restOf k ≡ lineOf (recordAt (64 * k) s) ++ restOf (k + 1)
   unfolding restOf linesOf recordsFrom
-  rest-step k h =
-      let e : length s / 64 - k ≡ suc (length s / 64 - (k + 1)) = omega arith in
-      rw e (append-assoc (lineOf (recordAt (64 * k) s)) (linesOf (recordsFrom (k + 1) (length s / 64 - (k + 1)) s)) (summaryOf last))
+  rest-step k h = let e : length s / 64 - k ≡ suc (length s / 64 - (k + 1)) = omega arith in rw e
 
-  pub rest-end : (k : ℕ) → length s / 64 ≤ k → restOf k ≡ summaryOf last
+  pub rest-end : (k : ℕ) → length s / 64 ≤ k → restOf k ≡ []
   unfolding restOf linesOf recordsFrom
   rest-end k h = let e : length s / 64 - k ≡ 0 = omega arith in rw e
 
   rest-length : (k : ℕ) → k < length s / 64 → length (restOf k) ≡ length (lineOf (recordAt (64 * k) s)) + length (restOf (k + 1))
   rest-length k h = rw (rest-step k h) (length-append (lineOf (recordAt (64 * k) s)) (restOf (k + 1)))
 
-  -- ROOM: a line that does not fit, and one that does
+  -- ROOM for them and m bytes more: a line that does not fit, and one that does
 
-  module _ (k left n : ℕ) (h : k < length s / 64) (l : n ≡ length (lineOf (recordAt (64 * k) s))) where
-    pub rest-lacks : left < n → leb (length (restOf k)) left ≡ false
-    rest-lacks w = lt-leb (length (restOf k)) left (omega (arith, rest-length k h))
+  module _ (m k left n : ℕ) (h : k < length s / 64) (l : n ≡ length (lineOf (recordAt (64 * k) s))) where
+    pub rest-lacks : left < n → leb (length (restOf k) + m) left ≡ false
+    rest-lacks w = lt-leb (length (restOf k) + m) left (omega (arith, rest-length k h))
 
-    pub rest-fits : n ≤ left → leb (length (restOf (k + 1))) (left - n) ≡ leb (length (restOf k)) left
+    pub rest-fits : n ≤ left → leb (length (restOf (k + 1)) + m) (left - n) ≡ leb (length (restOf k) + m) left
     rest-fits w =
-        let e : length (restOf (k + 1)) + n ≡ length (restOf k) = omega (arith, rest-length k h) in
-        room-test left (length (restOf (k + 1))) n w ∙ ap (λ (m : ℕ). leb m left) e
+        let e : (length (restOf (k + 1)) + m) + n ≡ length (restOf k) + m = omega (arith, rest-length k h) in
+        room-test left (length (restOf (k + 1)) + m) n w ∙ ap (λ (x : ℕ). leb x left) e
 
   -- LAYING: before record k, with the place behind the lines laid; d₀ is what stood there at first
 
   pub record Going (d₀ d : List ℕ) (k at : ℕ) : Type 0 where
-    pub ends : at + length (restOf k) ≡ length (listingOf s last)
+    pub ends : at + length (restOf k) ≡ length (linesIn s)
     pub long : length d ≡ length d₀
-    pub same : laid at (restOf k) d ≡ laid 0 (listingOf s last) d₀
+    pub same : laid at (restOf k) d ≡ laid 0 (linesIn s) d₀
 
   pub going-first : (d : List ℕ) → Going d d 0 0
-  going-first d = record { ends = rw (rest-first) (zero-add (length (listingOf s last))); long = refl; same = rw rest-first }
+  going-first d = record { ends = rw (rest-first) (zero-add (length (linesIn s))); long = refl; same = rw rest-first }
 
-  module _ {d₀ d : List ℕ} {k at : ℕ} (g : Going d₀ d k at) (r : length (listingOf s last) ≤ length d₀) where
+  module _ {d₀ d : List ℕ} {k at : ℕ} (g : Going d₀ d k at) (r : length (linesIn s) ≤ length d₀) where
     pub line-room : k < length s / 64 → at + length (lineOf (recordAt (64 * k) s)) ≤ length d
     line-room h = omega (arith, g .ends, g .long, rest-length k h)
 
-    pub last-room : length s / 64 ≤ k → at + length (summaryOf last) ≤ length d
-    last-room h = rw (← rest-end k h) (omega (arith, g .ends, g .long))
+    pub going-end : length s / 64 ≤ k → Stored 0 (linesIn s) d₀ d at
+    going-end h =
+        let none : length (restOf k) ≡ 0 = ap length (rest-end k h) in
+        record {
+          whole = laid-none at (restOf k) d (laid 0 (linesIn s) d₀) (rest-end k h) (g .same);
+          ends = omega (arith, g .ends, none);
+          room = omega (arith, g .ends, none);
+        }
 
   module _ {d₀ d e : List ℕ} {k at next : ℕ} (g : Going d₀ d k at) where
     pub going-on : k < length s / 64 → Stored at (lineOf (recordAt (64 * k) s)) d e next → Going d₀ e (k + 1) next
@@ -78,10 +82,18 @@ module _ (s : List ℕ) (last : Summary) where
               ∙ ap (λ (x : List ℕ). laid at x d) (sym (rest-step k h)) ∙ g .same);
         }
 
-    pub going-end : length s / 64 ≤ k → Stored at (summaryOf last) d e next → Stored 0 (listingOf s last) d₀ e next
-    going-end h t =
-        record {
-          whole = t .whole ∙ ap (λ (x : List ℕ). laid at x d) (sym (rest-end k h)) ∙ g .same;
-          ends = t .ends ∙ ap (λ (x : List ℕ). at + length x) (sym (rest-end k h)) ∙ g .ends ∙ sym (zero-add (length (listingOf s last)));
-          room = omega (arith, t .room, g .long);
-        }
+-- THE WHOLE LISTING: the lines and the last line
+
+module _ (s : List ℕ) (last : Summary) where
+  listing-length : length (listingOf s last) ≡ length (linesIn s) + length (summaryOf last)
+  unfolding listingOf
+  listing-length = length-append (linesIn s) (summaryOf last)
+
+  pub listing-fits : (n room : ℕ) (r : Bool) → r ≡ leb (length (linesIn s) + n) room → n ≡ length (summaryOf last) → r ≡ leb (length (listingOf s last)) room
+  listing-fits n room r h e = h ∙ ap (λ (m : ℕ). leb m room) (ap (λ (x : ℕ). length (linesIn s) + x) e ∙ sym listing-length)
+
+  pub lines-room : (n : ℕ) → length (listingOf s last) ≤ n → length (linesIn s) ≤ n
+  lines-room n h = omega (arith, listing-length)
+
+  pub end-room : {d e : List ℕ} {at : ℕ} → Stored 0 (linesIn s) d e at → length (listingOf s last) ≤ length d → at + length (summaryOf last) ≤ length e
+  end-room t h = omega (arith, listing-length, t .ends, stored-length t)

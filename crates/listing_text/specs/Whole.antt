@@ -22,6 +22,10 @@ unfoldable pub linesOf : List Record → List ℕ
 linesOf [] = []
 linesOf (r ∷ rs) = lineOf r ++ linesOf rs
 
+-- the lines of all whole records
+abbrev pub linesIn : List ℕ → List ℕ
+linesIn s = linesOf (recordsIn s)
+
 -- "the whole output": the lines, then the last line
 unfoldable pub listingOf : List ℕ → Summary → List ℕ
-listingOf s last = linesOf (recordsIn s) ++ summaryOf last
+listingOf s last = linesIn s ++ summaryOf last

@@ -11,7 +11,7 @@ use octets::Written;
 use record::Record;
 use terms::TickNumber;
 ghost use lib.Dec.{leb};
-ghost use Rattle.listing_text.specs.Whole.{listingOf};
+ghost use Rattle.listing_text.specs.Whole.{linesIn, listingOf};
 use terms::Refusal;
 
 // What the listing says of a whole capture.
@@ -177,9 +177,10 @@ fn last_len(s: Summary) -> usize
     store_end(&mut d, 0, s)
 }
 
-// Whether so much room takes the whole listing. left is the room after the lines passed.
-fn has_room(room: usize, records: &[u8], s: Summary) -> bool
-    ensures { λ r. ⌜ r ≡ leb (length (listingOf (now (records .entry)) s)) room ⌝ }
+// Whether so much room takes all lines and `end` bytes more. left is the room after the lines
+// passed.
+fn takes(room: usize, records: &[u8], end: usize) -> bool
+    ensures { λ r. ⌜ r ≡ leb (length (linesIn (now (records .entry))) + end) room ⌝ }
 {
     let mut left = room;
     let mut passed: usize = 0;
@@ -191,13 +192,13 @@ fn has_room(room: usize, records: &[u8], s: Summary) -> bool
         left -= n;
         passed += 1;
     }
-    last_len(s) <= left
+    end <= left
 }
 
-// Writes the listing over the front of out, and returns the place after it.
-fn store(out: &mut [u8], records: &[u8], s: Summary) -> usize
-    requires { ⌜ length (listingOf (now records) s) ≤ length (now out) ⌝ }
-    ensures { λ e. ⌜ Stored 0 (listingOf (now (records .entry)) s) (now (out .entry)) (now (out .exit)) e ⌝ }
+// Writes all lines over the front of out, and returns the place after them.
+fn store_lines(out: &mut [u8], records: &[u8]) -> usize
+    requires { ⌜ length (linesIn (now records)) ≤ length (now out) ⌝ }
+    ensures { λ e. ⌜ Stored 0 (linesIn (now (records .entry))) (now (out .entry)) (now (out .exit)) e ⌝ }
 {
     let mut at: usize = 0;
     let mut laid: usize = 0;
@@ -205,18 +206,31 @@ fn store(out: &mut [u8], records: &[u8], s: Summary) -> usize
         at = store_line(out, at, record::record_at(records, 64 * laid));
         laid += 1;
     }
-    store_end(out, at, s)
+    at
 }
 
 // Writes the lines of all whole records of `records` (64 bytes each; what is left over at its end
-// is passed over) and then the last line over the front of out, and returns how many bytes that
+// is passed over) over the front of out, and returns how many bytes that took. 8, and nothing is
+// written, where out is shorter.
+pub fn put_lines(out: &mut [u8], records: &[u8]) -> Written
+    ensures { λ w. ⌜ (writtenPaper w ≡ roomFor 0 (length (linesIn (now (records .entry)))) (length (now (out .entry))))
+        × (now (out .exit) ≡ laidIfRoom 0 (linesIn (now (records .entry))) (now (out .entry))) ⌝ }
+{
+    if !takes(out.len(), records, 0) {
+        return Written::Refused(Refusal::Room);
+    }
+    Written::Bytes(store_lines(out, records))
+}
+
+// Writes these lines and then the last line over the front of out, and returns how many bytes that
 // took. 8, and nothing is written, where out is shorter.
 pub fn put_listing(out: &mut [u8], records: &[u8], s: Summary) -> Written
     ensures { λ w. ⌜ (writtenPaper w ≡ roomFor 0 (length (listingOf (now (records .entry)) s)) (length (now (out .entry))))
         × (now (out .exit) ≡ laidIfRoom 0 (listingOf (now (records .entry)) s) (now (out .entry))) ⌝ }
 {
-    if !has_room(out.len(), records, s) {
+    if !takes(out.len(), records, last_len(s)) {
         return Written::Refused(Refusal::Room);
     }
-    Written::Bytes(store(out, records, s))
+    let at = store_lines(out, records);
+    Written::Bytes(store_end(out, at, s))
 }

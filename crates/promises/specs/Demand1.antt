@@ -97,6 +97,7 @@ use Rattle.host_session.proofs.OneAnswer as host_session
 use Rattle.month.proofs.OneAnswer as month
 use Rattle.session.proofs.OneAnswer as session
 use Rattle.tails.proofs.OneAnswer as tails
+use Rattle.broken.proofs.OneAnswer as broken
 
 -- "EVERY PUBLIC ENTRY POINT TAKES ALL INPUT": of each public function, the theorem that its promise
 -- fixes the answer for all input. (tools/promises compares these lists with the public functions.)
@@ -291,6 +292,7 @@ stream-answers =
 -- listing_text: a whole listing
 lines-answers : Named
 lines-answers =
+    let put-lines-one-answer = listing_text.put-lines-one-answer in
     let put-listing-one-answer = listing_text.put-listing-one-answer in
     named
 
@@ -358,6 +360,8 @@ channels-answers =
 host-captures-answers : Named
 host-captures-answers =
     let rk-walk-one-answer = host_captures.rk-walk-one-answer in
+    let rk-record-one-answer = host_captures.rk-record-one-answer in
+    let rk-lines-one-answer = host_captures.rk-lines-one-answer in
     let rk-listing-one-answer = host_captures.rk-listing-one-answer in
     let rk-clean-one-answer = host_captures.rk-clean-one-answer in
     let rk-is-clean-one-answer = host_captures.rk-is-clean-one-answer in
@@ -451,6 +455,7 @@ host-market-answers =
 host-frames-answers : Named
 host-frames-answers =
     let rk-tail-field-one-answer = host_frames.rk-tail-field-one-answer in
+    let rk-broken-field-one-answer = host_frames.rk-broken-field-one-answer in
     named
 
 -- host_month
@@ -493,6 +498,12 @@ session-answers =
 tails-answers : Named
 tails-answers =
     let tail-field-one-answer = tails.tail-field-one-answer in
+    named
+
+-- broken
+broken-answers : Named
+broken-answers =
+    let broken-field-one-answer = broken.broken-field-one-answer in
     named
 
 -- "AND REFUSES WHAT IT CAN'T USE WITH A NUMBER FROM DOCUMENT 01"
@@ -667,6 +678,8 @@ stream-buffers =
 
 lines-buffers : Named
 lines-buffers =
+    let put-lines-one-buffer = listing_text.put-lines-one-buffer in
+    let put-lines-refused-keeps = listing_text.put-lines-refused-keeps in
     let put-listing-one-buffer = listing_text.put-listing-one-buffer in
     let put-listing-refused-keeps = listing_text.put-listing-refused-keeps in
     named
@@ -743,6 +756,10 @@ host-captures-buffers : Named
 host-captures-buffers =
     let rk-walk-one-buffer = host_captures.rk-walk-one-buffer in
     let rk-walk-refused-keeps = host_captures.rk-walk-refused-keeps in
+    let rk-record-one-buffer = host_captures.rk-record-one-buffer in
+    let rk-record-refused-keeps = host_captures.rk-record-refused-keeps in
+    let rk-lines-one-buffer = host_captures.rk-lines-one-buffer in
+    let rk-lines-refused-keeps = host_captures.rk-lines-refused-keeps in
     let rk-listing-one-buffer = host_captures.rk-listing-one-buffer in
     let rk-listing-refused-keeps = host_captures.rk-listing-refused-keeps in
     let rk-clean-one-buffer = host_captures.rk-clean-one-buffer in
@@ -821,6 +838,8 @@ host-market-buffers =
 host-frames-buffers : Named
 host-frames-buffers =
     let rk-tail-field-one-buffer = host_frames.rk-tail-field-one-buffer in
+    let rk-broken-field-one-buffer = host_frames.rk-broken-field-one-buffer in
+    let rk-broken-field-refused-keeps = host_frames.rk-broken-field-refused-keeps in
     named
 
 -- host_month

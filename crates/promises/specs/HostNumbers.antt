@@ -39,11 +39,11 @@ use Rattle.stream_spec.specs.Calls as stream-calls
 use Rattle.stream_spec.specs.Calls.{givenOf, numberFor, answerFor}
 use Rattle.host_words.specs.Told.{Tells}
 use Rattle.host_stream_spec.specs.Lent.{lent, streamIn}
-use Rattle.host_frames.specs.Frames.{readTold, searchTold, privateTold, tailNumber, tailTold, entriesTold, entryTold}
+use Rattle.host_frames.specs.Frames.{readTold, searchTold, privateTold, tailNumber, tailTold, brokenTold, entriesTold, entryTold}
 use Rattle.host_words.specs.Words.{bookIn}
 use Rattle.host_words.specs.Calls.{callTold}
 use Rattle.host_ledger.specs.Words.{ledgerTold}
-use Rattle.host_captures.specs.Captures.{listed, listingTold, cleanTold}
+use Rattle.host_captures.specs.Captures.{recordTold, listed, listingTold, cleanTold}
 use Rattle.host_frames.proofs.rk_read.Reads as rk-read
 use Rattle.host_frames.proofs.rk_read.Kinds as rk-read-kinds
 use Rattle.host_frames.proofs.rk_write.Reads as rk-write
@@ -56,6 +56,8 @@ use Rattle.host_frames.proofs.rk_private.Reads as rk-private
 use Rattle.host_frames.proofs.rk_private.Kinds as rk-private-kinds
 use Rattle.host_frames.proofs.rk_tail_field.Reads as rk-tail-field
 use Rattle.host_frames.proofs.rk_tail_field.Kinds as rk-tail-field-kinds
+use Rattle.host_frames.proofs.rk_broken_field.Reads as rk-broken-field
+use Rattle.host_frames.proofs.rk_broken_field.Kinds as rk-broken-field-kinds
 use Rattle.host_frames.proofs.rk_entries.Reads as rk-entries
 use Rattle.host_frames.proofs.rk_entries.Kinds as rk-entries-kinds
 use Rattle.host_frames.proofs.rk_entry.Reads as rk-entry
@@ -78,6 +80,10 @@ use Rattle.host_ledger.proofs.rk_ledger_told.Reads as rk-ledger-told
 use Rattle.host_ledger.proofs.rk_ledger_told.Kinds as rk-ledger-told-kinds
 use Rattle.host_captures.proofs.rk_walk.Reads as rk-walk
 use Rattle.host_captures.proofs.rk_walk.Kinds as rk-walk-kinds
+use Rattle.host_captures.proofs.rk_record.Reads as rk-record
+use Rattle.host_captures.proofs.rk_record.Kinds as rk-record-kinds
+use Rattle.host_captures.proofs.rk_lines.Reads as rk-lines
+use Rattle.host_captures.proofs.rk_lines.Kinds as rk-lines-kinds
 use Rattle.host_captures.proofs.rk_listing.Reads as rk-listing
 use Rattle.host_captures.proofs.rk_listing.Kinds as rk-listing-kinds
 use Rattle.host_captures.proofs.rk_clean.Reads as rk-clean
@@ -201,18 +207,21 @@ pub record HostNumbered : Type 0 where
   pub scrubbing : (s : List ℕ) → Numbered (scrubAnswer s .number)
   pub spans : (type : ℕ) (body : List ℕ) (i : ℕ) → Numbered (privateTold type body i .number)
   pub fields : (body : List ℕ) (i : ℕ) → Numbered (tailTold body i .number)
+  pub broken : (type : ℕ) (body : List ℕ) → Numbered (brokenTold type body .number)
   pub opening-entries : (body : List ℕ) → Numbered (entriesTold body .number)
   pub stepping : (body : List ℕ) (place : ℕ) → Numbered (entryTold body place .number)
   pub opening : (channel : ℕ) → Numbered (openNumber channel)
   pub calling : (w : List ℕ) (call : Call) → Numbered (callTold w call .number)
   pub telling : (w : List ℕ) → Numbered (ledgerTold w .number)
   pub walking : (s : List ℕ) (len : ℕ) → Numbered (walk.walkAnswer s len .number)
+  pub records : (bytes : List ℕ) → Numbered (recordTold bytes .number)
+  pub lines : (n len : ℕ) → Numbered (roomFor 0 n len .number)
   pub listing : (records : List ℕ) (frames refusals : ℕ) (w : List ℕ) (len : ℕ) → Numbered (listingTold records frames refusals w len .number)
   pub cleaning : (s : List ℕ) (len : ℕ) → Numbered (clean.cleanAnswer s len .number)
   pub checking : (s : List ℕ) → Numbered (cleanTold s .number)
 
 pub host-numbered : HostNumbered
-unfolding readTold searchTold privateTold tailNumber tailTold entriesTold entryTold ledgerTold listingTold cleanTold walk.walkAnswer clean.cleanAnswer clean.checkOf inTable
+unfolding readTold searchTold privateTold tailNumber tailTold brokenTold recordTold entriesTold entryTold ledgerTold listingTold cleanTold walk.walkAnswer clean.cleanAnswer clean.checkOf inTable
 host-numbered =
     record {
       reading = reading;
@@ -221,12 +230,15 @@ host-numbered =
       scrubbing = scrubbing;
       spans = λ type body i. measured (kindOf type) (length body);
       fields = λ body i. picked (eqb (measureOf M201 (length body)) 0) (pick (tailOk body) 0 6) (measureOf M201 (length body)) (picked (tailOk body) 0 6 (done refl) (refused refl)) (measured M201 (length body));
+      broken = λ type body. measured (kindOf type) (length body);
       opening-entries = opening-entries;
       stepping = stepping;
       opening = λ channel. picked (ltb 9999 channel) 10 0 (refused refl) (done refl);
       calling = λ w call. calling (bookIn w) call;
       telling = λ w. calling (bookIn w) (Ask Missing);
       walking = λ s len. chosen (walk.fitsIn s len) _ _ (done refl) (refused refl);
+      records = λ bytes. picked (ltb (length bytes) 64) 1 0 (refused refl) (done refl);
+      lines = λ n len. room 0 n len;
       listing = λ records frames refusals w len. behind (callTold w (Ask Missing) .number) _ (calling (bookIn w) (Ask Missing)) (room 0 (length (listed records frames refusals w)) len);
       cleaning = λ s len. chosen (clean.fitsIn s len) _ _ (done refl) (refused refl);
       checking = λ s. done refl;
@@ -255,6 +267,9 @@ rk-tail-field-numbered κs a x s p = tells-numbered p (host-numbered .fields _ _
 
 pub rk-private-numbered : Promises _ rk-private-kinds.ps rk-private-kinds.r rk-private.Post (λ κs a x s. Numbered x)
 rk-private-numbered κs a x s p = tells-numbered p (host-numbered .spans _ _ _)
+
+pub rk-broken-field-numbered : Promises _ rk-broken-field-kinds.ps rk-broken-field-kinds.r rk-broken-field.Post (λ κs a x s. Numbered x)
+rk-broken-field-numbered κs a x s p = tells-numbered p (host-numbered .broken _ _)
 
 pub rk-entries-numbered : Promises _ rk-entries-kinds.ps rk-entries-kinds.r rk-entries.Post (λ κs a x s. Numbered x)
 rk-entries-numbered κs a x s p = tells-numbered p (host-numbered .opening-entries _)
@@ -288,6 +303,12 @@ rk-ledger-told-numbered κs a x s p = tells-numbered p (host-numbered .telling _
 
 pub rk-walk-numbered : Promises _ rk-walk-kinds.ps rk-walk-kinds.r rk-walk.Post (λ κs a x s. Numbered x)
 rk-walk-numbered κs a x s p = tells-numbered (p .0) (host-numbered .walking _ _)
+
+pub rk-record-numbered : Promises _ rk-record-kinds.ps rk-record-kinds.r rk-record.Post (λ κs a x s. Numbered x)
+rk-record-numbered κs a x s p = tells-numbered p (host-numbered .records _)
+
+pub rk-lines-numbered : Promises _ rk-lines-kinds.ps rk-lines-kinds.r rk-lines.Post (λ κs a x s. Numbered x)
+rk-lines-numbered κs a x s p = tells-numbered (p .0) (host-numbered .lines _ _)
 
 pub rk-listing-numbered : Promises _ rk-listing-kinds.ps rk-listing-kinds.r rk-listing.Post (λ κs a x s. Numbered x)
 rk-listing-numbered κs a x s p = tells-numbered (p .0) (host-numbered .listing _ _ _ _ _)

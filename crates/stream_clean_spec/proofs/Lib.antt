@@ -1,1 +1,2 @@
 pub mod Arrives
+pub mod Given

@@ -6,3 +6,4 @@ pub mod CutLaws
 pub mod CallLaws
 pub mod Trace
 pub mod Answers
+pub mod Given

@@ -148,6 +148,7 @@ impl<A: Answers> Run<'_, A> {
         self.frame(name, &framed(msg_type, body));
         self.message(&message(msg_type, body), 0);
         self.private(*msg_type, body);
+        self.broken(*msg_type, body);
     }
 
     /// Writes a message with so many bytes more than it needs, or fewer.

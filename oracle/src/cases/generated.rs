@@ -75,11 +75,13 @@ fn writing<A: Answers>(run: &mut Run<A>, d: &mut Dice) {
 fn body<A: Answers>(run: &mut Run<A>, d: &mut Dice) {
     let (name, body) = made::any_body(d);
     run.private(name, &body);
+    run.broken(name, &body);
     let most = d.of(&[0, 40, 200, 9_000]);
     let mut b = made::body(d, b"M102", &mut Ticks(0), most);
     if d.once_in(2) {
         made::spoil_body(d, b"M102", &mut b);
     }
+    run.broken(*b"M102", &b);
     if d.once_in(50) {
         b.resize(8_164 + d.len(3), 0);
     }

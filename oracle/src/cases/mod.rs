@@ -24,12 +24,13 @@ use crate::record::SIZE;
 use text::{hex, joined, lent, Text};
 
 /// Every number that each call can give: cases that give fewer try too little.
-pub const NUMBERS: [text::Numbers; 21] = [
+pub const NUMBERS: [text::Numbers; 22] = [
     ("read", &[0, 1, 2, 3, 4, 5, 6, 7]),
     ("write", &[0, 2, 3, 4, 6, 7, 8]),
     ("search", &[0, 9]),
     ("scrub", &[0, 1, 2, 3, 4, 5, 6, 7]),
     ("private", &[0, 2, 3, 4]),
+    ("broken", &[0, 2, 3, 4]),
     ("entries", &[0, 3, 4, 6]),
     ("entry", &[0, 20]),
     ("open", &[0, 10]),
@@ -165,6 +166,15 @@ impl<'a, A: Answers> Run<'a, A> {
                 .iter()
                 .map(|s| format!("{} {} {:02x}", s.place, s.len, s.fill));
             shown.collect::<Vec<_>>().join(", ")
+        });
+    }
+
+    fn broken(&mut self, name: [u8; 4], body: &[u8]) {
+        let answer = self.answers.broken(name, body);
+        self.text.line("broken", &answer, |broken| {
+            broken.map_or("none".to_string(), |b| {
+                format!("{} {} {} {}", b.place, b.len, b.index, b.entry)
+            })
         });
     }
 

@@ -1,28 +1,29 @@
--- `has_room`: the lines still to come fit the room left exactly where the listing fits the room.
--- The measure counts them. Assumes nothing.
-use Prim.Native.Nat.{ℕ, _*_, _/_, _-_, _≤_}
+-- `takes`: the lines still to come and the end fit the room left exactly where all lines and the end
+-- fit the room. The measure counts them. Assumes nothing.
+use Prim.Native.Nat.{ℕ, _+_, _*_, _/_, _-_, _≤_}
 use mathlib.Core.Path.{_≡_, sym, ap, _∙_}
 use mathlib.Core.List.{List}
+use native.Mathlib.Nat.{zero-add}
 use native.Mathlib.Omega.{arith}
 use lib.Dec.{leb}
 use lib.ListN.{length}
 use Rattle.record.specs.declared.Record.{Record}
 use Rattle.record.specs.Record.{recordAt}
 use Rattle.listing_text.specs.Text.{lineOf}
-use Rattle.listing_text.specs.Whole.{listingOf}
+use Rattle.listing_text.specs.Whole.{linesIn}
 use Rattle.listing_text.specs.Rest.{restOf, rest-first, rest-end, rest-lacks, rest-fits}
 use borrow.Author.Needs.{needs}
-use Rattle.listing_text.proofs.has_room.Statement.{statement}
-use Rattle.listing_text.proofs.has_room.Tie as tie
+use Rattle.listing_text.proofs.takes.Statement.{statement}
+use Rattle.listing_text.proofs.takes.Tie as tie
 
 abbrev Inv-loop : tie.InvT-loop
-Inv-loop room records s left₀ passed₀ left passed = (passed ≤ length records / 64) × (leb (length (restOf records s passed)) left ≡ leb (length (listingOf records s)) room)
+Inv-loop room records end left₀ passed₀ left passed = (passed ≤ length records / 64) × (leb (length (restOf records passed) + end) left ≡ leb (length (linesIn records) + end) room)
 
 abbrev μ-loop : tie.MeasureT-loop
-μ-loop room records s left₀ passed₀ left passed = length records / 64 - passed
+μ-loop room records end left₀ passed₀ left passed = length records / 64 - passed
 
 loop-holds : tie.Need-loop-holds Inv-loop μ-loop
-loop-holds c = (search needs, ap (λ (x : List ℕ). leb (length x) (c .before .args .room)) (rest-first (c .before .args .records .now) (c .before .args .s)))
+loop-holds c = (search needs, ap (λ (x : List ℕ). leb (length x + c .before .args .end) (c .before .args .room)) (rest-first (c .before .args .records .now)))
 
 mul-record-at : tie.Need-mul-record-at Inv-loop μ-loop
 mul-record-at c = omega arith
@@ -50,16 +51,13 @@ loop-less c = omega arith
 loop-again : tie.Need-loop-again Inv-loop μ-loop
 loop-again c = (search needs, rest-fits _ _ _ _ _ (search needs) (long (c .before)) (c .if1 .left) ∙ c .before .before .before .before .loop .inv .1)
 
-last-len-requires : tie.Need-last-len-requires Inv-loop μ-loop
-last-len-requires c κs = search needs
-
 returns-2 : tie.Need-returns-2 Inv-loop μ-loop
 returns-2 c =
-    let l = c .before .before in
-    rw (c .last-len .ensures) (ap (λ (x : List ℕ). leb (length x) (l .loop .left)) (sym (rest-end _ _ (l .loop .passed) (search needs))) ∙ l .loop .inv .1)
+    let l = c .before in
+    ap (λ (n : ℕ). leb n (l .loop .left)) (sym (zero-add (l .before .before .args .end))) ∙ ap (λ (x : List ℕ). leb (length x + l .before .before .args .end) (l .loop .left)) (sym (rest-end _ (l .loop .passed) (search needs))) ∙ l .loop .inv .1
 
-pub has-room-spec : {M : Type 1} → statement M
-has-room-spec =
+pub takes-spec : {M : Type 1} → statement M
+takes-spec =
     tie.close
     (tie.spec
     Inv-loop
@@ -72,5 +70,4 @@ has-room-spec =
     add-passed
     loop-less
     loop-again
-    last-len-requires
     returns-2)
