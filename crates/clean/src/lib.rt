@@ -2,7 +2,7 @@
 // capture is clean already.
 ghost use mathlib.Core.Path.{_≡_};
 ghost use mathlib.Core.List.{List, _∷_, [], _++_};
-ghost use Prim.Native.Nat.{ℕ, _+_, _-_, _≤_, _<_};
+ghost use Prim.Native.Nat.{ℕ, _+_, _-_, _≤_};
 ghost use lib.Dec.{leb, ltb};
 ghost use lib.ListN.{length, take, drop};
 ghost use Rattle.terms.specs.Paper.{pick};
@@ -13,10 +13,8 @@ ghost use Rattle.reading.specs.Seen.{seenOf};
 ghost use Rattle.walk_spec.specs.Walk.{accepts};
 ghost use Rattle.clean_spec.specs.Clean.{cleanOf, differOf, foundBy, fitsIn, cleanAnswer, cleanLeaves, checkOf};
 ghost use Rattle.clean_spec.specs.Differ.{Alike};
-ghost use Rattle.clean_spec.specs.Steps.{Steps};
 ghost use Rattle.clean.specs.Papers.{cleanPaper, checkPaper};
 ghost use Rattle.clean.specs.Passes.{passedOf, keptOf};
-use frame::Found;
 use ledger::Answer;
 use octets::Written;
 use terms::Refusal;
@@ -49,22 +47,6 @@ struct Passed {
     bytes: usize,
     frames: usize,
     after_damage: usize,
-}
-
-// The place of the next reading, after the one at p: past the frame, or where the search from the
-// next byte on finds one; the end where it finds none.
-fn onward(capture: &[u8], p: usize, kept: Kept) -> usize
-    requires { ⌜ (p < length (now capture)) × (kept ≡ keptOf (seenOf (drop p (now capture)))) ⌝ }
-    ensures { λ r. ⌜ Steps (now (capture .entry)) p (kept .size) r ⌝ }
-{
-    if kept.answer == 0 {
-        return p + kept.size;
-    }
-    match frame::search(capture, p + 1) {
-        Found::At(q) => q,
-        Found::Nothing => capture.len(),
-        Found::Beyond => capture.len(),
-    }
 }
 
 // Reads the frame at p of the capture and writes it over out from n on, scrubbed, where it has
@@ -113,7 +95,7 @@ fn pass(capture: &[u8], out: &mut [u8]) -> Passed
     let mut before: u32 = 0;
     while p < capture.len() {
         let kept = keep(capture, p, out, bytes);
-        p = onward(capture, p, kept);
+        p = walk_step::onward(capture, p, kept.size);
         bytes += kept.size;
         frames += accepted(kept.answer);
         after_damage += found(before, kept.answer);
@@ -220,7 +202,7 @@ pub fn is_clean(capture: &[u8]) -> Check
             let place = n + same;
             return Check::Changed(place);
         }
-        at = onward(capture, at, kept);
+        at = walk_step::onward(capture, at, kept.size);
         n += kept.size;
     }
     if n < capture.len() {

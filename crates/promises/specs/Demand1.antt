@@ -260,9 +260,10 @@ offers-answers =
     let offer-one-answer = walk_step.offer-one-answer in
     named
 
--- walk_step: the table of records
+-- walk_step: the table of records, and the next reading
 table-answers : Named
 table-answers =
+    let onward-one-answer = walk_step.onward-one-answer in
     let made-one-answer = walk_step.made-one-answer in
     let note-one-answer = walk_step.note-one-answer in
     named

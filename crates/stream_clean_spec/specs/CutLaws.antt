@@ -24,8 +24,9 @@ use Rattle.reading.specs.Seen.{seenOf, saysOf}
 use Rattle.reading.specs.SeenLaws.{seen-kept, frame-says, more-says, says-frame, seen-blank, seen-answer}
 use Rattle.frame_spec.specs.Frame.{readOf}
 use Rattle.clean_spec.specs.Clean.{cleanOf}
+use Rattle.walk_spec.specs.Onward.{refused-size}
 use Rattle.clean_spec.specs.Accepted.{acceptedIn, clean-is, clean-short}
-use Rattle.clean_spec.specs.Turns.{size-inside, scrubbed-none, refused-size}
+use Rattle.clean_spec.specs.Turns.{size-inside, scrubbed-none}
 use Rattle.stream_spec.specs.declared.Stream.{Stream}
 use Rattle.stream_spec.specs.declared.Tally.{Tally}
 use Rattle.stream_spec.specs.State.{headOf, isSeeking, meantBy, valueOf}

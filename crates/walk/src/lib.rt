@@ -1,21 +1,17 @@
 // A closed capture to records, counts and ledger. Document 01, "Fault records and the listing".
 ghost use mathlib.Core.Path.{_≡_};
-ghost use Prim.Native.Nat.{_+_, _*_, _/_, _<_};
+ghost use Prim.Native.Nat.{_+_, _*_, _/_};
 ghost use lib.Dec.{leb};
-ghost use lib.ListN.{length, drop};
+ghost use lib.ListN.{length};
 ghost use Rattle.ledger.specs.State.{ledgerOf};
 ghost use Rattle.ledger_spec.specs.Calls.{fresh};
-ghost use Rattle.reading.specs.Seen.{seenOf};
-ghost use Rattle.walk_spec.specs.Onward.{Goes};
 ghost use Rattle.walk_spec.specs.Walk.{accepts, walkOf, fitsIn, walkAnswer, walkBook, walkLeaves};
 ghost use Rattle.walk_spec.specs.Tables.{writtenFrom};
 ghost use Rattle.walk.specs.Papers.{walkPaper};
 ghost use Rattle.walk.specs.Passes.{carriedOf, passedOf};
-use frame::Found;
 use ledger::Answer;
 use ledger::Ledger;
 use ledger::Pending;
-use reading::Seen;
 use terms::ChannelNumber;
 use terms::Refusal;
 use terms::TickNumber;
@@ -37,23 +33,6 @@ struct Passed {
     records: usize,
     frames: usize,
     ledger: Ledger,
-}
-
-// The place of the next reading, after the one at p: past the frame, or where the search from the
-// next byte on finds one; the end where it finds none. A refused frame's BodyLength is
-// never stepped by.
-fn onward(capture: &[u8], p: usize, seen: Seen) -> usize
-    requires { ⌜ (p < length (now capture)) × (seen ≡ seenOf (drop p (now capture))) ⌝ }
-    ensures { λ r. ⌜ Goes (now (capture .entry)) p r ⌝ }
-{
-    if seen.answer == 0 {
-        return p + seen.size;
-    }
-    match frame::search(capture, p + 1) {
-        Found::At(q) => q,
-        Found::Nothing => capture.len(),
-        Found::Beyond => capture.len(),
-    }
 }
 
 // 1 for a reading that answered 0, else 0.
@@ -93,7 +72,7 @@ fn pass(capture: &[u8], start: Ledger, out: &mut [u8]) -> Passed
         let seen = reading::see(capture, p);
         let after = walk_step::offer(carried(floor, top, map), seen);
         walk_step::note(out, records, walk_step::made(p as u64, seen, after));
-        p = onward(capture, p, seen);
+        p = walk_step::onward(capture, p, seen.size);
         records += 1;
         frames += accepted(seen.answer);
         let next = after.ledger;
