@@ -18,7 +18,7 @@ use Rattle.private.specs.Scrub.{scrubbed}
 use Rattle.walk_laws.specs.Literal.{fromOf, from-end}
 use Rattle.walk_laws.specs.Frames.{joined, eachOf}
 use Rattle.reading.specs.declared.Seen.{Seen}
-use Rattle.reading.specs.Seen.{seenOf, saysOf}
+use Rattle.reading.specs.Seen.{seenOf, seenNumber, saysOf}
 use Rattle.walk_spec.specs.Walk.{sights, accepts, framesOf}
 use Rattle.walk_spec.specs.Counts.{accepts-one}
 use Rattle.clean.specs.declared.Kept.{Kept}
@@ -46,11 +46,11 @@ module _ (s : List ℕ) (p r : ℕ) (x : Seen) (e : x ≡ seenOf (drop p s)) (g 
   left-next : leftOf p s ≡ scrubbed (take (x .size) (drop p s)) ++ leftOf r s
   left-next = ap (cleanIn s) (g .goes .rest) ∙ adds s p x e (fromOf seenOf saysOf r s)
 
-  frames-next : framesOf (fromOf seenOf saysOf p s) ≡ accepts (x .answer) + framesOf (fromOf seenOf saysOf r s)
+  frames-next : framesOf (fromOf seenOf saysOf p s) ≡ accepts (seenNumber x) + framesOf (fromOf seenOf saysOf r s)
   unfolding framesOf
   frames-next = rw (g .goes .rest, e)
 
-  found-next : (before : ℕ) → foundIn before (fromOf seenOf saysOf p s) ≡ foundBy before (x .answer) + foundIn (x .answer) (fromOf seenOf saysOf r s)
+  found-next : (before : ℕ) → foundIn before (fromOf seenOf saysOf p s) ≡ foundBy before (seenNumber x) + foundIn (seenNumber x) (fromOf seenOf saysOf r s)
   unfolding foundIn
   found-next before = rw (g .goes .rest, e)
 
@@ -84,8 +84,8 @@ left-start s out =
     }
 
 step : {s out₀ out out′ : List ℕ} {p r bytes frames found before k j : ℕ} {x : Seen} (w : Left s out₀ out p bytes frames found before)
-    → x ≡ seenOf (drop p s) → out′ ≡ laidIfRoom bytes (scrubbed (take (x .size) (drop p s))) out → Steps s p (x .size) r → k ≡ accepts (x .answer) → (j ≡ foundBy before (x .answer)) × (j ≤ 1)
-    → Left s out₀ out′ r (bytes + x .size) (frames + k) (found + j) (x .answer)
+    → x ≡ seenOf (drop p s) → out′ ≡ laidIfRoom bytes (scrubbed (take (x .size) (drop p s))) out → Steps s p (x .size) r → k ≡ accepts (seenNumber x) → (j ≡ foundBy before (seenNumber x)) × (j ≤ 1)
+    → Left s out₀ out′ r (bytes + x .size) (frames + k) (found + j) (seenNumber x)
 step {s} {out₀} {out} {out′} {p} {r} {bytes} {frames} {found} {before} {k} {j} {x} w e o g ke je =
     let frame = scrubbed (take (x .size) (drop p s)) in
     let next = left-next s p r x e g in
@@ -94,7 +94,7 @@ step {s} {out₀} {out} {out′} {p} {r} {bytes} {frames} {found} {before} {k} {
     record {
       inside = g .goes .inside;
       few = omega (arith, w .few, g .past);
-      frames-few = omega (arith, w .frames-few, g .goes .further, accepts-one (x .answer) k ke);
+      frames-few = omega (arith, w .frames-few, g .goes .further, accepts-one (seenNumber x) k ke);
       found-few = omega (arith, w .found-few, g .goes .further, je .1);
       room = ap length o ∙ laid-length bytes frame out ∙ w .room;
       counted = omega (arith, w .counted, all);
@@ -116,7 +116,7 @@ pub left-step : {s out₀ out out′ : List ℕ} {p r bytes frames found before 
 left-step {s} {out₀} {out} {out′} {p} {r} {bytes} {frames} {found} {before} {k} {j} x w h g ke je =
     let seen = seenOf (drop p s) in
     let size : x .size ≡ seen .size = ap (λ (y : Kept). y .size) (h .0) in
-    let told : x .answer ≡ seen .answer = ap (λ (y : Kept). y .answer) (h .0) in
+    let told : x .answer ≡ seenNumber seen = ap (λ (y : Kept). y .answer) (h .0) in
     rw (size, told) (step w refl (h .1) (rw size at g) (rw told at ke) (rw told at je))
 
 -- at the end nothing is left

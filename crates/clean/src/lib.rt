@@ -60,8 +60,9 @@ fn keep(capture: &[u8], p: usize, out: &mut [u8], n: usize) -> Kept
         Written::Bytes(size) => Kept { answer: 0, size },
         Written::Refused(_) => {
             let seen = reading::see(capture, p);
+            let verdict = seen.answer;
             Kept {
-                answer: seen.answer,
+                answer: verdict.number(),
                 size: seen.size,
             }
         }

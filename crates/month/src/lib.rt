@@ -276,7 +276,8 @@ fn pass(capture: &[u8], channels: [u16; 32], named: usize) -> [Row; 32]
     while p < capture.len() {
         let seen = reading::see(capture, p);
         p = walk_step::onward(capture, p, seen.size);
-        if seen.answer != 0 {
+        let verdict = seen.answer;
+        if verdict.number() != 0 {
             continue;
         }
         let channel = seen.channel;

@@ -24,7 +24,7 @@ use Rattle.walk_laws.specs.Closing.{finalOf, final-seen, final-after, ran-below
 use Rattle.walk_laws.specs.Cuts as Cuts
 use Rattle.walk_laws.specs.Frames.{joined, eachOf}
 use Rattle.reading.specs.declared.Seen.{Seen}
-use Rattle.reading.specs.Seen.{seenOf, saysOf}
+use Rattle.reading.specs.Seen.{seenOf, seenNumber, saysOf}
 use Rattle.walk_spec.specs.Walk.{sights, accepts, framesOf}
 use Rattle.clean_spec.specs.Clean.{framesIn, cleanIn, cleanOf, foundBy, foundIn, foundOf, fitsIn, cleanAnswer}
 use Rattle.clean_spec.specs.Turns.{adds}
@@ -343,7 +343,7 @@ washed-is s xs (o-cons {x = x} {xs = t} e r) =
 frames-is : (b : Bool) (xs : List (Sight Cut)) → sumsOf b xs .frames ≡ framesOf (plain xs)
 unfolding sumsOf plus oneOf framesOf eachOf
 frames-is b [] = refl
-frames-is b (x ∷ xs) = ap (λ (n : ℕ). accepts (x .read .seen .answer) + n) (frames-is (seeksAfter (x .read .seen)) xs)
+frames-is b (x ∷ xs) = ap (λ (n : ℕ). accepts (seenNumber (x .read .seen)) + n) (frames-is (seeksAfter (x .read .seen)) xs)
 
 unjudged-is : (b : Bool) (xs : List (Sight Cut)) → sumsOf b xs .unjudged ≡ unjudgedOf (plain xs)
 unfolding sumsOf plus oneOf unjudgedOf eachOf
@@ -357,7 +357,7 @@ one-found false n = refl
 found-is : (before : ℕ) (xs : List (Sight Cut)) → sumsOf (not (eqb before 0)) xs .found ≡ foundIn before (plain xs)
 unfolding sumsOf plus oneOf foundIn foundBy eachOf
 found-is before [] = refl
-found-is before (x ∷ xs) = ap₂ (λ (m n : ℕ). m + n) (one-found (eqb before 0) (accepts (x .read .seen .answer))) (found-is (x .read .seen .answer) xs)
+found-is before (x ∷ xs) = ap₂ (λ (m n : ℕ). m + n) (one-found (eqb before 0) (accepts (seenNumber (x .read .seen)))) (found-is (seenNumber (x .read .seen)) xs)
 
 -- ======== THE THEOREM, for every row of calls
 pub cleaned-as-it-arrives : (calls : Calls) → Arrives calls

@@ -3,6 +3,7 @@ ghost use mathlib.Core.Path.{_≡_};
 ghost use Prim.Native.Nat.{_+_, _*_, _/_};
 ghost use lib.Dec.{leb};
 ghost use lib.ListN.{length};
+ghost use Rattle.terms.specs.Verdicts.{verdictNumber};
 ghost use Rattle.ledger.specs.State.{ledgerOf};
 ghost use Rattle.ledger_spec.specs.Calls.{fresh};
 ghost use Rattle.walk_spec.specs.Walk.{accepts, walkOf, fitsIn, walkAnswer, walkBook, walkLeaves};
@@ -15,6 +16,7 @@ use ledger::Pending;
 use terms::ChannelNumber;
 use terms::Refusal;
 use terms::TickNumber;
+use terms::Verdict;
 use tick_map::Map;
 
 // What the walk returns: 0, or 8 where the buffer can't take all records; how many records there
@@ -36,10 +38,10 @@ struct Passed {
 }
 
 // 1 for a reading that answered 0, else 0.
-fn accepted(answer: u32) -> usize
-    ensures { λ r. ⌜ r ≡ accepts answer ⌝ }
+fn accepted(verdict: Verdict) -> usize
+    ensures { λ r. ⌜ r ≡ accepts (verdictNumber verdict) ⌝ }
 {
-    if answer == 0 { 1 } else { 0 }
+    if verdict.number() == 0 { 1 } else { 0 }
 }
 
 // The walk's ledger, of channel 100 and with nothing pending: no reading asks for a resend.
@@ -74,7 +76,8 @@ fn pass(capture: &[u8], start: Ledger, out: &mut [u8]) -> Passed
         walk_step::note(out, records, walk_step::made(p as u64, seen, after));
         p = walk_step::onward(capture, p, seen.size);
         records += 1;
-        frames += accepted(seen.answer);
+        let verdict = seen.answer;
+        frames += accepted(verdict);
         let next = after.ledger;
         floor = next.floor;
         top = next.top;

@@ -18,7 +18,7 @@ use Rattle.frame_spec.specs.Lowest.{Lowest, l-at, l-none, lowest}
 use Rattle.walk_laws.specs.Walk.{frame}
 use Rattle.walk_laws.specs.Literal.{isFrame, fromOf, soughtOf, sightAt, from-end, from-frame, from-bad, sought-lowest, sought-none}
 use Rattle.reading.specs.declared.Seen.{Seen}
-use Rattle.reading.specs.Seen.{seenOf, saysOf}
+use Rattle.reading.specs.Seen.{seenOf, seenNumber, saysOf}
 use Rattle.reading.specs.SeenLaws.{says-frame, says-not, seen-answer, seen-blank, seen-fits}
 
 -- Where the walk goes on behind the reading at p, whose frame has size bytes, none if it was
@@ -39,10 +39,10 @@ unfolding isFrame
 read-says s z = ap isFrame (says-frame (seenOf s) (seen-answer s ∙ z))
 
 pub unread-says : (s : List ℕ) → (readOf s .number ≡ 0 → ⊥) → isFrame (saysOf (seenOf s)) ≡ false
-unread-says s ne = says-not (seenOf s) (λ (z : seenOf s .answer ≡ 0). ne (sym (seen-answer s) ∙ z))
+unread-says s ne = says-not (seenOf s) (λ (z : seenNumber (seenOf s) ≡ 0). ne (sym (seen-answer s) ∙ z))
 
 -- past the frame
-pub goes-frame : (s : List ℕ) (p : ℕ) (x : Seen) → p < length s → x ≡ seenOf (drop p s) → x .answer ≡ 0 → Goes s p (p + x .size)
+pub goes-frame : (s : List ℕ) (p : ℕ) (x : Seen) → p < length s → x ≡ seenOf (drop p s) → seenNumber x ≡ 0 → Goes s p (p + x .size)
 goes-frame s p x h e z =
     let w : saysOf (seenOf (drop p s)) ≡ frame (x .size) = rw (← e) (says-frame x z) in
     let f = seen-fits (drop p s) (x .size) w in
@@ -62,7 +62,7 @@ module _ (s : List ℕ) (from : ℕ) where
   none-found a (l-none e d) g = sought-none seenOf saysOf (length s) from s (omega arith) (λ j k l. unread-says (drop j s) (d j k l))
 
 -- behind a refusal: where the search says
-module _ (s : List ℕ) (p : ℕ) (x : Seen) (h : p < length s) (e : x ≡ seenOf (drop p s)) (ne : x .answer ≡ 0 → ⊥) where
+module _ (s : List ℕ) (p : ℕ) (x : Seen) (h : p < length s) (e : x ≡ seenOf (drop p s)) (ne : seenNumber x ≡ 0 → ⊥) where
   refused : fromOf seenOf saysOf p s ≡ sightAt seenOf saysOf p s ∷ soughtOf seenOf saysOf (p + 1) s
   refused = from-bad seenOf saysOf p s h (rw (← e) (says-not x ne))
 
@@ -100,20 +100,20 @@ module _ (s : List ℕ) (p size : ℕ) where
 
 -- and behind what was seen at p it is where the next reading is
 module _ (s : List ℕ) (p : ℕ) (x : Seen) (e : x ≡ seenOf (drop p s)) where
-  read-is : x .answer ≡ readOf (drop p s) .number
-  read-is = ap (λ (y : Seen). y .answer) e ∙ seen-answer (drop p s)
+  read-is : seenNumber x ≡ readOf (drop p s) .number
+  read-is = ap seenNumber e ∙ seen-answer (drop p s)
 
   -- a refused reading has no bytes
-  pub refused-size : (x .answer ≡ 0 → ⊥) → x .size ≡ 0
+  pub refused-size : (seenNumber x ≡ 0 → ⊥) → x .size ≡ 0
   refused-size ne = ap (λ (y : Seen). y .size) (e ∙ seen-blank (drop p s) (λ (z : readOf (drop p s) .number ≡ 0). ne (read-is ∙ z)))
 
   module _ (h : p < length s) where
-    past-frame : x .answer ≡ 0 → Goes s p (onwardOf s p (x .size))
+    past-frame : seenNumber x ≡ 0 → Goes s p (onwardOf s p (x .size))
     past-frame z =
         let g = goes-frame s p x h e z in
         rw (← onward-frame s p (x .size) (λ (n : x .size ≡ 0). omega (arith, g .further)) (g .inside)) g
 
-    past-refusal : (x .answer ≡ 0 → ⊥) → (a : Paper) → Lowest s (p + 1) a → a ≡ searchOf s (p + 1) → Goes s p (onwardOf s p (x .size))
+    past-refusal : (seenNumber x ≡ 0 → ⊥) → (a : Paper) → Lowest s (p + 1) a → a ≡ searchOf s (p + 1) → Goes s p (onwardOf s p (x .size))
     past-refusal ne a (l-at q f i j r d) g =
         rw (← onward-sought s p (x .size) (refused-size ne) _ (sym f ∙ g)) (goes-found s p x h e ne q (sym f ∙ g))
     past-refusal ne a (l-none f d) g =
@@ -123,4 +123,4 @@ module _ (s : List ℕ) (p : ℕ) (x : Seen) (e : x ≡ seenOf (drop p s)) where
     pub goes-onward : (r : ℕ) → r ≡ onwardOf s p (x .size) → Goes s p r
     goes-onward r o =
         rw o
-        (⊎-elim past-frame (λ (ne : x .answer ≡ 0 → ⊥). past-refusal ne _ (lowest s (p + 1) (omega arith)) refl) (same (x .answer) 0))
+        (⊎-elim past-frame (λ (ne : seenNumber x ≡ 0 → ⊥). past-refusal ne _ (lowest s (p + 1) (omega arith)) refl) (same (seenNumber x) 0))

@@ -5,6 +5,7 @@ use mathlib.Core.Path.{_≡_, refl, ap, ap₂}
 use mathlib.Core.List.{List, [], _∷_, _++_}
 use lib.Count.{trailingZeros}
 use Rattle.terms.specs.Counters.{sessionOf, tickOf, channelOf}
+use Rattle.terms.specs.declared.Verdict.the-variants.{Fine}
 use Rattle.terms.specs.RuledOut.{Row, _never_, _only_, Kept, RulesOut, ruled, numbers, lists, beside}
 use Rattle.rules.specs.Table.{kindOf, suits, measureOf}
 use Rattle.rules.specs.Fields.{p001Ok, fieldsOk, judgeOf}
@@ -44,7 +45,7 @@ abbrev book : ℕ → ℕ → Book
 book floor top = record { channel = 100; floor = floor; top = top; bits = 0; pending = nothing }
 
 abbrev frame : ℕ → ℕ → Seen
-frame type channel = record { answer = 0; «msg_type» = type; seq = sessionOf 9; channel = channelOf channel; tick = tickOf 1; status = 0; «body_len» = 45; size = 73 }
+frame type channel = record { answer = Fine; «msg_type» = type; seq = sessionOf 9; channel = channelOf channel; tick = tickOf 1; status = 0; «body_len» = 45; size = 73 }
 
 -- the number answered; and of the ledger then: floor, top, held numbers
 abbrev seen : Book → List ℕ
@@ -69,7 +70,7 @@ offer-rules-out = ruled (beside numbers lists) (λ (i : Book × Seen). shown (of
 -- MADE: a place, what is seen there, and of the ledger after it: the number answered, its floor and
 -- its top. The record's nine numbers.
 abbrev tick : Seen
-tick = record { answer = 0; «msg_type» = 0x4D323031; seq = sessionOf 2; channel = channelOf 100; tick = tickOf 3; status = 0; «body_len» = 45; size = 73 }
+tick = record { answer = Fine; «msg_type» = 0x4D323031; seq = sessionOf 2; channel = channelOf 100; tick = tickOf 3; status = 0; «body_len» = 45; size = 73 }
 
 abbrev noted : Record → List ℕ
 noted r = r .place ∷ r .«msg_type» ∷ r .answer ∷ r .seq .0 ∷ r .tick .0 ∷ r .channel .0 ∷ r .«body_len» ∷ r .floor .0 ∷ r .top .0 ∷ []

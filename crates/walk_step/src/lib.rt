@@ -81,8 +81,10 @@ pub fn offer(ledger: Ledger, seen: Seen) -> Offered
 {
     let channel = seen.channel;
     let tick = seen.tick;
-    if seen.answer != 0 {
-        return kept(ledger, seen.answer);
+    let verdict = seen.answer;
+    let answer = verdict.number();
+    if answer != 0 {
+        return kept(ledger, answer);
     }
     match rules::kind_of(seen.msg_type) {
         Kind::S001 => kept(ledger, 0),
