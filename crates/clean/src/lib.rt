@@ -12,7 +12,7 @@ ghost use Rattle.private.specs.Scrub.{scrubbed};
 ghost use Rattle.reading.specs.Seen.{seenOf};
 ghost use Rattle.walk_spec.specs.Walk.{accepts};
 ghost use Rattle.clean_spec.specs.Clean.{cleanOf, differOf, foundBy, fitsIn, cleanAnswer, cleanLeaves, checkOf};
-ghost use Rattle.clean_spec.specs.Differ.{Alike};
+ghost use Rattle.clean_spec.specs.Differ.{AgreesSoFar};
 ghost use Rattle.clean.specs.Papers.{cleanPaper, checkPaper};
 ghost use Rattle.clean.specs.Passes.{passedOf, keptOf};
 use ledger::Answer;
@@ -158,7 +158,7 @@ fn word(s: &[u8], at: usize) -> u64
 // first that differs; in bytes, and size at most.
 fn words(capture: &[u8], n: usize, one: &[u8], size: usize) -> usize
     requires { ⌜ (n + size ≤ length (now capture)) × (size ≤ length (now one)) ⌝ }
-    ensures { λ r. ⌜ Alike (now (capture .entry)) (now (one .entry)) n size r ⌝ }
+    ensures { λ r. ⌜ AgreesSoFar (now (capture .entry)) (now (one .entry)) n size r ⌝ }
 {
     let mut i: usize = 0;
     while 8 <= size - i {
