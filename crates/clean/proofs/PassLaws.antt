@@ -18,7 +18,7 @@ use Rattle.private.specs.Scrub.{scrubbed}
 use Rattle.walk_laws.specs.Literal.{fromOf, from-end}
 use Rattle.walk_laws.specs.Frames.{joined, eachOf}
 use Rattle.reading.specs.declared.Seen.{Seen}
-use Rattle.reading.specs.Seen.{seenOf, saysOf}
+use Rattle.reading.specs.Seen.{seenOf, seenNumber, saysOf}
 use Rattle.walk_spec.specs.Walk.{sights, accepts, framesOf}
 use Rattle.walk_spec.specs.Counts.{accepts-one}
 use Rattle.clean.specs.declared.Kept.{Kept}
@@ -27,9 +27,8 @@ use Rattle.clean_spec.specs.Clean.{framesIn, cleanIn, cleanOf, foundBy, foundIn
 use Rattle.clean.specs.Passes.{passedOf, keptOf}
 use Rattle.clean_spec.specs.Steps.{Steps}
 use Rattle.clean_spec.specs.Differ.{differ-end, differ-more}
-use Rattle.frame_spec.specs.Search.{searchOf}
-use Rattle.walk_spec.specs.Onward.{goes-inside}
-use Rattle.clean_spec.specs.Turns.{refused-size, size-inside, size-small, steps-frame, steps-found, steps-none, frame-length, adds}
+use Rattle.walk_spec.specs.Onward.{onwardOf}
+use Rattle.clean_spec.specs.Turns.{size-inside, size-small, steps-onward, frame-length, adds}
 
 -- whatever has room, the buffer keeps its length
 laid-length : (at : ℕ) (bs d : List ℕ) → length (laidIfRoom at bs d) ≡ length d
@@ -47,11 +46,11 @@ module _ (s : List ℕ) (p r : ℕ) (x : Seen) (e : x ≡ seenOf (drop p s)) (g 
   left-next : leftOf p s ≡ scrubbed (take (x .size) (drop p s)) ++ leftOf r s
   left-next = ap (cleanIn s) (g .goes .rest) ∙ adds s p x e (fromOf seenOf saysOf r s)
 
-  frames-next : framesOf (fromOf seenOf saysOf p s) ≡ accepts (x .answer) + framesOf (fromOf seenOf saysOf r s)
+  frames-next : framesOf (fromOf seenOf saysOf p s) ≡ accepts (seenNumber x) + framesOf (fromOf seenOf saysOf r s)
   unfolding framesOf
   frames-next = rw (g .goes .rest, e)
 
-  found-next : (before : ℕ) → foundIn before (fromOf seenOf saysOf p s) ≡ foundBy before (x .answer) + foundIn (x .answer) (fromOf seenOf saysOf r s)
+  found-next : (before : ℕ) → foundIn before (fromOf seenOf saysOf p s) ≡ foundBy before (seenNumber x) + foundIn (seenNumber x) (fromOf seenOf saysOf r s)
   unfolding foundIn
   found-next before = rw (g .goes .rest, e)
 
@@ -85,8 +84,8 @@ left-start s out =
     }
 
 step : {s out₀ out out′ : List ℕ} {p r bytes frames found before k j : ℕ} {x : Seen} (w : Left s out₀ out p bytes frames found before)
-    → x ≡ seenOf (drop p s) → out′ ≡ laidIfRoom bytes (scrubbed (take (x .size) (drop p s))) out → Steps s p (x .size) r → k ≡ accepts (x .answer) → (j ≡ foundBy before (x .answer)) × (j ≤ 1)
-    → Left s out₀ out′ r (bytes + x .size) (frames + k) (found + j) (x .answer)
+    → x ≡ seenOf (drop p s) → out′ ≡ laidIfRoom bytes (scrubbed (take (x .size) (drop p s))) out → Steps s p (x .size) r → k ≡ accepts (seenNumber x) → (j ≡ foundBy before (seenNumber x)) × (j ≤ 1)
+    → Left s out₀ out′ r (bytes + x .size) (frames + k) (found + j) (seenNumber x)
 step {s} {out₀} {out} {out′} {p} {r} {bytes} {frames} {found} {before} {k} {j} {x} w e o g ke je =
     let frame = scrubbed (take (x .size) (drop p s)) in
     let next = left-next s p r x e g in
@@ -95,7 +94,7 @@ step {s} {out₀} {out} {out′} {p} {r} {bytes} {frames} {found} {before} {k} {
     record {
       inside = g .goes .inside;
       few = omega (arith, w .few, g .past);
-      frames-few = omega (arith, w .frames-few, g .goes .further, accepts-one (x .answer) k ke);
+      frames-few = omega (arith, w .frames-few, g .goes .further, accepts-one (seenNumber x) k ke);
       found-few = omega (arith, w .found-few, g .goes .further, je .1);
       room = ap length o ∙ laid-length bytes frame out ∙ w .room;
       counted = omega (arith, w .counted, all);
@@ -117,7 +116,7 @@ pub left-step : {s out₀ out out′ : List ℕ} {p r bytes frames found before 
 left-step {s} {out₀} {out} {out′} {p} {r} {bytes} {frames} {found} {before} {k} {j} x w h g ke je =
     let seen = seenOf (drop p s) in
     let size : x .size ≡ seen .size = ap (λ (y : Kept). y .size) (h .0) in
-    let told : x .answer ≡ seen .answer = ap (λ (y : Kept). y .answer) (h .0) in
+    let told : x .answer ≡ seenNumber seen = ap (λ (y : Kept). y .answer) (h .0) in
     rw (size, told) (step w refl (h .1) (rw size at g) (rw told at ke) (rw told at je))
 
 -- at the end nothing is left
@@ -142,12 +141,6 @@ module _ (s : List ℕ) (p : ℕ) (x : Kept) (e : x ≡ keptOf (seenOf (drop p s
   size-is : x .size ≡ seenOf (drop p s) .size
   size-is = ap (λ (y : Kept). y .size) e
 
-  answer-is : x .answer ≡ seenOf (drop p s) .answer
-  answer-is = ap (λ (y : Kept). y .answer) e
-
-  refused-is : (x .answer ≡ 0 → ⊥) → seenOf (drop p s) .answer ≡ 0 → ⊥
-  refused-is ne z = ne (answer-is ∙ z)
-
   pub kept-inside : p ≤ length s → p + x .size ≤ length s
   kept-inside h = rw size-is (size-inside s p (seenOf (drop p s)) refl h)
 
@@ -163,21 +156,8 @@ module _ (s : List ℕ) (p : ℕ) (x : Kept) (e : x ≡ keptOf (seenOf (drop p s
   kept-next : (q : ℕ) → Steps s p (x .size) q → leftOf p s ≡ scrubbedAt ++ leftOf q s
   kept-next q g = rw size-is (left-next s p q (seenOf (drop p s)) refl (rw size-is at g))
 
-  kept-refused : (x .answer ≡ 0 → ⊥) → x .size ≡ 0
-  kept-refused ne = size-is ∙ refused-size s p (seenOf (drop p s)) refl (refused-is ne)
-
-  module _ (h : p < length s) where
-    pub kept-frame : x .answer ≡ 0 → Steps s p (x .size) (p + x .size)
-    kept-frame z = rw size-is (steps-frame s p (seenOf (drop p s)) refl h (sym answer-is ∙ z))
-
-    pub kept-found : (x .answer ≡ 0 → ⊥) → (q : ℕ) → answer 0 (q ∷ []) ≡ searchOf s (p + 1) → Steps s p (x .size) q
-    kept-found ne q f = rw size-is (steps-found s p (seenOf (drop p s)) refl h (refused-is ne) q f)
-
-    pub kept-none : (x .answer ≡ 0 → ⊥) → answer 0 [] ≡ searchOf s (p + 1) → Steps s p (x .size) (length s)
-    kept-none ne f = rw size-is (steps-none s p (seenOf (drop p s)) refl h (refused-is ne) f)
-
-    pub kept-within : (x .answer ≡ 0 → ⊥) → refusal 9 ≡ searchOf s (p + 1) → ⊥
-    kept-within ne f = goes-inside s p (seenOf (drop p s)) h refl (refused-is ne) f
+  pub kept-steps : p < length s → (r : ℕ) → r ≡ onwardOf s p (x .size) → Steps s p (x .size) r
+  kept-steps h r o = rw size-is (steps-onward s p (seenOf (drop p s)) refl h r (rw size-is at o))
 
 -- The invariant of `is_clean`: what stands from n on differs from what is left to be cleaned where
 -- the capture differs from the cleaned one.
@@ -224,16 +204,9 @@ module _ (s one one′ : List ℕ) (p n : ℕ) (x : Kept) (w : Same s one p n)
           differs = sym (differs q g ∙ rw (le-ltb k (x .size) f));
         }
 
-    -- a reading with bytes is a frame, and the walk steps past it
-    past : p < length s → k < x .size → Steps s p (x .size) (p + x .size)
-    past l f =
-        ⊎-elim (λ (z : x .answer ≡ 0). kept-frame s p x (h .0) l z)
-        (λ (ne : x .answer ≡ 0 → ⊥). absurd (omega (arith, f, kept-refused s p x (h .0) ne)))
-        (same (x .answer) 0)
-
     pub same-here : p < length s → k < x .size → answer 0 ((n + k) ∷ []) ≡ checkOf s
     unfolding checkOf
-    same-here l f = ap (answer 0) (sym (differs (p + x .size) (past l f) ∙ rw (lt-ltb k (x .size) f)))
+    same-here l f = ap (answer 0) (sym (differs _ (kept-steps s p x (h .0) l _ refl) ∙ rw (lt-ltb k (x .size) f)))
 
 -- at the end nothing is left to be cleaned
 module _ {s one : List ℕ} {p n : ℕ} (w : Same s one p n) (h : length s ≤ p) where

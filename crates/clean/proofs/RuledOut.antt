@@ -6,6 +6,7 @@ use mathlib.Core.List.{List, [], _∷_, _++_}
 use denote.Ref.{now}
 use lib.ListN.{length, replicate}
 use Rattle.terms.specs.Paper.{Paper, answer}
+use Rattle.terms.specs.Refusals.{refusalOf}
 use Rattle.terms.specs.RuledOut.{Row, _never_, _only_, Kept, RulesOut, ruled, lists, papers, Left, left, lefts, left-is}
 use Rattle.octets.specs.Octets.{numeral, digitsOf, laid, sum8, sumOf}
 use Rattle.calendar.specs.Calendar.{leap, daysIn, realParts, realTime}
@@ -42,7 +43,7 @@ clean-wrong =
     ∷ []
 
 pub clean-rules-out : RulesOut (Kept _ clean-kinds.ps clean-kinds.r clean.Post) (λ c. (now (c .args .0), now (c .args .1 .0))) (λ c. left (cleanPaper (c .result)) (now (c .exit .1 .0))) clean-wrong
-unfolding plainOf frameOf checked readOf numeral digitsOf laid sum8 sumOf kindOf suits measureOf p002Ok fieldsOk realTime realParts daysIn leap judgeOf painted summed scrubbed after next found noted sightsOf joined eachOf seenOf saysOf accepts framesOf framesIn cleanOf foundBy foundIn fitsIn cleanAnswer cleanLeaves
+unfolding plainOf frameOf checked readOf numeral digitsOf laid sum8 sumOf kindOf suits measureOf p002Ok fieldsOk realTime realParts daysIn leap judgeOf painted summed scrubbed after next found noted sightsOf joined eachOf refusalOf seenOf saysOf accepts framesOf framesIn cleanOf foundBy foundIn fitsIn cleanAnswer cleanLeaves
 clean-rules-out =
     ruled lefts (λ (i : List ℕ × List ℕ). left (cleanAnswer (i .0) (length (i .1))) (cleanLeaves (i .0) (i .1))) (λ c p. left-is p) _ refl
 
@@ -56,5 +57,5 @@ is-clean-wrong =
     ∷ []
 
 pub is-clean-rules-out : RulesOut (Kept _ is-clean-kinds.ps is-clean-kinds.r is-clean.Post) (λ c. now (c .args .0)) (λ c. checkPaper (c .result)) is-clean-wrong
-unfolding plainOf frameOf checked readOf numeral digitsOf laid sum8 sumOf kindOf suits measureOf p002Ok fieldsOk realTime realParts daysIn leap judgeOf painted summed scrubbed after next found noted sightsOf joined eachOf seenOf saysOf framesIn cleanOf differOf checkOf
+unfolding plainOf frameOf checked readOf numeral digitsOf laid sum8 sumOf kindOf suits measureOf p002Ok fieldsOk realTime realParts daysIn leap judgeOf painted summed scrubbed after next found noted sightsOf joined eachOf refusalOf seenOf saysOf framesIn cleanOf differOf checkOf
 is-clean-rules-out = ruled papers checkOf (λ c p. p) _ refl

@@ -2,7 +2,7 @@
 // capture is clean already.
 ghost use mathlib.Core.Path.{_≡_};
 ghost use mathlib.Core.List.{List, _∷_, [], _++_};
-ghost use Prim.Native.Nat.{ℕ, _+_, _-_, _≤_, _<_};
+ghost use Prim.Native.Nat.{ℕ, _+_, _-_, _≤_};
 ghost use lib.Dec.{leb, ltb};
 ghost use lib.ListN.{length, take, drop};
 ghost use Rattle.terms.specs.Paper.{pick};
@@ -12,11 +12,9 @@ ghost use Rattle.private.specs.Scrub.{scrubbed};
 ghost use Rattle.reading.specs.Seen.{seenOf};
 ghost use Rattle.walk_spec.specs.Walk.{accepts};
 ghost use Rattle.clean_spec.specs.Clean.{cleanOf, differOf, foundBy, fitsIn, cleanAnswer, cleanLeaves, checkOf};
-ghost use Rattle.clean_spec.specs.Differ.{Alike};
-ghost use Rattle.clean_spec.specs.Steps.{Steps};
+ghost use Rattle.clean_spec.specs.Differ.{AgreesSoFar};
 ghost use Rattle.clean.specs.Papers.{cleanPaper, checkPaper};
 ghost use Rattle.clean.specs.Passes.{passedOf, keptOf};
-use frame::Found;
 use ledger::Answer;
 use octets::Written;
 use terms::Refusal;
@@ -51,22 +49,6 @@ struct Passed {
     after_damage: usize,
 }
 
-// The place of the next reading, after the one at p: past the frame, or where the search from the
-// next byte on finds one; the end where it finds none.
-fn onward(capture: &[u8], p: usize, kept: Kept) -> usize
-    requires { ⌜ (p < length (now capture)) × (kept ≡ keptOf (seenOf (drop p (now capture)))) ⌝ }
-    ensures { λ r. ⌜ Steps (now (capture .entry)) p (kept .size) r ⌝ }
-{
-    if kept.answer == 0 {
-        return p + kept.size;
-    }
-    match frame::search(capture, p + 1) {
-        Found::At(q) => q,
-        Found::Nothing => capture.len(),
-        Found::Beyond => capture.len(),
-    }
-}
-
 // Reads the frame at p of the capture and writes it over out from n on, scrubbed, where it has
 // room. What has none, or is refused, is read once more: its answer and its size are known
 // all the same.
@@ -78,8 +60,9 @@ fn keep(capture: &[u8], p: usize, out: &mut [u8], n: usize) -> Kept
         Written::Bytes(size) => Kept { answer: 0, size },
         Written::Refused(_) => {
             let seen = reading::see(capture, p);
+            let verdict = seen.answer;
             Kept {
-                answer: seen.answer,
+                answer: verdict.number(),
                 size: seen.size,
             }
         }
@@ -113,7 +96,7 @@ fn pass(capture: &[u8], out: &mut [u8]) -> Passed
     let mut before: u32 = 0;
     while p < capture.len() {
         let kept = keep(capture, p, out, bytes);
-        p = onward(capture, p, kept);
+        p = walk_step::onward(capture, p, kept.size);
         bytes += kept.size;
         frames += accepted(kept.answer);
         after_damage += found(before, kept.answer);
@@ -175,7 +158,7 @@ fn word(s: &[u8], at: usize) -> u64
 // first that differs; in bytes, and size at most.
 fn words(capture: &[u8], n: usize, one: &[u8], size: usize) -> usize
     requires { ⌜ (n + size ≤ length (now capture)) × (size ≤ length (now one)) ⌝ }
-    ensures { λ r. ⌜ Alike (now (capture .entry)) (now (one .entry)) n size r ⌝ }
+    ensures { λ r. ⌜ AgreesSoFar (now (capture .entry)) (now (one .entry)) n size r ⌝ }
 {
     let mut i: usize = 0;
     while 8 <= size - i {
@@ -220,7 +203,7 @@ pub fn is_clean(capture: &[u8]) -> Check
             let place = n + same;
             return Check::Changed(place);
         }
-        at = onward(capture, at, kept);
+        at = walk_step::onward(capture, at, kept.size);
         n += kept.size;
     }
     if n < capture.len() {

@@ -16,7 +16,7 @@ use Rattle.private.specs.Laws.{length-always}
 use Rattle.walk_laws.specs.Walk.{Says, frame, more, bad, Sight, Mode, within, seeking, after, next, found, noted, sightsOf}
 use Rattle.walk_laws.specs.Frames.{joined, eachOf, frontOf, takenOf, acceptedOf}
 use Rattle.reading.specs.declared.Seen.{Seen}
-use Rattle.reading.specs.Seen.{seenOf, saysOf}
+use Rattle.reading.specs.Seen.{seenOf, seenNumber, saysOf}
 use Rattle.reading.specs.SeenLaws.{says-frame, frame-says, more-says, seen-fits}
 use Rattle.walk_spec.specs.Walk.{sights}
 use Rattle.clean_spec.specs.Clean.{framesIn, cleanOf}
@@ -28,7 +28,7 @@ unfolding framesIn
 frames-append s [] b = refl
 frames-append s (x ∷ a) b =
     rw (frames-append s a b)
-    (⊎-elim (λ (t : eqb (x .read .answer) 0 ≡ true). rw t) (λ (f : eqb (x .read .answer) 0 ≡ false). rw f) (two (eqb (x .read .answer) 0)))
+    (⊎-elim (λ (t : eqb (seenNumber (x .read)) 0 ≡ true). rw t) (λ (f : eqb (seenNumber (x .read)) 0 ≡ false). rw f) (two (eqb (seenNumber (x .read)) 0)))
 
 bad-frame : (w : Says) (n : ℕ) → w ≡ frame n → w ≡ bad → ⊥
 bad-frame w n e f = let z : _≡_ {A = ℕ} 0 1 = cc in omega arith
@@ -39,9 +39,9 @@ module _ (s t : List ℕ) (p : ℕ) (d : drop p s ≡ t) where
 
   one : (w : Says) → saysOf (seenOf t) ≡ w → framesIn s (here ∷ []) ≡ frontOf w t
   unfolding framesIn frontOf
-  one (frame n) e = let f = frame-says (seenOf t) n e in rw (eq-eqb (seenOf t .answer) 0 (f .0), f .1, d)
-  one more e = rw (ne-eqb (seenOf t .answer) 0 (λ (z : seenOf t .answer ≡ 0). absurd (omega (arith, z, more-says (seenOf t) e))))
-  one bad e = rw (ne-eqb (seenOf t .answer) 0 (λ (z : seenOf t .answer ≡ 0). bad-frame _ _ (says-frame (seenOf t) z) e))
+  one (frame n) e = let f = frame-says (seenOf t) n e in rw (eq-eqb (seenNumber (seenOf t)) 0 (f .0), f .1, d)
+  one more e = rw (ne-eqb (seenNumber (seenOf t)) 0 (λ (z : seenNumber (seenOf t) ≡ 0). absurd (omega (arith, z, more-says (seenOf t) e))))
+  one bad e = rw (ne-eqb (seenNumber (seenOf t)) 0 (λ (z : seenNumber (seenOf t) ≡ 0). bad-frame _ _ (says-frame (seenOf t) z) e))
 
   searched : (w : Says) → saysOf (seenOf t) ≡ w → framesIn s (found w p (seenOf t)) ≡ frontOf w t
   unfolding found framesIn frontOf

@@ -11,6 +11,7 @@ use Rattle.private.specs.Scrub.{scrubbed}
 use Rattle.walk_laws.specs.Walk.{Sight}
 use Rattle.walk_laws.specs.Frames.{joined, eachOf}
 use Rattle.reading.specs.declared.Seen.{Seen}
+use Rattle.reading.specs.Seen.{seenNumber}
 use Rattle.walk_spec.specs.Walk.{sights, accepts, framesOf}
 
 -- ---- the cleaned capture
@@ -22,7 +23,7 @@ cutAt s x = take (x .read .size) (drop (x .place) s)
 -- the accepted frames among these readings of s, in order
 unfoldable pub framesIn : List ℕ → List (Sight Seen) → List (List ℕ)
 framesIn s [] = []
-framesIn s (x ∷ xs) = pick (eqb (x .read .answer) 0) (cutAt s x ∷ framesIn s xs) (framesIn s xs)
+framesIn s (x ∷ xs) = pick (eqb (seenNumber (x .read)) 0) (cutAt s x ∷ framesIn s xs) (framesIn s xs)
 
 -- those frames, each scrubbed, end to end
 abbrev pub cleanIn : List ℕ → List (Sight Seen) → List ℕ
@@ -40,7 +41,7 @@ foundBy before reading = pick (eqb before 0) 0 (accepts reading)
 -- how many there are among these readings, behind one that answered `before`
 unfoldable pub foundIn : ℕ → List (Sight Seen) → ℕ
 foundIn before [] = 0
-foundIn before (x ∷ xs) = foundBy before (x .read .answer) + foundIn (x .read .answer) xs
+foundIn before (x ∷ xs) = foundBy before (seenNumber (x .read)) + foundIn (seenNumber (x .read)) xs
 
 -- no reading stands before the first
 abbrev pub foundOf : List ℕ → ℕ

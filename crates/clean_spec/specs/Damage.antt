@@ -19,7 +19,7 @@ use Rattle.walk_laws.specs.Walk.{Sight}
 use Rattle.walk_laws.specs.Literal.{fromOf, sightAt, from-end}
 use Rattle.walk_laws.specs.Frames.{joined}
 use Rattle.reading.specs.declared.Seen.{Seen}
-use Rattle.reading.specs.Seen.{seenOf, saysOf}
+use Rattle.reading.specs.Seen.{seenOf, seenNumber, saysOf}
 use Rattle.reading.specs.SeenLaws.{seen-answer}
 use Rattle.walk_spec.specs.Onward.{Goes, goes-frame, goes-found, goes-none}
 use Rattle.walk_spec.specs.Walk.{sights, accepts}
@@ -33,15 +33,15 @@ from p s = fromOf seenOf saysOf p s
 abbrev AtFront : List ℕ → ℕ → Type 0
 AtFront s p = (rest : List ℕ) × (drop p s ≡ joined (framesIn s (from p s)) ++ rest)
 
-frames-cons : (s : List ℕ) (x : Sight Seen) (xs : List (Sight Seen)) → x .read .answer ≡ 0 → framesIn s (x ∷ xs) ≡ cutAt s x ∷ framesIn s xs
+frames-cons : (s : List ℕ) (x : Sight Seen) (xs : List (Sight Seen)) → seenNumber (x .read) ≡ 0 → framesIn s (x ∷ xs) ≡ cutAt s x ∷ framesIn s xs
 unfolding framesIn
-frames-cons s x xs z = rw (eq-eqb (x .read .answer) 0 z)
+frames-cons s x xs z = rw (eq-eqb (seenNumber (x .read)) 0 z)
 
-frames-skip : (s : List ℕ) (x : Sight Seen) (xs : List (Sight Seen)) → (x .read .answer ≡ 0 → ⊥) → framesIn s (x ∷ xs) ≡ framesIn s xs
+frames-skip : (s : List ℕ) (x : Sight Seen) (xs : List (Sight Seen)) → (seenNumber (x .read) ≡ 0 → ⊥) → framesIn s (x ∷ xs) ≡ framesIn s xs
 unfolding framesIn
-frames-skip s x xs ne = rw (ne-eqb (x .read .answer) 0 ne)
+frames-skip s x xs ne = rw (ne-eqb (seenNumber (x .read)) 0 ne)
 
-found-cons : (before : ℕ) (x : Sight Seen) (xs : List (Sight Seen)) → foundIn before (x ∷ xs) ≡ foundBy before (x .read .answer) + foundIn (x .read .answer) xs
+found-cons : (before : ℕ) (x : Sight Seen) (xs : List (Sight Seen)) → foundIn before (x ∷ xs) ≡ foundBy before (seenNumber (x .read)) + foundIn (seenNumber (x .read)) xs
 unfolding foundIn
 found-cons before x xs = refl
 
@@ -65,7 +65,7 @@ module _ (s : List ℕ) (p : ℕ) (h : p < length s) where
   abbrev x : Seen
   x = seenOf (drop p s)
 
-  on-frame : x .answer ≡ 0 → (foundIn 0 (from p s) ≡ 0) → (foundIn 0 (from (p + x .size) s) ≡ 0 → AtFront s (p + x .size)) → AtFront s p
+  on-frame : seenNumber x ≡ 0 → (foundIn 0 (from p s) ≡ 0) → (foundIn 0 (from (p + x .size) s) ≡ 0 → AtFront s (p + x .size)) → AtFront s p
   on-frame z none ih =
       let g = goes-frame s p x h refl z in
       let f : foundIn 0 (from (p + x .size) s) ≡ 0 = omega (arith, rw z at (sym (ap (foundIn 0) (g .rest) ∙ found-cons 0 (sightAt seenOf saysOf p s) (from (p + x .size) s)) ∙ none)) in
@@ -80,16 +80,16 @@ module _ (s : List ℕ) (p : ℕ) (h : p < length s) where
       )
 
   -- behind a refusal nothing is found, or it would count
-  on-refusal : (ne : x .answer ≡ 0 → ⊥) → (foundIn 0 (from p s) ≡ 0) → (a : Paper) → searchOf s (p + 1) ≡ a → Lowest s (p + 1) a → AtFront s p
+  on-refusal : (ne : seenNumber x ≡ 0 → ⊥) → (foundIn 0 (from p s) ≡ 0) → (a : Paper) → searchOf s (p + 1) ≡ a → Lowest s (p + 1) a → AtFront s p
   on-refusal ne none a e (l-at q f y l z d) =
       let g = goes-found s p x h refl ne q (sym (e ∙ f)) in
       let k = goes-frame s q (seenOf (drop q s)) l refl (seen-answer (drop q s) ∙ z) in
-      let one = found-here (x .answer) (seenOf (drop q s) .answer) ne (seen-answer (drop q s) ∙ z) in
+      let one = found-here (seenNumber x) (seenNumber (seenOf (drop q s))) ne (seen-answer (drop q s) ∙ z) in
       absurd
       (omega (
         arith,
         ap (foundIn 0) (g .rest) ∙ found-cons 0 (sightAt seenOf saysOf p s) (from q s),
-        ap (foundIn (x .answer)) (k .rest) ∙ found-cons (x .answer) (sightAt seenOf saysOf q s) (from (q + seenOf (drop q s) .size) s),
+        ap (foundIn (seenNumber x)) (k .rest) ∙ found-cons (seenNumber x) (sightAt seenOf saysOf q s) (from (q + seenOf (drop q s) .size) s),
         one,
         none,
       ))
@@ -102,9 +102,9 @@ at-front : (k : ℕ) (s : List ℕ) (p : ℕ) → length s ≤ p + k → foundIn
 at-front zero s p l none = nothing-left s p (from-end seenOf saysOf p s (omega arith))
 at-front (suc k) s p l none =
     ⊎-elim (λ (h : p < length s).
-    ⊎-elim (λ (z : seenOf (drop p s) .answer ≡ 0). on-frame s p h z none (λ f. at-front k s (p + seenOf (drop p s) .size) (omega (arith, goes-frame s p (seenOf (drop p s)) h refl z .further)) f))
-    (λ (ne : seenOf (drop p s) .answer ≡ 0 → ⊥). on-refusal s p h ne none _ refl (lowest s (p + 1) (omega arith)))
-    (same (seenOf (drop p s) .answer) 0))
+    ⊎-elim (λ (z : seenNumber (seenOf (drop p s)) ≡ 0). on-frame s p h z none (λ f. at-front k s (p + seenOf (drop p s) .size) (omega (arith, goes-frame s p (seenOf (drop p s)) h refl z .further)) f))
+    (λ (ne : seenNumber (seenOf (drop p s)) ≡ 0 → ⊥). on-refusal s p h ne none _ refl (lowest s (p + 1) (omega arith)))
+    (same (seenNumber (seenOf (drop p s))) 0))
     (λ (h : length s ≤ p). nothing-left s p (from-end seenOf saysOf p s h))
     (less p (length s))
 
@@ -115,15 +115,15 @@ undamaged s none = let f = at-front (length s) s 0 (omega arith) none in (f .0, 
 -- one before them ended
 unfoldable pub apartFrom : ℕ → List (Sight Seen) → ℕ
 apartFrom end [] = 0
-apartFrom end (x ∷ xs) = pick (eqb (x .read .answer) 0) (pick (eqb (x .place) end) 0 1 + apartFrom (x .place + x .read .size) xs) (apartFrom end xs)
+apartFrom end (x ∷ xs) = pick (eqb (seenNumber (x .read)) 0) (pick (eqb (x .place) end) 0 1 + apartFrom (x .place + x .read .size) xs) (apartFrom end xs)
 
-apart-frame : (end : ℕ) (x : Sight Seen) (xs : List (Sight Seen)) → x .read .answer ≡ 0 → apartFrom end (x ∷ xs) ≡ pick (eqb (x .place) end) 0 1 + apartFrom (x .place + x .read .size) xs
+apart-frame : (end : ℕ) (x : Sight Seen) (xs : List (Sight Seen)) → seenNumber (x .read) ≡ 0 → apartFrom end (x ∷ xs) ≡ pick (eqb (x .place) end) 0 1 + apartFrom (x .place + x .read .size) xs
 unfolding apartFrom
-apart-frame end x xs z = rw (eq-eqb (x .read .answer) 0 z)
+apart-frame end x xs z = rw (eq-eqb (seenNumber (x .read)) 0 z)
 
-apart-skip : (end : ℕ) (x : Sight Seen) (xs : List (Sight Seen)) → (x .read .answer ≡ 0 → ⊥) → apartFrom end (x ∷ xs) ≡ apartFrom end xs
+apart-skip : (end : ℕ) (x : Sight Seen) (xs : List (Sight Seen)) → (seenNumber (x .read) ≡ 0 → ⊥) → apartFrom end (x ∷ xs) ≡ apartFrom end xs
 unfolding apartFrom
-apart-skip end x xs ne = rw (ne-eqb (x .read .answer) 0 ne)
+apart-skip end x xs ne = rw (ne-eqb (seenNumber (x .read)) 0 ne)
 
 -- behind an accepted reading the next one stands where it ended, behind a refused one further on
 pub record Behind (before end p : ℕ) : Type 0 where
@@ -154,7 +154,7 @@ module _ (s : List ℕ) (p before end : ℕ) (h : p < length s) (b : Behind befo
   abbrev seen : Seen
   seen = seenOf (drop p s)
 
-  count-frame : seen .answer ≡ 0 → (foundIn 0 (from (p + seen .size) s) ≡ apartFrom (p + seen .size) (from (p + seen .size) s)) → foundIn before (from p s) ≡ apartFrom end (from p s)
+  count-frame : seenNumber seen ≡ 0 → (foundIn 0 (from (p + seen .size) s) ≡ apartFrom (p + seen .size) (from (p + seen .size) s)) → foundIn before (from p s) ≡ apartFrom end (from p s)
   count-frame z ih =
       let g = goes-frame s p seen h refl z in
       let rest = from (p + seen .size) s in
@@ -165,10 +165,10 @@ module _ (s : List ℕ) (p before end : ℕ) (h : p < length s) (b : Behind befo
       ∙ sym (apart-frame end x rest z)
       ∙ ap (apartFrom end) (sym (g .rest))
 
-  count-refused : (seen .answer ≡ 0 → ⊥) → (q : ℕ) → from p s ≡ sightAt seenOf saysOf p s ∷ from q s → (foundIn (seen .answer) (from q s) ≡ apartFrom end (from q s)) → foundIn before (from p s) ≡ apartFrom end (from p s)
+  count-refused : (seenNumber seen ≡ 0 → ⊥) → (q : ℕ) → from p s ≡ sightAt seenOf saysOf p s ∷ from q s → (foundIn (seenNumber seen) (from q s) ≡ apartFrom end (from q s)) → foundIn before (from p s) ≡ apartFrom end (from p s)
   count-refused ne q g ih =
       let x = sightAt seenOf saysOf p s in
-      let none : foundBy before (seen .answer) + foundIn (seen .answer) (from q s) ≡ apartFrom end (from q s) = omega (arith, found-not before (seen .answer) ne, ih) in
+      let none : foundBy before (seenNumber seen) + foundIn (seenNumber seen) (from q s) ≡ apartFrom end (from q s) = omega (arith, found-not before (seenNumber seen) ne, ih) in
       ap (foundIn before) g
       ∙ found-cons before x (from q s)
       ∙ none
@@ -180,7 +180,7 @@ unfolding foundIn apartFrom
 none-counted s p before end h = rw (from-end seenOf saysOf p s h)
 
 -- behind a refused reading there is a next place, or the end
-next-place : (s : List ℕ) (p : ℕ) → p < length s → (seenOf (drop p s) .answer ≡ 0 → ⊥) → (a : Paper) → searchOf s (p + 1) ≡ a → Lowest s (p + 1) a → (q : ℕ) × Goes s p q
+next-place : (s : List ℕ) (p : ℕ) → p < length s → (seenNumber (seenOf (drop p s)) ≡ 0 → ⊥) → (a : Paper) → searchOf s (p + 1) ≡ a → Lowest s (p + 1) a → (q : ℕ) × Goes s p q
 next-place s p h ne a e (l-at q f y l z d) = (q, goes-found s p (seenOf (drop p s)) h refl ne q (sym (e ∙ f)))
 next-place s p h ne a e (l-none f d) = (length s, goes-none s p (seenOf (drop p s)) h refl ne (sym (e ∙ f)))
 
@@ -188,14 +188,14 @@ counted : (k : ℕ) (s : List ℕ) (p before end : ℕ) → length s ≤ p + k �
 counted zero s p before end l b = none-counted s p before end (omega arith)
 counted (suc k) s p before end l b =
     ⊎-elim (λ (h : p < length s).
-    ⊎-elim (λ (z : seenOf (drop p s) .answer ≡ 0).
+    ⊎-elim (λ (z : seenNumber (seenOf (drop p s)) ≡ 0).
     let r = p + seenOf (drop p s) .size in
     count-frame s p before end h b z (counted k s r 0 r (omega (arith, goes-frame s p (seenOf (drop p s)) h refl z .further)) (record { joins = λ y. refl; leaves = λ ne. absurd (ne refl) })))
-    (λ (ne : seenOf (drop p s) .answer ≡ 0 → ⊥).
+    (λ (ne : seenNumber (seenOf (drop p s)) ≡ 0 → ⊥).
     let q = next-place s p h ne _ refl (lowest s (p + 1) (omega arith)) in
     count-refused s p before end h b ne (q .0) (q .1 .rest)
-    (counted k s (q .0) (seenOf (drop p s) .answer) end (omega (arith, q .1 .further)) (record { joins = λ y. absurd (ne y); leaves = λ y. omega (arith, q .1 .further, not-before before end p b) })))
-    (same (seenOf (drop p s) .answer) 0))
+    (counted k s (q .0) (seenNumber (seenOf (drop p s))) end (omega (arith, q .1 .further)) (record { joins = λ y. absurd (ne y); leaves = λ y. omega (arith, q .1 .further, not-before before end p b) })))
+    (same (seenNumber (seenOf (drop p s))) 0))
     (λ (h : length s ≤ p). none-counted s p before end h)
     (less p (length s))
 

@@ -45,34 +45,34 @@ differ-more s n h = rw (drop-cons s n 0 h)
 
 -- i of the first size bytes of one are alike with s from n on: whatever follows those, the first
 -- difference is the one behind the i bytes
-pub record Alike (s one : List ℕ) (n size i : ℕ) : Type 0 where
+pub record AgreesSoFar (s one : List ℕ) (n size i : ℕ) : Type 0 where
   pub few : i ≤ size
   pub behind : (rest : List ℕ) → differOf n (drop n s) (take size one ++ rest) ≡ differOf (n + i) (drop (n + i) s) (drop i (take size one) ++ rest)
 
 module _ (s one : List ℕ) (n size : ℕ) (t : n + size ≤ length s) (l : size ≤ length one) where
-  pub alike-start : Alike s one n size 0
-  alike-start = record { few = omega arith; behind = λ rest. rw add-zero }
+  pub agrees-start : AgreesSoFar s one n size 0
+  agrees-start = record { few = omega arith; behind = λ rest. rw add-zero }
 
   long : length (take size one) ≡ size
   long = length-take-le size one l
 
-  module _ (i : ℕ) (w : Alike s one n size i) where
+  module _ (i : ℕ) (w : AgreesSoFar s one n size i) where
     module _ (h : i < size) where
       at-i : getD (take size one) i 0 ≡ getD one i 0
       at-i = getD-take size one i 0 h
 
-      pub alike-step : getD s (n + i) 0 ≡ getD one i 0 → Alike s one n size (i + 1)
-      alike-step e =
+      pub agrees-step : getD s (n + i) 0 ≡ getD one i 0 → AgreesSoFar s one n size (i + 1)
+      agrees-step e =
           record { few = omega arith; behind = λ rest. w .behind rest ∙ differ-step s (take size one) rest n i (omega arith) (rw long h) (e ∙ sym at-i) }
 
-      pub alike-here : (getD s (n + i) 0 ≡ getD one i 0 → ⊥) → (rest : List ℕ)
+      pub agrees-here : (getD s (n + i) 0 ≡ getD one i 0 → ⊥) → (rest : List ℕ)
           → differOf n (drop n s) (take size one ++ rest) ≡ pick (ltb i size) ((n + i) ∷ []) (differOf (n + size) (drop (n + size) s) rest)
-      alike-here ne rest =
+      agrees-here ne rest =
           w .behind rest ∙ differ-here s (take size one) rest n i (omega arith) (rw long h) (λ (e : getD s (n + i) 0 ≡ getD (take size one) i 0). ne (e ∙ at-i)) ∙ rw (lt-ltb i size h)
 
-    pub alike-all : size ≤ i → (rest : List ℕ)
+    pub agrees-all : size ≤ i → (rest : List ℕ)
         → differOf n (drop n s) (take size one ++ rest) ≡ pick (ltb size size) ((n + size) ∷ []) (differOf (n + size) (drop (n + size) s) rest)
-    alike-all h rest =
+    agrees-all h rest =
         let e : i ≡ size = omega (arith, w .few) in
         let d : length (take size one) ≤ size = omega (arith, long) in
         (rw e at (w .behind rest)) ∙ rw (drop-of-length-le (take size one) d, le-ltb size size (omega arith))

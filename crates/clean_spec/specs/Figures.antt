@@ -19,7 +19,7 @@ use Rattle.walk_laws.specs.Account as Account
 use Rattle.walk_laws.specs.Account.{accountOf}
 use Rattle.walk_laws.specs.Frames.{eachOf, f-nil, f-cons, taggedOf, framesIn, readsOf}
 use Rattle.reading.specs.declared.Seen.{Seen}
-use Rattle.reading.specs.Seen.{seenOf, saysOf}
+use Rattle.reading.specs.Seen.{seenOf, seenNumber, saysOf}
 use Rattle.reading.specs.SeenLaws.{says-frame, frame-says}
 use Rattle.walk_spec.specs.Offers.{callsBy, offering, offerOf}
 use Rattle.walk_spec.specs.OfferLaws.{calls-refused}
@@ -33,7 +33,7 @@ use Rattle.clean_spec.specs.Laws.{AllFrames, clean-sights, clean-reads, 
 abbrev pub reads : List (Sight Seen) → List Seen
 reads xs = readsOf seenOf saysOf xs
 
-not-frame : (x : Seen) (w : Says) → saysOf x ≡ w → (x .answer ≡ 0 → ⊥) → framesIn w x ≡ []
+not-frame : (x : Seen) (w : Says) → saysOf x ≡ w → (seenNumber x ≡ 0 → ⊥) → framesIn w x ≡ []
 unfolding framesIn
 not-frame x (frame n) e ne = absurd (ne (frame-says x n e .0))
 not-frame x more e ne = refl
@@ -56,11 +56,11 @@ unfolding foundBy
 found-none before n z = rw z
 
 -- an accepted reading comes first, a refused one falls away
-pub reads-frame : (x : Sight Seen) (xs : List (Sight Seen)) → x .read .answer ≡ 0 → reads (x ∷ xs) ≡ x .read ∷ reads xs
+pub reads-frame : (x : Sight Seen) (xs : List (Sight Seen)) → seenNumber (x .read) ≡ 0 → reads (x ∷ xs) ≡ x .read ∷ reads xs
 unfolding readsOf framesIn
 reads-frame x xs z = rw (says-frame (x .read) z)
 
-pub reads-refused : (x : Sight Seen) (xs : List (Sight Seen)) → (x .read .answer ≡ 0 → ⊥) → reads (x ∷ xs) ≡ reads xs
+pub reads-refused : (x : Sight Seen) (xs : List (Sight Seen)) → (seenNumber (x .read) ≡ 0 → ⊥) → reads (x ∷ xs) ≡ reads xs
 unfolding readsOf
 reads-refused x xs ne = ap (λ (l : List Seen). l ++ reads xs) (not-frame (x .read) _ refl ne)
 
@@ -69,9 +69,9 @@ frames-reads : (xs : List (Sight Seen)) → framesOf xs ≡ length (reads xs)
 unfolding framesOf readsOf
 frames-reads [] = refl
 frames-reads (x ∷ xs) =
-    ⊎-elim (λ (z : x .read .answer ≡ 0). omega (arith, accepts-frame (x .read .answer) z, ap length (reads-frame x xs z), frames-reads xs))
-    (λ (ne : x .read .answer ≡ 0 → ⊥). omega (arith, accepts-refused (x .read .answer) ne, ap length (reads-refused x xs ne), frames-reads xs))
-    (same (x .read .answer) 0)
+    ⊎-elim (λ (z : seenNumber (x .read) ≡ 0). omega (arith, accepts-frame (seenNumber (x .read)) z, ap length (reads-frame x xs z), frames-reads xs))
+    (λ (ne : seenNumber (x .read) ≡ 0 → ⊥). omega (arith, accepts-refused (seenNumber (x .read)) ne, ap length (reads-refused x xs ne), frames-reads xs))
+    (same (seenNumber (x .read)) 0)
 
 -- the calls are those of the accepted readings
 unfoldable pub callsMade : Calls → List Seen → Calls
@@ -82,23 +82,23 @@ pub calls-reads : (calls : Calls) (xs : List (Sight Seen)) → callsFrom calls x
 unfolding callsFrom readsOf callsMade
 calls-reads calls [] = refl
 calls-reads calls (x ∷ xs) =
-    ⊎-elim (λ (z : x .read .answer ≡ 0). calls-reads (added calls (callsBy (x .read))) xs ∙ sym (ap (callsMade calls) (reads-frame x xs z)))
-    (λ (ne : x .read .answer ≡ 0 → ⊥).
+    ⊎-elim (λ (z : seenNumber (x .read) ≡ 0). calls-reads (added calls (callsBy (x .read))) xs ∙ sym (ap (callsMade calls) (reads-frame x xs z)))
+    (λ (ne : seenNumber (x .read) ≡ 0 → ⊥).
     ap (λ (more : List Call). callsFrom (added calls more) xs) (calls-refused (x .read) ne) ∙ calls-reads calls xs ∙ sym (ap (callsMade calls) (reads-refused x xs ne)))
-    (same (x .read .answer) 0)
+    (same (seenNumber (x .read)) 0)
 
 -- READINGS OF FRAMES END TO END: none is refused, and none stands behind damage
 tagged-refused : (p : ℕ) (fs : List (List ℕ)) → AllFrames fs → refusedOf (taggedOf seenOf saysOf p fs) ≡ 0
 unfolding refusedOf taggedOf
 tagged-refused p fs f-nil = refl
 tagged-refused p fs (f-cons {f = f} {fs = t} e r) =
-    omega (arith, refuses-frame (seenOf f .answer) (frame-says (seenOf f) (length f) e .0), tagged-refused (p + length f) t r)
+    omega (arith, refuses-frame (seenNumber (seenOf f)) (frame-says (seenOf f) (length f) e .0), tagged-refused (p + length f) t r)
 
 tagged-found : (before p : ℕ) (fs : List (List ℕ)) → before ≡ 0 → AllFrames fs → foundIn before (taggedOf seenOf saysOf p fs) ≡ 0
 unfolding foundIn taggedOf
 tagged-found before p fs b f-nil = refl
 tagged-found before p fs b (f-cons {f = f} {fs = t} e r) =
-    omega (arith, found-none before (seenOf f .answer) b, tagged-found (seenOf f .answer) (p + length f) t (frame-says (seenOf f) (length f) e .0) r)
+    omega (arith, found-none before (seenNumber (seenOf f)) b, tagged-found (seenNumber (seenOf f)) (p + length f) t (frame-says (seenOf f) (length f) e .0) r)
 
 -- RECORDS, but for their places
 abbrev pub unplaced : Record → Record
@@ -118,7 +118,7 @@ unplaced r =
 -- the records of the readings that were frames
 unfoldable pub frameRecords : Book → List (Sight Seen) → List Record
 frameRecords b [] = []
-frameRecords b (x ∷ xs) = pick (eqb (x .read .answer) 0) (recordBy b x ∷ frameRecords (bookBy b x) xs) (frameRecords (bookBy b x) xs)
+frameRecords b (x ∷ xs) = pick (eqb (seenNumber (x .read)) 0) (recordBy b x ∷ frameRecords (bookBy b x) xs) (frameRecords (bookBy b x) xs)
 
 -- those of accepted readings, at no place
 abbrev nowhere : Seen → Sight Seen
@@ -137,27 +137,27 @@ unfolding bookBy
 book-nowhere b x = refl
 
 -- a refused reading leaves the ledger as it is
-book-refused : (b : Book) (x : Sight Seen) → (x .read .answer ≡ 0 → ⊥) → bookBy b x ≡ b
+book-refused : (b : Book) (x : Sight Seen) → (seenNumber (x .read) ≡ 0 → ⊥) → bookBy b x ≡ b
 unfolding bookBy offerOf offering
-book-refused b x ne = ap (λ (calls : List Call). offering b (x .read .answer) calls .book) (calls-refused (x .read) ne)
+book-refused b x ne = ap (λ (calls : List Call). offering b (seenNumber (x .read)) calls .book) (calls-refused (x .read) ne)
 
 records-reads : (b : Book) (xs : List (Sight Seen)) → eachOf unplaced (frameRecords b xs) ≡ recordsMade b (reads xs)
 unfolding frameRecords eachOf readsOf recordsMade
 records-reads b [] = refl
 records-reads b (x ∷ xs) =
     ⊎-elim
-    (λ (z : x .read .answer ≡ 0).
-    rw (eq-eqb (x .read .answer) 0 z) (rw (unplaced-by b x, records-reads (bookBy b x) xs, book-nowhere b x)) ∙ sym (ap (recordsMade b) (reads-frame x xs z)))
-    (λ (ne : x .read .answer ≡ 0 → ⊥).
-    rw (ne-eqb (x .read .answer) 0 ne) (rw (book-refused b x ne) (records-reads b xs)) ∙ sym (ap (recordsMade b) (reads-refused x xs ne)))
-    (same (x .read .answer) 0)
+    (λ (z : seenNumber (x .read) ≡ 0).
+    rw (eq-eqb (seenNumber (x .read)) 0 z) (rw (unplaced-by b x, records-reads (bookBy b x) xs, book-nowhere b x)) ∙ sym (ap (recordsMade b) (reads-frame x xs z)))
+    (λ (ne : seenNumber (x .read) ≡ 0 → ⊥).
+    rw (ne-eqb (seenNumber (x .read)) 0 ne) (rw (book-refused b x ne) (records-reads b xs)) ∙ sym (ap (recordsMade b) (reads-refused x xs ne)))
+    (same (seenNumber (x .read)) 0)
 
 -- of frames end to end these are all records
 tagged-records : (b : Book) (p : ℕ) (fs : List (List ℕ)) → AllFrames fs → accountOf recordBy bookBy b (taggedOf seenOf saysOf p fs) .records ≡ frameRecords b (taggedOf seenOf saysOf p fs)
 unfolding accountOf taggedOf frameRecords
 tagged-records b p fs f-nil = refl
 tagged-records b p fs (f-cons {f = f} {fs = t} e r) =
-    rw (eq-eqb (seenOf f .answer) 0 (frame-says (seenOf f) (length f) e .0), tagged-records (bookBy b (record { place = p; read = seenOf f })) (p + length f) t r)
+    rw (eq-eqb (seenNumber (seenOf f)) 0 (frame-says (seenOf f) (length f) e .0), tagged-records (bookBy b (record { place = p; read = seenOf f })) (p + length f) t r)
 
 -- THE CLEANED CAPTURE'S WALK
 module _ (s : List ℕ) where

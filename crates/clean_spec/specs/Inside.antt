@@ -5,6 +5,7 @@ use mathlib.Core.Path.{_≡_, refl}
 use mathlib.Core.List.{List, [], _∷_, _++_}
 use lib.ListN.{replicate}
 use Rattle.octets.specs.Octets.{numeral, digitsOf, sum8, sumOf, laid}
+use Rattle.terms.specs.Refusals.{refusalOf}
 use Rattle.calendar.specs.Calendar.{leap, daysIn, realParts, realTime}
 use Rattle.rules.specs.Table.{kindOf, suits, measureOf}
 use Rattle.rules.specs.Fields.{layoutOf, suitsTail, tailOk, m201Ok, fieldsOk, judgeOf}
@@ -44,16 +45,16 @@ named = heartbeat ++ replicate 4 0x20
 
 -- whole, it is kept with that name painted, and nothing was found behind damage
 pub inside-whole : cleanOf (frameOf 0x4D named 0x7B) ≡ frameOf 0x4D (replicate 32 0x20) 0xDF
-unfolding fixedPart orderTail frameA startOfA cleanOf framesIn foundIn foundBy accepts sightsOf noted found next after seenOf saysOf readOf checked bodyRead viewOf numeral digitsOf sum8 sumOf laid painted summed scrubbed joined eachOf kindOf suits measureOf layoutOf suitsTail tailOk tailOf m201Ok fieldsOk realTime realParts daysIn leap judgeOf
+unfolding fixedPart orderTail frameA startOfA cleanOf framesIn foundIn foundBy accepts sightsOf noted found next after refusalOf seenOf saysOf readOf checked bodyRead viewOf numeral digitsOf sum8 sumOf laid painted summed scrubbed joined eachOf kindOf suits measureOf layoutOf suitsTail tailOk tailOf m201Ok fieldsOk realTime realParts daysIn leap judgeOf
 inside-whole = refl
 
 -- with its first byte damaged it is refused, and the search finds the heartbeat in what was its
 -- private name: that is kept
 pub inside-damaged : cleanOf (frameOf 0x4E named 0x7B) ≡ heartbeat
-unfolding fixedPart orderTail frameA startOfA cleanOf framesIn foundIn foundBy accepts sightsOf noted found next after seenOf saysOf readOf checked bodyRead viewOf numeral digitsOf sum8 sumOf laid painted summed scrubbed joined eachOf kindOf suits measureOf layoutOf suitsTail tailOk tailOf m201Ok fieldsOk realTime realParts daysIn leap judgeOf
+unfolding fixedPart orderTail frameA startOfA cleanOf framesIn foundIn foundBy accepts sightsOf noted found next after refusalOf seenOf saysOf readOf checked bodyRead viewOf numeral digitsOf sum8 sumOf laid painted summed scrubbed joined eachOf kindOf suits measureOf layoutOf suitsTail tailOk tailOf m201Ok fieldsOk realTime realParts daysIn leap judgeOf
 inside-damaged = refl
 
 -- and the count says so
 pub inside-counted : foundOf (frameOf 0x4E named 0x7B) ≡ 1
-unfolding fixedPart orderTail frameA startOfA cleanOf framesIn foundIn foundBy accepts sightsOf noted found next after seenOf saysOf readOf checked bodyRead viewOf numeral digitsOf sum8 sumOf laid painted summed scrubbed joined eachOf kindOf suits measureOf layoutOf suitsTail tailOk tailOf m201Ok fieldsOk realTime realParts daysIn leap judgeOf
+unfolding fixedPart orderTail frameA startOfA cleanOf framesIn foundIn foundBy accepts sightsOf noted found next after refusalOf seenOf saysOf readOf checked bodyRead viewOf numeral digitsOf sum8 sumOf laid painted summed scrubbed joined eachOf kindOf suits measureOf layoutOf suitsTail tailOk tailOf m201Ok fieldsOk realTime realParts daysIn leap judgeOf
 inside-counted = refl

@@ -13,7 +13,7 @@ use Rattle.private.specs.Paint.{Inside}
 use Rattle.private.specs.Laws.{length-always, again-always, scrub-fills}
 use Rattle.walk_laws.specs.Walk.{frame, within}
 use Rattle.walk_laws.specs.Frames.{joined, eachOf, Frames, f-nil, f-cons, taggedOf, readsOf, frames-sights, reads-accepted, accepted-frames}
-use Rattle.reading.specs.Seen.{seenOf, saysOf}
+use Rattle.reading.specs.Seen.{seenOf, seenNumber, saysOf}
 use Rattle.reading.specs.SeenLaws.{seen-answer, seen-kept, seen-fits, frame-says}
 use Rattle.walk_spec.specs.Walk.{sights}
 use Rattle.clean_spec.specs.Clean.{framesIn, cleanOf}
@@ -46,7 +46,7 @@ module _ (c : List ℕ) where
       let says = frame-says (seenOf f) (length f) e in
       let cut : take (seenOf f .size) (drop p c) ≡ f = rw (says .1, d, take-at f (joined t) (length f) refl) in
       let rest : drop (p + length f) c ≡ joined t = sym (drop-drop (length f) p c) ∙ ap (drop (length f)) d ∙ drop-at f (joined t) (length f) refl in
-      rw (eq-eqb (seenOf f .answer) 0 (says .0), cut, tagged-frames (p + length f) t r rest)
+      rw (eq-eqb (seenNumber (seenOf f)) 0 (says .0), cut, tagged-frames (p + length f) t r rest)
 
 pub joined-sights : (fs : List (List ℕ)) → AllFrames fs → sights (joined fs) ≡ taggedOf seenOf saysOf 0 fs
 joined-sights fs a = frames-sights seenOf saysOf seen-kept fits 0 fs a

@@ -8,10 +8,8 @@ use native.Mathlib.Omega.{arith}
 use lib.ListN.{length, take, drop, length-drop}
 use lib.Seq.{length-take-le}
 use borrow.Author.Tests.{eq-eqb, ne-eqb}
-use Rattle.terms.specs.Paper.{answer}
 use Rattle.terms.specs.Cases.{same}
 use Rattle.frame_spec.specs.Frame.{bodyLength, readOf}
-use Rattle.frame_spec.specs.Search.{searchOf}
 use Rattle.frame_spec.specs.Outcomes.{good}
 use Rattle.frame_spec.specs.Measures.{fits}
 use Rattle.private.specs.Scrub.{scrubbed}
@@ -20,9 +18,9 @@ use Rattle.walk_laws.specs.Walk.{Sight}
 use Rattle.walk_laws.specs.Literal.{sightAt}
 use Rattle.walk_laws.specs.Frames.{joined, eachOf}
 use Rattle.reading.specs.declared.Seen.{Seen}
-use Rattle.reading.specs.Seen.{seenOf, saysOf}
-use Rattle.reading.specs.SeenLaws.{seen-answer, seen-size, seen-blank}
-use Rattle.walk_spec.specs.Onward.{goes-frame, goes-found, goes-none}
+use Rattle.reading.specs.Seen.{seenOf, seenNumber, saysOf}
+use Rattle.reading.specs.SeenLaws.{seen-answer, seen-size}
+use Rattle.walk_spec.specs.Onward.{onwardOf, onward-frame, refused-size, goes-onward}
 use Rattle.clean_spec.specs.Clean.{framesIn, cleanIn}
 use Rattle.clean_spec.specs.Steps.{Steps}
 
@@ -36,41 +34,40 @@ scrubbed-none = none-of (scrubbed []) (length-always [])
 
 -- WHAT WAS SEEN AT A PLACE
 module _ (s : List ℕ) (p : ℕ) (x : Seen) (e : x ≡ seenOf (drop p s)) where
-  read-is : x .answer ≡ readOf (drop p s) .number
-  read-is = ap (λ (y : Seen). y .answer) e ∙ seen-answer (drop p s)
+  read-is : seenNumber x ≡ readOf (drop p s) .number
+  read-is = ap seenNumber e ∙ seen-answer (drop p s)
 
-  -- a refused reading has no bytes
-  pub refused-size : (x .answer ≡ 0 → ⊥) → x .size ≡ 0
-  refused-size ne = ap (λ (y : Seen). y .size) (e ∙ seen-blank (drop p s) (λ (z : readOf (drop p s) .number ≡ 0). ne (read-is ∙ z)))
-
-  accepted-size : x .answer ≡ 0 → x .size ≡ 28 + bodyLength (drop p s)
+  accepted-size : seenNumber x ≡ 0 → x .size ≡ 28 + bodyLength (drop p s)
   accepted-size z = ap (λ (y : Seen). y .size) e ∙ seen-size (drop p s) (sym read-is ∙ z)
 
   -- a frame lies within the capture, and has at most 8,192 bytes
   pub size-inside : p ≤ length s → p + x .size ≤ length s
   size-inside h =
-      ⊎-elim (λ (z : x .answer ≡ 0). omega (arith, accepted-size z, good (drop p s) (sym read-is ∙ z) .whole .there, length-drop p s))
-      (λ (ne : x .answer ≡ 0 → ⊥). omega (arith, refused-size ne))
-      (same (x .answer) 0)
+      ⊎-elim (λ (z : seenNumber x ≡ 0). omega (arith, accepted-size z, good (drop p s) (sym read-is ∙ z) .whole .there, length-drop p s))
+      (λ (ne : seenNumber x ≡ 0 → ⊥). omega (arith, refused-size s p x e ne))
+      (same (seenNumber x) 0)
 
   pub size-small : x .size ≤ 8192
   size-small =
-      ⊎-elim (λ (z : x .answer ≡ 0). omega (arith, accepted-size z, fits _ _ (good (drop p s) (sym read-is ∙ z) .whole .measured) .small))
-      (λ (ne : x .answer ≡ 0 → ⊥). omega (arith, refused-size ne))
-      (same (x .answer) 0)
+      ⊎-elim (λ (z : seenNumber x ≡ 0). omega (arith, accepted-size z, fits _ _ (good (drop p s) (sym read-is ∙ z) .whole .measured) .small))
+      (λ (ne : seenNumber x ≡ 0 → ⊥). omega (arith, refused-size s p x e ne))
+      (same (seenNumber x) 0)
 
-  -- WHERE THE NEXT READING IS
-  module _ (h : p < length s) where
-    pub steps-frame : x .answer ≡ 0 → Steps s p (x .size) (p + x .size)
-    steps-frame z = record { goes = goes-frame s p x h e z; past = omega arith }
+  -- WHERE THE NEXT READING IS, by what the code's onward gives
+  module _ (h : p < length s) (r : ℕ) (o : r ≡ onwardOf s p (x .size)) where
+    past-frame : seenNumber x ≡ 0 → p + x .size ≡ r
+    past-frame z = onward-frame s p (x .size) (λ (n : x .size ≡ 0). omega (arith, accepted-size z)) (size-inside (omega arith)) ∙ sym o
 
-    pub steps-found : (x .answer ≡ 0 → ⊥) → (q : ℕ) → answer 0 (q ∷ []) ≡ searchOf s (p + 1) → Steps s p (x .size) q
-    steps-found ne q f =
-        let g = goes-found s p x h e ne q f in
-        record { goes = g; past = omega (arith, refused-size ne, g .further) }
-
-    pub steps-none : (x .answer ≡ 0 → ⊥) → answer 0 [] ≡ searchOf s (p + 1) → Steps s p (x .size) (length s)
-    steps-none ne f = record { goes = goes-none s p x h e ne f; past = omega (arith, refused-size ne) }
+    pub steps-onward : Steps s p (x .size) r
+    steps-onward =
+        let g = goes-onward s p x e h r o in
+        record {
+          goes = g;
+          past =
+              ⊎-elim (λ (z : seenNumber x ≡ 0). omega (arith, past-frame z))
+              (λ (ne : seenNumber x ≡ 0 → ⊥). omega (arith, refused-size s p x e ne, g .further))
+              (same (seenNumber x) 0);
+        }
 
   -- WHAT IT ADDS
   abbrev frameAt : List ℕ
@@ -80,14 +77,14 @@ module _ (s : List ℕ) (p : ℕ) (x : Seen) (e : x ≡ seenOf (drop p s)) where
   frame-length h =
       length-always (take (x .size) (drop p s)) ∙ length-take-le (x .size) (drop p s) (simp length-drop (omega (arith, size-inside h)))
 
-  add-frame : (xs : List (Sight Seen)) → x .answer ≡ 0 → cleanIn s (sightAt seenOf saysOf p s ∷ xs) ≡ frameAt ++ cleanIn s xs
+  add-frame : (xs : List (Sight Seen)) → seenNumber x ≡ 0 → cleanIn s (sightAt seenOf saysOf p s ∷ xs) ≡ frameAt ++ cleanIn s xs
   unfolding framesIn joined eachOf
-  add-frame xs z = rw (← e) (rw (eq-eqb (x .answer) 0 z))
+  add-frame xs z = rw (← e) (rw (eq-eqb (seenNumber x) 0 z))
 
-  add-none : (xs : List (Sight Seen)) → (x .answer ≡ 0 → ⊥) → cleanIn s (sightAt seenOf saysOf p s ∷ xs) ≡ frameAt ++ cleanIn s xs
+  add-none : (xs : List (Sight Seen)) → (seenNumber x ≡ 0 → ⊥) → cleanIn s (sightAt seenOf saysOf p s ∷ xs) ≡ frameAt ++ cleanIn s xs
   unfolding framesIn
-  add-none xs ne = rw (← e) (rw (ne-eqb (x .answer) 0 ne, refused-size ne, scrubbed-none))
+  add-none xs ne = rw (← e) (rw (ne-eqb (seenNumber x) 0 ne, refused-size s p x e ne, scrubbed-none))
 
   -- its frame scrubbed, or nothing
   pub adds : (xs : List (Sight Seen)) → cleanIn s (sightAt seenOf saysOf p s ∷ xs) ≡ frameAt ++ cleanIn s xs
-  adds xs = ⊎-elim (add-frame xs) (add-none xs) (same (x .answer) 0)
+  adds xs = ⊎-elim (add-frame xs) (add-none xs) (same (seenNumber x) 0)

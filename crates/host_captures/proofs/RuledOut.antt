@@ -8,6 +8,7 @@ use denote.Ref.{now}
 use lib.Count.{ones}
 use lib.ListN.{length, replicate}
 use Rattle.terms.specs.Paper.{Paper}
+use Rattle.terms.specs.Refusals.{refusalOf}
 use Rattle.terms.specs.Counters.{tickOf}
 use Rattle.terms.specs.RuledOut.{Row, _never_, _only_, Kept, RulesOut, ruled, numbers, lists, beside}
 use Rattle.octets.specs.Octets.{numeral, digitsOf, laid, sum8, sumOf}
@@ -86,7 +87,7 @@ rk-walk-wrong =
     ∷ []
 
 pub rk-walk-rules-out : RulesOut (Kept _ rk-walk-kinds.ps rk-walk-kinds.r rk-walk.Post) (λ c. (now (c .args .0), (now (c .args .1 .0), (now (c .args .1 .1 .0), now (c .args .1 .1 .1 .0))))) (λ c. shown (c .result) (now (c .exit .1 .1 .1 .0)) (now (c .exit .1 .1 .0) ++ now (c .exit .1 .0))) rk-walk-wrong
-unfolding frameA startOfA frameB checked readOf bodyRead numeral digitsOf laid sum8 sumOf kindOf suits measureOf p001Ok fieldsOk realTime realParts daysIn leap judgeOf viewOf valueOf mapOf rotated rangeRules mapRules soundOf ownNumber checkedOf numberTo raised done nextOf fresh bookOf ledgerOf after next found noted sightsOf joined eachOf Account.accountOf Account.walkOf firstHalf secondHalf recordOf blankOf seenOf saysOf callsBy offering offerOf madeOf recordBy bookBy accepts refuses framesOf refusedOf Walk.fitsIn walkAnswer walkBook walkLeaves wordsOf keptBy walkWords toldBy
+unfolding frameA startOfA frameB checked readOf bodyRead numeral digitsOf laid sum8 sumOf kindOf suits measureOf p001Ok fieldsOk realTime realParts daysIn leap judgeOf viewOf valueOf mapOf rotated rangeRules mapRules soundOf ownNumber checkedOf numberTo raised done nextOf fresh bookOf ledgerOf after next found noted sightsOf joined eachOf Account.accountOf Account.walkOf firstHalf secondHalf recordOf blankOf refusalOf seenOf saysOf callsBy offering offerOf madeOf recordBy bookBy accepts refuses framesOf refusedOf Walk.fitsIn walkAnswer walkBook walkLeaves wordsOf keptBy walkWords toldBy
 rk-walk-rules-out =
     ruled (beside numbers (beside lists lists)) (λ (i : Input). tells (walkAnswer (i .0) (length (i .1 .0))) (i .1 .1 .1) (walkWords (i .0) (length (i .1 .0)) (i .1 .1 .0) ++ walkLeaves (i .0) (i .1 .0)))
     (λ c p. said (p .0, ap₂ (λ (w d : List ℕ). w ++ d) (p .1 .0) (p .1 .1)))
@@ -152,7 +153,7 @@ rk-clean-wrong =
     ∷ []
 
 pub rk-clean-rules-out : RulesOut (Kept _ rk-clean-kinds.ps rk-clean-kinds.r rk-clean.Post) (λ c. (now (c .args .0), (now (c .args .1 .0), now (c .args .1 .1 .0)))) (λ c. shown (c .result) (now (c .exit .1 .1 .0)) (now (c .exit .1 .0))) rk-clean-wrong
-unfolding plainOf frameOf checked readOf numeral digitsOf laid sum8 sumOf kindOf suits measureOf p002Ok fieldsOk realTime realParts daysIn leap judgeOf painted summed scrubbed after next found noted sightsOf joined eachOf seenOf saysOf accepts framesOf framesIn cleanOf foundBy foundIn Clean.fitsIn cleanAnswer cleanLeaves differOf checkOf toldBy
+unfolding plainOf frameOf checked readOf numeral digitsOf laid sum8 sumOf kindOf suits measureOf p002Ok fieldsOk realTime realParts daysIn leap judgeOf painted summed scrubbed after next found noted sightsOf joined eachOf refusalOf seenOf saysOf accepts framesOf framesIn cleanOf foundBy foundIn Clean.fitsIn cleanAnswer cleanLeaves differOf checkOf toldBy
 rk-clean-rules-out =
     ruled (beside numbers (beside lists lists)) (λ (i : List ℕ × (List ℕ × List ℕ)). tells (cleanAnswer (i .0) (length (i .1 .0))) (i .1 .1) (cleanLeaves (i .0) (i .1 .0))) (λ c p. said p) _ refl
 
@@ -164,6 +165,6 @@ rk-is-clean-wrong =
     ∷ []
 
 pub rk-is-clean-rules-out : RulesOut (Kept _ rk-is-clean-kinds.ps rk-is-clean-kinds.r rk-is-clean.Post) (λ c. (now (c .args .0), now (c .args .1 .0))) (λ c. (c .result, now (c .exit .1 .0))) rk-is-clean-wrong
-unfolding plainOf frameOf checked readOf numeral digitsOf laid sum8 sumOf kindOf suits measureOf p002Ok fieldsOk realTime realParts daysIn leap judgeOf painted summed scrubbed after next found noted sightsOf joined eachOf seenOf saysOf accepts framesOf framesIn cleanOf foundBy foundIn Clean.fitsIn cleanAnswer cleanLeaves differOf checkOf cleanTold toldBy
+unfolding plainOf frameOf checked readOf numeral digitsOf laid sum8 sumOf kindOf suits measureOf p002Ok fieldsOk realTime realParts daysIn leap judgeOf painted summed scrubbed after next found noted sightsOf joined eachOf refusalOf seenOf saysOf accepts framesOf framesIn cleanOf foundBy foundIn Clean.fitsIn cleanAnswer cleanLeaves differOf checkOf cleanTold toldBy
 rk-is-clean-rules-out =
     ruled (beside numbers lists) (λ (i : List ℕ × List ℕ). (cleanTold (i .0) .number, toldBy (cleanTold (i .0)) (i .1))) (λ c p. ap₂ (λ (n : ℕ) (r : List ℕ). (n, r)) (p .answered) (p .told)) _ refl

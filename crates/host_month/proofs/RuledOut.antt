@@ -7,6 +7,7 @@ use denote.Ref.{now}
 use lib.Count.{trailingZeros}
 use lib.ListN.{getD, replicate}
 use Rattle.terms.specs.Paper.{Paper}
+use Rattle.terms.specs.Refusals.{refusalOf}
 use Rattle.terms.specs.RuledOut.{Row, _never_, _only_, Kept, RulesOut, ruled, lists}
 use Rattle.octets.specs.Octets.{numeral, digitsOf, laid, sum8, sumOf}
 use Rattle.calendar.specs.Calendar.{leap, daysIn, realParts, realTime}
@@ -83,6 +84,6 @@ rk-month-add-wrong =
     ∷ []
 
 pub rk-month-add-rules-out : RulesOut (Kept _ rk-month-add-kinds.ps rk-month-add-kinds.r rk-month-add.Post) (λ c. (now (c .args .0), (now (c .args .1 .0), now (c .args .1 .1 .0)))) (λ c. added (c .result) (now (c .exit .1 .1 .0)) (now (c .exit .0))) rk-month-add-wrong
-unfolding plainOf frameOf checked readOf bodyRead numeral digitsOf laid sum8 sumOf kindOf suits measureOf p001Ok layoutOf suitsTail tailOk m201Ok fieldsOk realTime realParts daysIn leap judgeOf viewOf run tally trailingZeros rangeRules mapRules soundOf has ledger.ownNumber ledger.checkedOf ledger.numberTo ledger.passes ledger.taken ledger.raised ledger.done ledger.nextOf ledger.fresh ledger.valuesOf ledger.answerTo trace words.received words.givenUp words.settled words.offers words.knownTop words.missing words.ticks words.count least after next found noted sightsOf framesIn readsOf seenOf saysOf callsBy callsFrom callsOf ticksAnswered resent figuresOf figureOf tabled allBelow channelsRight sumsRight page-spec.soundOf figureAt numberTo figuresTold nothingTold answerTo counted nextOf toldBy wordsOf channelsIn sumsIn pageWords wordsAfter
+unfolding plainOf frameOf checked readOf bodyRead numeral digitsOf laid sum8 sumOf kindOf suits measureOf p001Ok layoutOf suitsTail tailOk m201Ok fieldsOk realTime realParts daysIn leap judgeOf viewOf run tally trailingZeros rangeRules mapRules soundOf has ledger.ownNumber ledger.checkedOf ledger.numberTo ledger.passes ledger.taken ledger.raised ledger.done ledger.nextOf ledger.fresh ledger.valuesOf ledger.answerTo trace words.received words.givenUp words.settled words.offers words.knownTop words.missing words.ticks words.count least after next found noted sightsOf framesIn readsOf refusalOf seenOf saysOf callsBy callsFrom callsOf ticksAnswered resent figuresOf figureOf tabled allBelow channelsRight sumsRight page-spec.soundOf figureAt numberTo figuresTold nothingTold answerTo counted nextOf toldBy wordsOf channelsIn sumsIn pageWords wordsAfter
 rk-month-add-rules-out =
     ruled lists (λ (i : List ℕ × (List ℕ × List ℕ)). tells (answerTo (pageWords (i .0)) (i .1 .0)) (i .1 .1) (wordsAfter (i .0) (i .1 .0))) (λ c p. said p) _ refl

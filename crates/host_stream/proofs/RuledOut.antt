@@ -4,6 +4,7 @@
 -- Assumes nothing.
 use mathlib.Core.Path.{_≡_, refl, ap, ap₂}
 use Rattle.terms.specs.Paper.{Paper}
+use Rattle.terms.specs.Refusals.{refusalOf}
 use Rattle.terms.specs.RuledOut.{Row, _never_, _only_, Kept, RulesOut, ruled, numbers, lists, beside}
 use Rattle.record.specs.Examples.{recordA}
 use Prim.Native.Nat.{ℕ}
@@ -83,7 +84,7 @@ rk-stream-open-wrong =
     ∷ []
 
 pub rk-stream-open-rules-out : RulesOut (Kept _ rk-open-kinds.ps rk-open-kinds.r rk-open.Post) (λ c. tt) (λ c. (c .result, seen (lent (now (c .exit .0)) (now (c .exit .1 .0)) (now (c .exit .1 .1 .0))))) rk-stream-open-wrong
-unfolding frameA startOfA frameB checked readOf bodyRead numeral digitsOf laid sum8 sumOf kindOf suits measureOf p001Ok fieldsOk realTime realParts daysIn leap judgeOf viewOf Bits.valueOf Bits.mapOf rotated rangeRules mapRules soundOf Book.ownNumber Book.checkedOf Book.numberTo Book.raised Book.done Book.nextOf Book.fresh bookOf ledgerOf after next found noted joined eachOf Account.accountOf firstHalf secondHalf recordOf blankOf seenOf saysOf callsBy offering offerOf madeOf recordBy bookBy accepts refuses opened State.headOf State.isSeeking State.meantBy State.valueOf State.allZero State.waitsRight State.soundOf Tally.tallyWith Tally.recordAt Tally.tallyAfter Tally.ledgerRight Tally.tallyRight Calls.givenOf Calls.behindOf Calls.numberFor Calls.answerFor Calls.nextFor Calls.leavesFor Cuts.feedOf Waits.waits Waits.ranOf wordsOf pendingIn ledgerIn toldBy stateOf waitingIn streamIn keptBeside lentAfter
+unfolding frameA startOfA frameB checked readOf bodyRead numeral digitsOf laid sum8 sumOf kindOf suits measureOf p001Ok fieldsOk realTime realParts daysIn leap judgeOf viewOf Bits.valueOf Bits.mapOf rotated rangeRules mapRules soundOf Book.ownNumber Book.checkedOf Book.numberTo Book.raised Book.done Book.nextOf Book.fresh bookOf ledgerOf after next found noted joined eachOf Account.accountOf firstHalf secondHalf recordOf blankOf refusalOf seenOf saysOf callsBy offering offerOf madeOf recordBy bookBy accepts refuses opened State.headOf State.isSeeking State.meantBy State.valueOf State.allZero State.waitsRight State.soundOf Tally.tallyWith Tally.recordAt Tally.tallyAfter Tally.ledgerRight Tally.tallyRight Calls.givenOf Calls.behindOf Calls.numberFor Calls.answerFor Calls.nextFor Calls.leavesFor Cuts.feedOf Waits.waits Waits.ranOf wordsOf pendingIn ledgerIn toldBy stateOf waitingIn streamIn keptBeside lentAfter
 rk-stream-open-rules-out = ruled (beside numbers lists) (λ (i : Unit {0}). (0, seen (lentOf opened))) (λ c p. ap₂ (λ (n : ℕ) (k : Lent). (n, seen k)) (p .0) (p .1)) _ refl
 
 -- CALLS: a stream, a call, a lent buffer, and the told row before
@@ -103,7 +104,7 @@ rk-stream-feed-wrong =
     ∷ []
 
 pub rk-stream-feed-rules-out : RulesOut (Kept _ rk-feed-kinds.ps rk-feed-kinds.r rk-feed.Post) (λ c. (lent (now (c .args .0)) (now (c .args .1 .0)) (now (c .args .1 .1 .0)), (Feed (now (c .args .1 .1 .1 .0)), (now (c .args .1 .1 .1 .1 .0), now (c .args .1 .1 .1 .1 .1 .0))))) (λ c. shown (c .result) (now (c .exit .1 .1 .1 .1 .1 .0)) (lent (now (c .exit .0)) (now (c .exit .1 .0)) (now (c .exit .1 .1 .0))) (now (c .exit .1 .1 .1 .1 .0))) rk-stream-feed-wrong
-unfolding frameA startOfA frameB checked readOf bodyRead numeral digitsOf laid sum8 sumOf kindOf suits measureOf p001Ok fieldsOk realTime realParts daysIn leap judgeOf viewOf Bits.valueOf Bits.mapOf rotated rangeRules mapRules soundOf Book.ownNumber Book.checkedOf Book.numberTo Book.raised Book.done Book.nextOf Book.fresh bookOf ledgerOf after next found noted joined eachOf Account.accountOf firstHalf secondHalf recordOf blankOf seenOf saysOf callsBy offering offerOf madeOf recordBy bookBy accepts refuses opened State.headOf State.isSeeking State.meantBy State.valueOf State.allZero State.waitsRight State.soundOf Tally.tallyWith Tally.recordAt Tally.tallyAfter Tally.ledgerRight Tally.tallyRight Calls.givenOf Calls.behindOf Calls.numberFor Calls.answerFor Calls.nextFor Calls.leavesFor Cuts.feedOf Waits.waits Waits.ranOf wordsOf pendingIn ledgerIn toldBy stateOf waitingIn streamIn keptBeside lentAfter
+unfolding frameA startOfA frameB checked readOf bodyRead numeral digitsOf laid sum8 sumOf kindOf suits measureOf p001Ok fieldsOk realTime realParts daysIn leap judgeOf viewOf Bits.valueOf Bits.mapOf rotated rangeRules mapRules soundOf Book.ownNumber Book.checkedOf Book.numberTo Book.raised Book.done Book.nextOf Book.fresh bookOf ledgerOf after next found noted joined eachOf Account.accountOf firstHalf secondHalf recordOf blankOf refusalOf seenOf saysOf callsBy offering offerOf madeOf recordBy bookBy accepts refuses opened State.headOf State.isSeeking State.meantBy State.valueOf State.allZero State.waitsRight State.soundOf Tally.tallyWith Tally.recordAt Tally.tallyAfter Tally.ledgerRight Tally.tallyRight Calls.givenOf Calls.behindOf Calls.numberFor Calls.answerFor Calls.nextFor Calls.leavesFor Cuts.feedOf Waits.waits Waits.ranOf wordsOf pendingIn ledgerIn toldBy stateOf waitingIn streamIn keptBeside lentAfter
 rk-stream-feed-rules-out = ruled (beside numbers (beside lists (beside lists lists))) answered-by (λ c p. said p) _ refl
 
 abbrev waiting : Lent
@@ -117,7 +118,7 @@ rk-stream-close-wrong =
     ∷ []
 
 pub rk-stream-close-rules-out : RulesOut (Kept _ rk-close-kinds.ps rk-close-kinds.r rk-close.Post) (λ c. (lent (now (c .args .0)) (now (c .args .1 .0)) (now (c .args .1 .1 .0)), (Close, (now (c .args .1 .1 .1 .0), now (c .args .1 .1 .1 .1 .0))))) (λ c. shown (c .result) (now (c .exit .1 .1 .1 .1 .0)) (lent (now (c .exit .0)) (now (c .exit .1 .0)) (now (c .exit .1 .1 .0))) (now (c .exit .1 .1 .1 .0))) rk-stream-close-wrong
-unfolding frameA startOfA frameB checked readOf bodyRead numeral digitsOf laid sum8 sumOf kindOf suits measureOf p001Ok fieldsOk realTime realParts daysIn leap judgeOf viewOf Bits.valueOf Bits.mapOf rotated rangeRules mapRules soundOf Book.ownNumber Book.checkedOf Book.numberTo Book.raised Book.done Book.nextOf Book.fresh bookOf ledgerOf after next found noted joined eachOf Account.accountOf firstHalf secondHalf recordOf blankOf seenOf saysOf callsBy offering offerOf madeOf recordBy bookBy accepts refuses opened State.headOf State.isSeeking State.meantBy State.valueOf State.allZero State.waitsRight State.soundOf Tally.tallyWith Tally.recordAt Tally.tallyAfter Tally.ledgerRight Tally.tallyRight Calls.givenOf Calls.behindOf Calls.numberFor Calls.answerFor Calls.nextFor Calls.leavesFor Cuts.feedOf Waits.waits Waits.ranOf wordsOf pendingIn ledgerIn toldBy stateOf waitingIn streamIn keptBeside lentAfter
+unfolding frameA startOfA frameB checked readOf bodyRead numeral digitsOf laid sum8 sumOf kindOf suits measureOf p001Ok fieldsOk realTime realParts daysIn leap judgeOf viewOf Bits.valueOf Bits.mapOf rotated rangeRules mapRules soundOf Book.ownNumber Book.checkedOf Book.numberTo Book.raised Book.done Book.nextOf Book.fresh bookOf ledgerOf after next found noted joined eachOf Account.accountOf firstHalf secondHalf recordOf blankOf refusalOf seenOf saysOf callsBy offering offerOf madeOf recordBy bookBy accepts refuses opened State.headOf State.isSeeking State.meantBy State.valueOf State.allZero State.waitsRight State.soundOf Tally.tallyWith Tally.recordAt Tally.tallyAfter Tally.ledgerRight Tally.tallyRight Calls.givenOf Calls.behindOf Calls.numberFor Calls.answerFor Calls.nextFor Calls.leavesFor Cuts.feedOf Waits.waits Waits.ranOf wordsOf pendingIn ledgerIn toldBy stateOf waitingIn streamIn keptBeside lentAfter
 rk-stream-close-rules-out = ruled (beside numbers (beside lists (beside lists lists))) answered-by (λ c p. said p) _ refl
 
 -- CLEAN: what is told has six numbers
@@ -138,7 +139,7 @@ rk-stream-clean-wrong =
     ∷ []
 
 pub rk-stream-clean-rules-out : RulesOut (Kept _ rk-clean-kinds.ps rk-clean-kinds.r rk-clean.Post) (λ c. (lent (now (c .args .0)) (now (c .args .1 .0)) (now (c .args .1 .1 .0)), (Feed (now (c .args .1 .1 .1 .0)), (now (c .args .1 .1 .1 .1 .0), now (c .args .1 .1 .1 .1 .1 .0))))) (λ c. shown (c .result) (now (c .exit .1 .1 .1 .1 .1 .0)) (lent (now (c .exit .0)) (now (c .exit .1 .0)) (now (c .exit .1 .1 .0))) (now (c .exit .1 .1 .1 .1 .0))) rk-stream-clean-wrong
-unfolding plainOf frameOf checked readOf bodyRead numeral digitsOf laid laidIfRoom painted summed scrubbed sum8 sumOf kindOf suits measureOf p002Ok fieldsOk realTime realParts daysIn leap judgeOf viewOf Bits.valueOf Bits.mapOf rotated rangeRules mapRules soundOf Book.ownNumber Book.checkedOf Book.numberTo Book.raised Book.done Book.nextOf Book.fresh bookOf ledgerOf after next found noted joined eachOf Account.accountOf firstHalf secondHalf recordOf blankOf seenOf saysOf callsBy offering offerOf madeOf recordBy bookBy accepts refuses opened State.headOf State.isSeeking State.meantBy State.valueOf State.allZero State.waitsRight State.soundOf Tally.tallyWith Tally.recordAt Tally.tallyAfter Tally.ledgerRight Tally.tallyRight Calls.givenOf Calls.behindOf Calls.numberFor Calls.answerFor Calls.nextFor Calls.leavesFor Cuts.feedOf Waits.waits Waits.ranOf wordsOf pendingIn ledgerIn toldBy stateOf waitingIn streamIn keptBeside lentAfter Calls.mayTake Wash.washed Wash.unjudgedBy Wash.plus Wash.oneOf Wash.sumsOf Wash.lays Clean.readsFor Clean.washBehind Clean.numberFor Clean.answerFor Clean.nextFor Clean.leavesFor washAfter
+unfolding plainOf frameOf checked readOf bodyRead numeral digitsOf laid laidIfRoom painted summed scrubbed sum8 sumOf kindOf suits measureOf p002Ok fieldsOk realTime realParts daysIn leap judgeOf viewOf Bits.valueOf Bits.mapOf rotated rangeRules mapRules soundOf Book.ownNumber Book.checkedOf Book.numberTo Book.raised Book.done Book.nextOf Book.fresh bookOf ledgerOf after next found noted joined eachOf Account.accountOf firstHalf secondHalf recordOf blankOf refusalOf seenOf saysOf callsBy offering offerOf madeOf recordBy bookBy accepts refuses opened State.headOf State.isSeeking State.meantBy State.valueOf State.allZero State.waitsRight State.soundOf Tally.tallyWith Tally.recordAt Tally.tallyAfter Tally.ledgerRight Tally.tallyRight Calls.givenOf Calls.behindOf Calls.numberFor Calls.answerFor Calls.nextFor Calls.leavesFor Cuts.feedOf Waits.waits Waits.ranOf wordsOf pendingIn ledgerIn toldBy stateOf waitingIn streamIn keptBeside lentAfter Calls.mayTake Wash.washed Wash.unjudgedBy Wash.plus Wash.oneOf Wash.sumsOf Wash.lays Clean.readsFor Clean.washBehind Clean.numberFor Clean.answerFor Clean.nextFor Clean.leavesFor washAfter
 rk-stream-clean-rules-out = ruled (beside numbers (beside lists (beside lists lists))) cleaned-by (λ c p. said p) _ refl
 
 abbrev pub rk-stream-clean-close-wrong : List (Row Input Outcome)
@@ -148,5 +149,5 @@ rk-stream-clean-close-wrong =
     ∷ []
 
 pub rk-stream-clean-close-rules-out : RulesOut (Kept _ rk-clean-close-kinds.ps rk-clean-close-kinds.r rk-clean-close.Post) (λ c. (lent (now (c .args .0)) (now (c .args .1 .0)) (now (c .args .1 .1 .0)), (Close, (now (c .args .1 .1 .1 .0), now (c .args .1 .1 .1 .1 .0))))) (λ c. shown (c .result) (now (c .exit .1 .1 .1 .1 .0)) (lent (now (c .exit .0)) (now (c .exit .1 .0)) (now (c .exit .1 .1 .0))) (now (c .exit .1 .1 .1 .0))) rk-stream-clean-close-wrong
-unfolding plainOf frameOf checked readOf bodyRead numeral digitsOf laid laidIfRoom painted summed scrubbed sum8 sumOf kindOf suits measureOf p002Ok fieldsOk realTime realParts daysIn leap judgeOf viewOf Bits.valueOf Bits.mapOf rotated rangeRules mapRules soundOf Book.ownNumber Book.checkedOf Book.numberTo Book.raised Book.done Book.nextOf Book.fresh bookOf ledgerOf after next found noted joined eachOf Account.accountOf firstHalf secondHalf recordOf blankOf seenOf saysOf callsBy offering offerOf madeOf recordBy bookBy accepts refuses opened State.headOf State.isSeeking State.meantBy State.valueOf State.allZero State.waitsRight State.soundOf Tally.tallyWith Tally.recordAt Tally.tallyAfter Tally.ledgerRight Tally.tallyRight Calls.givenOf Calls.behindOf Calls.numberFor Calls.answerFor Calls.nextFor Calls.leavesFor Cuts.feedOf Waits.waits Waits.ranOf wordsOf pendingIn ledgerIn toldBy stateOf waitingIn streamIn keptBeside lentAfter Calls.mayTake Wash.washed Wash.unjudgedBy Wash.plus Wash.oneOf Wash.sumsOf Wash.lays Clean.readsFor Clean.washBehind Clean.numberFor Clean.answerFor Clean.nextFor Clean.leavesFor washAfter
+unfolding plainOf frameOf checked readOf bodyRead numeral digitsOf laid laidIfRoom painted summed scrubbed sum8 sumOf kindOf suits measureOf p002Ok fieldsOk realTime realParts daysIn leap judgeOf viewOf Bits.valueOf Bits.mapOf rotated rangeRules mapRules soundOf Book.ownNumber Book.checkedOf Book.numberTo Book.raised Book.done Book.nextOf Book.fresh bookOf ledgerOf after next found noted joined eachOf Account.accountOf firstHalf secondHalf recordOf blankOf refusalOf seenOf saysOf callsBy offering offerOf madeOf recordBy bookBy accepts refuses opened State.headOf State.isSeeking State.meantBy State.valueOf State.allZero State.waitsRight State.soundOf Tally.tallyWith Tally.recordAt Tally.tallyAfter Tally.ledgerRight Tally.tallyRight Calls.givenOf Calls.behindOf Calls.numberFor Calls.answerFor Calls.nextFor Calls.leavesFor Cuts.feedOf Waits.waits Waits.ranOf wordsOf pendingIn ledgerIn toldBy stateOf waitingIn streamIn keptBeside lentAfter Calls.mayTake Wash.washed Wash.unjudgedBy Wash.plus Wash.oneOf Wash.sumsOf Wash.lays Clean.readsFor Clean.washBehind Clean.numberFor Clean.answerFor Clean.nextFor Clean.leavesFor washAfter
 rk-stream-clean-close-rules-out = ruled (beside numbers (beside lists (beside lists lists))) cleaned-by (λ c p. said p) _ refl

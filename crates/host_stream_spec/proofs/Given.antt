@@ -9,7 +9,7 @@ use native.Mathlib.Omega.{arith}
 use lib.Dec.{eqb}
 use lib.ListN.{length}
 use borrow.Author.Tests.{le-leb, eqb-false, ne-eqb}
-use Rattle.reading.specs.Seen.{seenOf}
+use Rattle.reading.specs.Seen.{seenOf, seenNumber}
 use Rattle.stream_spec.specs.State.{headOf, StreamRules}
 use Rattle.stream_spec.specs.Calls.{Call, answerFor}
 use Rattle.stream_spec.specs.Given.{Given19, Given29}
@@ -40,7 +40,7 @@ module _ (k : Lent) where
         places = rw n at (r .places);
         rests =
             ⊎-elim (λ (z : waitingIn (word k 1) (word k 2) (word k 3) ≡ 0). inl (sym n ∙ z))
-            (λ (p : (eqb (word k 2) 1 ≡ false) × (seenOf (headOf (waitingIn (word k 1) (word k 2) (word k 3)) (k .kept)) .answer ≡ 1)).
+            (λ (p : (eqb (word k 2) 1 ≡ false) × (seenNumber (seenOf (headOf (waitingIn (word k 1) (word k 2) (word k 3)) (k .kept))) ≡ 1)).
             let open-still : word k 2 ≡ 0 = omega (arith, f .1 .0, eqb-false (word k 2) 1 (p .0)) in inr (open-still, rw n at (p .1)))
             (r .rests);
       }
@@ -59,7 +59,7 @@ module _ (k : Lent) where
         places = rw (a, b) (l .places);
         rests =
             ⊎-elim (λ (z : word k 3 ≡ 0). inl (rw (a, b) z))
-            (λ (p : (word k 2 ≡ 0) × (seenOf (headOf (word k 3) (k .kept)) .answer ≡ 1)).
+            (λ (p : (word k 2 ≡ 0) × (seenNumber (seenOf (headOf (word k 3) (k .kept))) ≡ 1)).
             inr (ne-eqb (word k 2) 1 (λ (q : word k 2 ≡ 1). omega (arith, p .0)), rw (a, b) (p .1)))
             (l .rests);
       }

@@ -6,7 +6,7 @@ use mathlib.Core.Logic.{_⊎_}
 use lib.ListN.{getD, drop}
 use Rattle.ledger_spec.specs.State.{StateRules}
 use Rattle.ledger.specs.State.{bookOf}
-use Rattle.reading.specs.Seen.{seenOf}
+use Rattle.reading.specs.Seen.{seenOf, seenNumber}
 use Rattle.stream_spec.specs.State.{lastPlace, headOf, allZero}
 use Rattle.host_words.specs.Words.{ledgerIn}
 use Rattle.host_stream_spec.specs.Lent.{Lent}
@@ -25,4 +25,4 @@ pub record LentRules (k : Lent) : Type 0 where
   pub channel : ledgerIn (k .ledger) .channel .0 ≡ 100
   pub ledger : StateRules (bookOf (ledgerIn (k .ledger)))
   pub places : word k 0 + word k 3 ≤ lastPlace
-  pub rests : (word k 3 ≡ 0) ⊎ ((word k 2 ≡ 0) × (seenOf (headOf (word k 3) (k .kept)) .answer ≡ 1))
+  pub rests : (word k 3 ≡ 0) ⊎ ((word k 2 ≡ 0) × (seenNumber (seenOf (headOf (word k 3) (k .kept))) ≡ 1))

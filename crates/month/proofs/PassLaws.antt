@@ -12,7 +12,7 @@ use Rattle.walk_laws.specs.Walk.{Sight}
 use Rattle.walk_laws.specs.Frames.{readsOf}
 use Rattle.walk_laws.specs.Literal.{fromOf, sightAt, from-end}
 use Rattle.reading.specs.declared.Seen.{Seen}
-use Rattle.reading.specs.Seen.{seenOf, saysOf}
+use Rattle.reading.specs.Seen.{seenOf, seenNumber, saysOf}
 use Rattle.walk_spec.specs.Onward.{Goes}
 use Rattle.clean_spec.specs.Figures.{reads, reads-frame, reads-refused}
 use Rattle.month_spec.specs.Figures.{readsIn}
@@ -77,20 +77,20 @@ module _ (s channels : List ℕ) (named : ℕ) where
     here = ap reads (g .rest)
 
     -- a refused one is passed over
-    pub left-refused : (x .answer ≡ 0 → ⊥) → Left s channels named rows r
+    pub left-refused : (seenNumber x ≡ 0 → ⊥) → Left s channels named rows r
     left-refused ne =
         record {
           inside = g .inside;
           done = w .done;
           split =
-              ap (λ (l : List Seen). w .done ++ l) (sym (here ∙ reads-refused (sightAt seenOf saysOf p s) (fromOf seenOf saysOf r s) (λ e. ne (ap (λ (y : Seen). y .answer) xe ∙ e))))
+              ap (λ (l : List Seen). w .done ++ l) (sym (here ∙ reads-refused (sightAt seenOf saysOf p s) (fromOf seenOf saysOf r s) (λ e. ne (ap seenNumber xe ∙ e))))
               ∙ w .split;
           short = omega (arith, w .short, g .further);
           few = w .few;
           kept = w .kept;
         }
 
-    module _ (z : x .answer ≡ 0) where
+    module _ (z : seenNumber x ≡ 0) where
       abbrev longer : List Seen
       longer = w .done ++ (x ∷ [])
 
@@ -99,7 +99,7 @@ module _ (s channels : List ℕ) (named : ℕ) where
           append-assoc (w .done) (x ∷ []) (reads (fromOf seenOf saysOf r s))
           ∙ ap (λ (y : Seen). w .done ++ (y ∷ reads (fromOf seenOf saysOf r s))) xe
           ∙ ap (λ (l : List Seen). w .done ++ l)
-          (sym (here ∙ reads-frame (sightAt seenOf saysOf p s) (fromOf seenOf saysOf r s) (ap (λ (y : Seen). y .answer) (sym xe) ∙ z)))
+          (sym (here ∙ reads-frame (sightAt seenOf saysOf p s) (fromOf seenOf saysOf r s) (ap seenNumber (sym xe) ∙ z)))
           ∙ w .split
 
       more : (rows′ : List Row) → Kept channels named longer rows′ → Left s channels named rows′ r

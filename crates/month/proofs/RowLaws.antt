@@ -20,6 +20,7 @@ use Rattle.ledger.specs.State.{bookOf, ledgerOf}
 use Rattle.ledger.specs.declared.Ledger.{Ledger}
 use Rattle.ledger.proofs.Seam.{book-of}
 use Rattle.reading.specs.declared.Seen.{Seen}
+use Rattle.reading.specs.Seen.{seenNumber}
 use Rattle.walk_spec.specs.Offers.{callsBy, offerOf}
 use Rattle.walk_spec.specs.Walk.{added}
 use Rattle.walk_spec.specs.CallLaws.{isTick, book-added}
@@ -57,7 +58,7 @@ pub turned-of : (row : Row) (x : Seen) (l : Ledger) (n : ℕ) (t r : Bool) (a b 
 turned-of row x l n t r a b c d e ne le te re ae be ce de ee =
     record { ledger = le; received = rw (ae, te, ne); repeated = rw (be, te, ne); far = rw (ce, te, ne); asked = rw (de, re); unavailable = rw (ee, re) }
 
-module _ (channel : ℕ) (small : channel ≤ 9999) (xs : List Seen) (x : Seen) (z : x .answer ≡ 0) where
+module _ (channel : ℕ) (small : channel ≤ 9999) (xs : List Seen) (x : Seen) (z : seenNumber x ≡ 0) where
   abbrev calls : Calls
   calls = callsMade none xs
 
@@ -92,7 +93,7 @@ module _ (channel : ℕ) (small : channel ≤ 9999) (xs : List Seen) (x : Seen) 
     ledger-is : r .ledger ≡ ledgerOf (after channel (callsMade none longer))
     unfolding offerOf
     ledger-is =
-        turn .ledger ∙ ap (λ (b : Book). ledgerOf (offerOf b x .book)) book-is ∙ ap ledgerOf (book-added channel calls (x .answer) (callsBy x)) ∙ sym more-ledger
+        turn .ledger ∙ ap (λ (b : Book). ledgerOf (offerOf b x .book)) book-is ∙ ap ledgerOf (book-added channel calls (seenNumber x) (callsBy x)) ∙ sym more-ledger
 
     ticks-are : (n was now : ℕ) → was ≡ ticksAnswered n (trace channel calls) → now ≡ was + one (isTick (kindOf (x .«msg_type»)) && eqb (offerOf (bookOf (row .ledger)) x .number) n)
         → now ≡ ticksAnswered n (trace channel (callsMade none longer))
@@ -124,7 +125,7 @@ pub few-none : Few []
 unfolding callsMade trace ticksAnswered
 few-none = record { ticks = λ channel n. omega arith }
 
-pub few-more : (xs : List Seen) (x : Seen) → x .answer ≡ 0 → Few xs → Few (xs ++ (x ∷ []))
+pub few-more : (xs : List Seen) (x : Seen) → seenNumber x ≡ 0 → Few xs → Few (xs ++ (x ∷ []))
 few-more xs x z f =
     record {
       ticks = λ channel n.

@@ -7,6 +7,7 @@ use denote.Ref.{now}
 use lib.Count.{trailingZeros}
 use lib.ListN.{take, drop, replicate}
 use Rattle.terms.specs.Paper.{Paper, answer}
+use Rattle.terms.specs.Refusals.{refusalOf}
 use Rattle.terms.specs.RuledOut.{Row, _never_, _only_, Kept, RulesOut, ruled, lists}
 use Rattle.octets.specs.Octets.{numeral, digitsOf, laid, sum8, sumOf}
 use Rattle.calendar.specs.Calendar.{leap, daysIn, realParts, realTime}
@@ -104,6 +105,6 @@ Month-added-wrong =
     ∷ []
 
 pub Month-added-rules-out : RulesOut (Kept _ month-added-kinds.ps month-added-kinds.r month-added.Post) (λ c. (pageIn (c .args .0), now (c .args .1 .0))) (λ c. told (addedPaper (c .result)) (c .result .page)) Month-added-wrong
-unfolding plainOf frameOf checked readOf bodyRead numeral digitsOf laid sum8 sumOf kindOf suits measureOf p001Ok p002Ok layoutOf suitsTail tailOk m201Ok fieldsOk realTime realParts daysIn leap judgeOf viewOf run tally trailingZeros rangeRules mapRules soundOf has ledger.ownNumber ledger.checkedOf ledger.numberTo ledger.passes ledger.taken ledger.raised ledger.done ledger.nextOf ledger.fresh ledger.valuesOf ledger.answerTo trace words.received words.givenUp words.settled words.offers words.knownTop words.missing words.ticks words.count least after next found noted sightsOf framesIn readsOf seenOf saysOf callsBy callsFrom callsOf ticksAnswered resent figuresOf figureOf tabled allBelow channelsRight sumsRight page-spec.soundOf figureAt numberTo figuresTold nothingTold answerTo counted nextOf
+unfolding plainOf frameOf checked readOf bodyRead numeral digitsOf laid sum8 sumOf kindOf suits measureOf p001Ok p002Ok layoutOf suitsTail tailOk m201Ok fieldsOk realTime realParts daysIn leap judgeOf viewOf run tally trailingZeros rangeRules mapRules soundOf has ledger.ownNumber ledger.checkedOf ledger.numberTo ledger.passes ledger.taken ledger.raised ledger.done ledger.nextOf ledger.fresh ledger.valuesOf ledger.answerTo trace words.received words.givenUp words.settled words.offers words.knownTop words.missing words.ticks words.count least after next found noted sightsOf framesIn readsOf refusalOf seenOf saysOf callsBy callsFrom callsOf ticksAnswered resent figuresOf figureOf tabled allBelow channelsRight sumsRight page-spec.soundOf figureAt numberTo figuresTold nothingTold answerTo counted nextOf
 Month-added-rules-out =
     ruled lists (λ (i : Page × List ℕ). told (answerTo (i .0) (i .1)) (monthOf (nextOf (i .0) (i .1)))) (λ c p. ap₂ told (p .0) (p .1)) _ refl

@@ -6,17 +6,14 @@ ghost use mathlib.Core.Bool.{true, _&&_, not};
 ghost use mathlib.Core.List.{[], _∷_};
 ghost use Prim.Native.Nat.{_+_, _≤_, _<_};
 ghost use lib.Dec.{eqb, leb};
-ghost use lib.ListN.{length, getD, take, drop};
+ghost use lib.ListN.{getD, take};
 ghost use Rattle.ledger_spec.specs.Words.{one};
-ghost use Rattle.reading.specs.Seen.{seenOf};
 ghost use Rattle.walk_spec.specs.CallLaws.{isTick};
-ghost use Rattle.walk_spec.specs.Onward.{Goes};
 ghost use Rattle.month_spec.specs.Figures.{isResend, readsIn};
 ghost use Rattle.month_spec.specs.Page.{placeIn, channelsRight, sumsRight, soundOf, figuresInAll, highest, tabled, allBelow};
 ghost use Rattle.month_spec.specs.Calls.{namingNumber, answerTo, nextOf, startNumber, startPage};
 ghost use Rattle.month.specs.State.{pageIn, monthOf, emptyWith, refusedWith, addedPaper, sumIn, sumFitsIn};
 ghost use Rattle.month.specs.Rows.{rowAfter, Turned, Roomy, Naming, Kept, rowNumbers, rowFigures};
-use frame::Found;
 use ledger::Ledger;
 use reading::Seen;
 use rules::Kind;
@@ -268,23 +265,6 @@ fn fresh_rows(channels: [u16; 32], named: usize) -> [Row; 32]
     rows
 }
 
-// The place of the next reading, after the one at p: past the frame, or where the search from the
-// next byte on finds one; the end where it finds none. A refused frame's BodyLength is
-// never stepped by.
-fn onward(capture: &[u8], p: usize, seen: Seen) -> usize
-    requires { ⌜ (p < length (now capture)) × (seen ≡ seenOf (drop p (now capture))) ⌝ }
-    ensures { λ r. ⌜ Goes (now (capture .entry)) p r ⌝ }
-{
-    if seen.answer == 0 {
-        return p + seen.size;
-    }
-    match frame::search(capture, p + 1) {
-        Found::At(q) => q,
-        Found::Nothing => capture.len(),
-        Found::Beyond => capture.len(),
-    }
-}
-
 // The rows after all frames of a capture: each frame is read once, and turns the row of its
 // channel alone.
 fn pass(capture: &[u8], channels: [u16; 32], named: usize) -> [Row; 32]
@@ -295,8 +275,9 @@ fn pass(capture: &[u8], channels: [u16; 32], named: usize) -> [Row; 32]
     let mut p: usize = 0;
     while p < capture.len() {
         let seen = reading::see(capture, p);
-        p = onward(capture, p, seen);
-        if seen.answer != 0 {
+        p = walk_step::onward(capture, p, seen.size);
+        let verdict = seen.answer;
+        if verdict.number() != 0 {
             continue;
         }
         let channel = seen.channel;

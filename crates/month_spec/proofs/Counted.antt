@@ -19,6 +19,7 @@ use Rattle.ledger_spec.proofs.Rows.{count-ext}
 use Rattle.ledger_spec.proofs.Agree.{agrees}
 use Rattle.ledger_spec.proofs.Demand3.{demand-3}
 use Rattle.reading.specs.declared.Seen.{Seen}
+use Rattle.reading.specs.Seen.{seenNumber}
 use Rattle.walk_spec.specs.Offers.{callsFor, callsBy}
 use Rattle.walk_spec.specs.OfferLaws.{calls-refused, calls-of}
 use Rattle.walk_spec.specs.Walk.{sights, walkOf, added, callsOf}
@@ -87,9 +88,9 @@ module _ (channel : ℕ) where
   taken-one : (calls : Calls) (x : Seen) → ticksAnswered 0 (trace channel calls) ≡ ticksTaken (trace channel calls)
       → ticksAnswered 0 (trace channel (added calls (callsBy x))) ≡ ticksTaken (trace channel (added calls (callsBy x)))
   taken-one calls x e =
-      ⊎-elim (λ (z : x .answer ≡ 0). rw (calls-of x (kindOf (x .«msg_type»)) z refl) (taken-by calls (kindOf (x .«msg_type»)) (x .channel .0) (x .tick .0) e))
-      (λ (ne : x .answer ≡ 0 → ⊥). rw (calls-refused x ne) e)
-      (same (x .answer) 0)
+      ⊎-elim (λ (z : seenNumber x ≡ 0). rw (calls-of x (kindOf (x .«msg_type»)) z refl) (taken-by calls (kindOf (x .«msg_type»)) (x .channel .0) (x .tick .0) e))
+      (λ (ne : seenNumber x ≡ 0 → ⊥). rw (calls-refused x ne) e)
+      (same (seenNumber x) 0)
 
   taken-all : (calls : Calls) (xs : List Seen) → ticksAnswered 0 (trace channel calls) ≡ ticksTaken (trace channel calls)
       → ticksAnswered 0 (trace channel (callsMade calls xs)) ≡ ticksTaken (trace channel (callsMade calls xs))

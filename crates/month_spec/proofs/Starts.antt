@@ -17,14 +17,14 @@ use Rattle.channels_spec.specs.Table.{Place, free, holds, Table, least, isFor, 
 use Rattle.channels_spec.specs.Calls.{openingNumber}
 use Rattle.channels_spec.proofs.Least.{Lowest, least-is, least-none, least-all, least-at, least-low, least-top}
 use Rattle.month_spec.specs.Page.{Page, captures, places, figuresInAll, tabled, pageOf, PageRules}
-use Rattle.month_spec.specs.Calls.{tableOf, namingNumber, startFrom, startNumber, startPage}
+use Rattle.month_spec.specs.Calls.{tableNaming, namingNumber, startFrom, startNumber, startPage}
 use Rattle.month_spec.specs.Given.{Names, First, Among, Given10, Given22, Given21}
 use Rattle.month_spec.proofs.Lists.{length-tabled, getD-tabled}
 
 -- THE TABLE OF THE CHANNELS NAMED SO FAR
 module _ (cs : List ℕ) where
   abbrev at : ℕ → Place
-  at i = tableOf cs .place i
+  at i = tableNaming cs .place i
 
   named-place : (channel i : ℕ) → i < length cs → isFor channel (at i) ≡ eqb (getD cs i 0) channel
   unfolding fresh
@@ -43,14 +43,14 @@ module _ (cs : List ℕ) where
   forIt channel i = isFor channel (at i)
 
   module _ (few : length cs ≤ places) (channel : ℕ) where
-    open-is : Among cs channel → isOpen (tableOf cs) channel ≡ true
+    open-is : Among cs channel → isOpen (tableNaming cs) channel ≡ true
     unfolding placeOf
     open-is a =
         let so : isFor channel (at (a .at)) ≡ true = named-place channel (a .at) (a .inside) ∙ eq-eqb _ _ (a .same) in
         let low = least-low (forIt channel) 32 (a .at) (omega (arith, a .inside)) so in
         lt-ltb (least (forIt channel) 32) 32 (omega (arith, a .inside))
 
-    is-open : isOpen (tableOf cs) channel ≡ true → Among cs channel
+    is-open : isOpen (tableNaming cs) channel ≡ true → Among cs channel
     unfolding placeOf
     is-open e =
         let k = least (forIt channel) 32 in
@@ -60,11 +60,11 @@ module _ (cs : List ℕ) where
         (λ (h : length cs ≤ k). absurd (clash (found .is-so) (free-place channel k h)))
         (less k (length cs))
 
-    free-is : length cs < places → freePlace (tableOf cs) ≡ length cs
+    free-is : length cs < places → freePlace (tableNaming cs) ≡ length cs
     unfolding freePlace
     free-is h = least-at (λ i. isFree (at i)) 32 (length cs) h (unused-place (length cs) (omega arith)) (λ j l. taken-place j l)
 
-    full-is : length cs ≡ places → freePlace (tableOf cs) ≡ 32
+    full-is : length cs ≡ places → freePlace (tableNaming cs) ≡ 32
     unfolding freePlace
     full-is e = least-all (λ i. isFree (at i)) 32 (λ j l. taken-place j (omega arith))
 
@@ -75,14 +75,14 @@ module _ (cs : List ℕ) where
 
     pub naming-22 : channel ≤ 9999 → Among cs channel → namingNumber cs channel ≡ 22
     unfolding openingNumber
-    naming-22 h a = rw (le-ltb 9999 channel h) (ap (λ (b : Bool). pick b 22 (pick (ltb (freePlace (tableOf cs)) 32) 0 21)) (open-is a))
+    naming-22 h a = rw (le-ltb 9999 channel h) (ap (λ (b : Bool). pick b 22 (pick (ltb (freePlace (tableNaming cs)) 32) 0 21)) (open-is a))
 
-    new-is : (Among cs channel → ⊥) → isOpen (tableOf cs) channel ≡ false
-    new-is n = ⊎-elim (λ (t : isOpen (tableOf cs) channel ≡ true). absurd (n (is-open t))) (λ (f : isOpen (tableOf cs) channel ≡ false). f) (two (isOpen (tableOf cs) channel))
+    new-is : (Among cs channel → ⊥) → isOpen (tableNaming cs) channel ≡ false
+    new-is n = ⊎-elim (λ (t : isOpen (tableNaming cs) channel ≡ true). absurd (n (is-open t))) (λ (f : isOpen (tableNaming cs) channel ≡ false). f) (two (isOpen (tableNaming cs) channel))
 
-    past-22 : channel ≤ 9999 → (Among cs channel → ⊥) → namingNumber cs channel ≡ pick (ltb (freePlace (tableOf cs)) 32) 0 21
+    past-22 : channel ≤ 9999 → (Among cs channel → ⊥) → namingNumber cs channel ≡ pick (ltb (freePlace (tableNaming cs)) 32) 0 21
     unfolding openingNumber
-    past-22 h n = rw (le-ltb 9999 channel h) (ap (λ (b : Bool). pick b 22 (pick (ltb (freePlace (tableOf cs)) 32) 0 21)) (new-is n))
+    past-22 h n = rw (le-ltb 9999 channel h) (ap (λ (b : Bool). pick b 22 (pick (ltb (freePlace (tableNaming cs)) 32) 0 21)) (new-is n))
 
     pub naming-21 : channel ≤ 9999 → (Among cs channel → ⊥) → length cs ≡ places → namingNumber cs channel ≡ 21
     naming-21 h n e = past-22 h n ∙ ap (λ (k : ℕ). pick (ltb k 32) 0 21) (full-is e)
@@ -99,7 +99,7 @@ module _ (cs : List ℕ) where
 
     in-or-not : (Among cs channel) ⊎ (Among cs channel → ⊥)
     in-or-not =
-        ⊎-elim (λ (t : isOpen (tableOf cs) channel ≡ true). inl (is-open t)) (λ (f : isOpen (tableOf cs) channel ≡ false). inr (λ (a : Among cs channel). clash (open-is a) f)) (two (isOpen (tableOf cs) channel))
+        ⊎-elim (λ (t : isOpen (tableNaming cs) channel ≡ true). inl (is-open t)) (λ (f : isOpen (tableNaming cs) channel ≡ false). inr (λ (a : Among cs channel). clash (open-is a) f)) (two (isOpen (tableNaming cs) channel))
 
     pub view : View (namingNumber cs channel)
     view =

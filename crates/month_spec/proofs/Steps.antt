@@ -20,6 +20,7 @@ use Rattle.ledger_spec.specs.Words.{answered, one, ticks}
 use Rattle.ledger_spec.specs.Answers.{Elsewhere}
 use Rattle.ledger_spec.proofs.Answers.{answers, keeps}
 use Rattle.reading.specs.declared.Seen.{Seen}
+use Rattle.reading.specs.Seen.{seenNumber}
 use Rattle.walk_spec.specs.Offers as offers
 use Rattle.walk_spec.specs.Offers.{callsFor, callsBy, offerOf}
 use Rattle.walk_spec.specs.OfferLaws.{calls-of}
@@ -63,7 +64,7 @@ module _ (channel n : ℕ) (calls : Calls) where
   by-type Unknown c t = omega arith
 
   -- one more where it is a tick that the ledger answers so
-  pub ticks-more : (x : Seen) → x .answer ≡ 0 → ticksAnswered n (trace channel (added calls (callsBy x)))
+  pub ticks-more : (x : Seen) → seenNumber x ≡ 0 → ticksAnswered n (trace channel (added calls (callsBy x)))
       ≡ one (isTick (kindOf (x .«msg_type»)) && eqb (offerOf (after channel calls) x .number) n) + before
   unfolding offerOf
   ticks-more x z = rw (calls-of x (kindOf (x .«msg_type»)) z refl, z) (by-type (kindOf (x .«msg_type»)) (x .channel .0) (x .tick .0))
@@ -113,7 +114,7 @@ module _ (channel : ℕ) (small : channel ≤ 9999) (calls : Calls) where
   not-counted n d M201 c t ne = ap (λ (m : ℕ). eqb m n) (number-18 (Tick c t) ne) ∙ d
   not-counted n d Unknown c t ne = refl
 
-  module _ (x : Seen) (z : x .answer ≡ 0) (ne : x .channel .0 ≡ channel → ⊥) where
+  module _ (x : Seen) (z : seenNumber x ≡ 0) (ne : x .channel .0 ≡ channel → ⊥) where
     pub other-book : after channel (added calls (callsBy x)) ≡ here
     other-book = rw (calls-of x (kindOf (x .«msg_type»)) z refl) (book-stays (kindOf (x .«msg_type»)) (x .channel .0) (x .tick .0) ne)
 

@@ -15,12 +15,12 @@ use Rattle.month_spec.specs.Page.{Page, captures, figuresInAll, highest,
 -- ======== Starting: "at the start 10, 22 and 21 as in CR 3"
 
 -- the channels named so far as CR 3's open ones
-abbrev pub tableOf : List ℕ → Table
-tableOf cs = record { place = λ i. pick (ltb i (length cs)) (holds (fresh (getD cs i 0))) free; last = 31 }
+abbrev pub tableNaming : List ℕ → Table
+tableNaming cs = record { place = λ i. pick (ltb i (length cs)) (holds (fresh (getD cs i 0))) free; last = 31 }
 
 -- what one more channel is answered
 abbrev pub namingNumber : List ℕ → ℕ → ℕ
-namingNumber cs channel = openingNumber (tableOf cs) channel
+namingNumber cs channel = openingNumber (tableNaming cs) channel
 
 -- channel by channel in the order given: the first one refused answers
 unfoldable pub startFrom : List ℕ → List ℕ → ℕ

@@ -19,11 +19,9 @@ use Rattle.octets.specs.Papers.{writtenPaper}
 use Rattle.terms.specs.declared.Verdict.{Verdict}
 use Rattle.terms.specs.declared.Verdict.the-variants as verdict
 use Rattle.terms.specs.Verdicts.{verdictNumber}
-use Rattle.frame_spec.specs.Frame.{readOf}
 use Rattle.frame_spec.specs.Given.{Reads}
-use Rattle.frame_spec.specs.GivenRead.{read-given}
-use Rattle.reading.specs.Seen.{seenOf}
-use Rattle.reading.specs.SeenLaws.{seen-answer}
+use Rattle.reading.specs.declared.Seen.{Seen}
+use Rattle.reading.specs.Seen.{seenNumber}
 use Rattle.frame.specs.declared.Read.{Read}
 use Rattle.frame.specs.declared.Read.the-variants as read
 use Rattle.frame.specs.declared.Found.{Found}
@@ -262,9 +260,10 @@ offers-answers =
     let offer-one-answer = walk_step.offer-one-answer in
     named
 
--- walk_step: the table of records
+-- walk_step: the table of records, and the next reading
 table-answers : Named
 table-answers =
+    let onward-one-answer = walk_step.onward-one-answer in
     let made-one-answer = walk_step.made-one-answer in
     let note-one-answer = walk_step.note-one-answer in
     named
@@ -581,7 +580,7 @@ pub verdict-numbered : (x : Verdict) → Numbered (verdictNumber x)
 verdict-numbered verdict.Fine = done refl
 verdict-numbered (verdict.Refused w) = refused (refusal-in-table w)
 
--- what the walk sees at a place has reading's number
+-- what is seen at a place has reading's number, and what is made by hand one of the table
 pub reads-numbered : (n : ℕ) (s : List ℕ) → Reads n s → Numbered n
 unfolding inTable
 reads-numbered zero s h = done refl
@@ -594,8 +593,8 @@ reads-numbered (suc (suc (suc (suc (suc (suc zero)))))) s h = refused refl
 reads-numbered (suc (suc (suc (suc (suc (suc (suc zero))))))) s h = refused refl
 reads-numbered (suc (suc (suc (suc (suc (suc (suc (suc n)))))))) s h = absurd h
 
-pub seen-numbered : (s : List ℕ) → Numbered (seenOf s .answer)
-seen-numbered s = rw (seen-answer s) (reads-numbered (readOf s .number) s (read-given (readOf s .number) s .0 refl))
+pub seen-numbered : (x : Seen) → Numbered (seenNumber x)
+seen-numbered x = verdict-numbered (x .answer)
 
 -- opening, announcing, the counts, the walk, and cleaning
 pub plain-numbered : (x : Answer) → Numbered (paperOf x .number)

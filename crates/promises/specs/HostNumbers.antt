@@ -29,8 +29,13 @@ use Rattle.frame_spec.specs.Lowest.{search-given-9, search-given-0}
 use Rattle.entries.specs.Reader.{openOf, stands, entryAt, stepOf}
 use Rattle.private.specs.Scrub.{scrubAnswer}
 use Rattle.ledger_spec.specs.State.{Book, largest, has, soundOf}
-use Rattle.ledger_spec.specs.Calls.{Call, Tick, Announce, Request, Reply, Ask, Missing, Held, Between, Renew, tickNumber, replyStatus, isPending, startsAt, elsewhere, ownNumber, checkedOf, numberTo, answerTo, openNumber}
+use Rattle.ledger_spec.specs.Calls.{Call, Tick, Announce, Request, Reply, Ask, Missing, Held, Between, Renew, tickNumber, replyStatus, isPending, startsAt, elsewhere, ownNumber, checkedOf, numberTo, answerTo, nextOf, openNumber}
+use Rattle.reading.specs.Seen.{seenNumber}
+use Rattle.ledger.specs.State.{bookOf}
+use Rattle.walk_spec.specs.Offers.{callsBy, offering, offerOf}
 use Rattle.walk_spec.specs.Walk as walk
+use Rattle.walk_step.proofs.offer.Reads as offer
+use Rattle.walk_step.proofs.offer.Kinds as offer-kinds
 use Rattle.clean_spec.specs.Clean as clean
 use Rattle.stream_spec.specs.declared.Stream.{Stream}
 use Rattle.stream_spec.specs.State as stream
@@ -113,7 +118,7 @@ use Rattle.host_month.proofs.rk_month_start.Kinds as rk-month-start-kinds
 use Rattle.host_month.proofs.rk_month_add.Reads as rk-month-add
 use Rattle.host_month.proofs.rk_month_add.Kinds as rk-month-add-kinds
 use Rattle.promises.specs.Calls.{Promises}
-use Rattle.promises.specs.Demand1.{inTable, Numbered, done, refused, reads-numbered}
+use Rattle.promises.specs.Demand1.{inTable, Numbered, done, refused, reads-numbered, seen-numbered}
 
 -- a choice between two
 
@@ -197,6 +202,16 @@ unfolding answerTo numberTo checkedOf inTable
 calling b call =
     picked (not (soundOf b)) 13 (pick (elsewhere b call) 18 (ownNumber b call)) (refused refl)
     (picked (elsewhere b call) 18 (ownNumber b call) (refused refl) (own b call))
+
+-- offers: of every reading, also of one made by hand
+offered : (b : Book) (n : ℕ) (calls : List Call) → Numbered n → Numbered (offering b n calls .number)
+unfolding offering answerTo
+offered b n [] h = h
+offered b n (call ∷ calls) h = offered (nextOf b call) (numberTo b call) calls (calling b call)
+
+pub offer-numbered : Promises _ offer-kinds.ps offer-kinds.r offer.Post (λ κs a x s. Numbered (x .answer))
+unfolding offerOf
+offer-numbered κs a x s p = rw (p .0) (offered (bookOf (a .0)) (seenNumber (a .1 .0)) (callsBy (a .1 .0)) (seen-numbered (a .1 .0)))
 
 -- EACH PAPER OF THE HOST
 

@@ -6,6 +6,7 @@ use Rattle.frame.proofs.RuledOut as frame
 use Rattle.scrub.proofs.RuledOut as scrub
 use Rattle.ledger.proofs.RuledOut as ledger
 use Rattle.walk.proofs.RuledOut as walk
+use Rattle.walk_step.proofs.RuledOut as walk_step
 use Rattle.reading.proofs.RuledOut as reading
 
 data Cited : Type 0 where
@@ -46,7 +47,7 @@ replies = let Ledger-reply-rules-out = ledger.Ledger-reply-rules-out in cited
 
 -- steps by a damaged BodyLength: the frame behind it is read
 steps : Cited
-steps = let walk-rules-out = walk.walk-rules-out in cited
+steps = let onward-rules-out = walk_step.onward-rules-out in let walk-rules-out = walk.walk-rules-out in cited
 
 -- a refused frame's first bytes in its record: what is seen of it has four spaces for a type
 copies : Cited

@@ -27,7 +27,7 @@ use Rattle.stream_spec.specs.declared.Stream.{Stream}
 use Rattle.stream_spec.specs.State.{valueOf, opened}
 use Rattle.stream_spec.specs.Calls.{Call, Feed, Close, cutOf, closes, numberFor, numberTo, nextFor, nextOf}
 use Rattle.stream_spec.specs.Trace.{Calls, none, _▸_, Asked, after, accepted, taken, ended, Row}
-use Rattle.stream_spec.specs.Words.{waitAt, answered}
+use Rattle.stream_spec.specs.Words.{waitAt, numberTold}
 use Rattle.stream_spec.proofs.Cuttings.{every-cutting, closing-call}
 
 -- what one more call decides
@@ -114,11 +114,11 @@ module _ (calls : Calls) (a : Asked) (ih : Cleans calls) where
         }
 
   module _ (t : accepted calls a ≡ true) where
-    number-0 : answered calls (a .call) (a .room) ≡ 0
+    number-0 : numberTold calls (a .call) (a .room) ≡ 0
     number-0 = sym (every-cutting calls .numbers (a .call) (a .room)) ∙ eqb-true _ 0 t
 
-    late : ended calls ≡ true → answered calls (a .call) (a .room) ≡ 19
-    unfolding answered
+    late : ended calls ≡ true → numberTold calls (a .call) (a .room) ≡ 19
+    unfolding numberTold
     late e = rw e
 
     unended : ended calls ≡ false

@@ -7,6 +7,7 @@ use mathlib.Core.List.{List, [], _∷_, _++_}
 use lib.Dec.{ltb}
 use lib.ListN.{length, getD, replicate}
 use Rattle.octets.specs.Octets.{numeral, digitsOf, bytesOf, sum8, sumOf, laid}
+use Rattle.terms.specs.Refusals.{refusalOf}
 use Rattle.calendar.specs.Calendar.{leap, daysIn, realParts, realTime}
 use Rattle.rules.specs.Table.{kindOf, suits, measureOf}
 use Rattle.rules.specs.Fields.{layoutOf, suitsTail, tailOk, s001Ok, s002Ok, p002Ok, m201Ok, fieldsOk, judgeOf}
@@ -104,5 +105,5 @@ pub damaged-differs :
     SameButPrivate (inside.frameOf 0x4D named 0x7B) (inside.frameOf 0x4D (replicate 32 0x20) 0xDF)
     × ((cleanOf (inside.frameOf 0x4E named 0x7B) ≡ heartbeat) × (cleanOf (inside.frameOf 0x4E (replicate 32 0x20) 0xDF) ≡ []))
     × ((framesOf (sights (inside.frameOf 0x4E named 0x7B)) ≡ 1) × (framesOf (sights (inside.frameOf 0x4E (replicate 32 0x20) 0xDF)) ≡ 0))
-unfolding fixedPart orderTail frameA startOfA cleanOf framesIn foundIn foundBy accepts framesOf sightsOf noted found next after seenOf saysOf readOf checked bodyRead viewOf numeral digitsOf sum8 sumOf laid painted summed scrubbed joined eachOf kindOf suits measureOf layoutOf suitsTail tailOk tailOf m201Ok fieldsOk realTime realParts daysIn leap judgeOf
+unfolding fixedPart orderTail frameA startOfA cleanOf framesIn foundIn foundBy accepts framesOf sightsOf noted found next after refusalOf seenOf saysOf readOf checked bodyRead viewOf numeral digitsOf sum8 sumOf laid painted summed scrubbed joined eachOf kindOf suits measureOf layoutOf suitsTail tailOk tailOf m201Ok fieldsOk realTime realParts daysIn leap judgeOf
 damaged-differs = (only-private-hidden _ _ refl refl refl refl refl, (inside-damaged, refl), (refl, refl))

@@ -6,6 +6,7 @@ use mathlib.Core.List.{List, [], _∷_, _++_}
 use denote.Ref.{now}
 use lib.ListN.{drop, replicate}
 use Rattle.terms.specs.RuledOut.{Row, _never_, _only_, Kept, RulesOut, ruled, lists}
+use Rattle.terms.specs.Refusals.{refusalOf}
 use Rattle.octets.specs.Octets.{numeral, digitsOf, sum8, sumOf}
 use Rattle.calendar.specs.Calendar.{leap, daysIn, realParts, realTime}
 use Rattle.rules.specs.Table.{kindOf, suits, measureOf}
@@ -15,14 +16,14 @@ use Rattle.frame_spec.specs.Write.{plainOf, frameOf}
 use Rattle.frame_spec.specs.Examples.{resend}
 use Rattle.frame_view.specs.View.{viewOf}
 use Rattle.reading.specs.declared.Seen.{Seen}
-use Rattle.reading.specs.Seen.{seenOf}
+use Rattle.reading.specs.Seen.{seenOf, seenNumber}
 use Rattle.reading.proofs.see.Reads as see
 use Rattle.reading.proofs.see.Kinds as see-kinds
 
 -- all that is seen: answer, MsgType, MsgSeqNum, channel, tick number, resend status,
 -- BodyLength, length
 abbrev shown : Seen → List ℕ
-shown x = x .answer ∷ x .«msg_type» ∷ x .seq .0 ∷ x .channel .0 ∷ x .tick .0 ∷ x .status ∷ x .«body_len» ∷ x .size ∷ []
+shown x = seenNumber x ∷ x .«msg_type» ∷ x .seq .0 ∷ x .channel .0 ∷ x .tick .0 ∷ x .status ∷ x .«body_len» ∷ x .size ∷ []
 
 -- bytes and a place
 abbrev pub see-wrong : List (Row (List ℕ × ℕ) (List ℕ))
@@ -33,5 +34,5 @@ see-wrong =
     ∷ []
 
 pub see-rules-out : RulesOut (Kept _ see-kinds.ps see-kinds.r see.Post) (λ c. (now (c .args .0), c .args .1 .0)) (λ c. shown (c .result)) see-wrong
-unfolding plainOf frameOf checked readOf bodyRead numeral digitsOf sum8 sumOf kindOf suits measureOf p002Ok fieldsOk realTime realParts daysIn leap judgeOf viewOf seenOf
+unfolding plainOf frameOf checked readOf bodyRead numeral digitsOf sum8 sumOf kindOf suits measureOf p002Ok fieldsOk realTime realParts daysIn leap judgeOf viewOf refusalOf seenOf
 see-rules-out = ruled lists (λ (i : List ℕ × ℕ). shown (seenOf (drop (i .1) (i .0)))) (λ c p. ap shown p) _ refl

@@ -6,6 +6,10 @@ use lib.Dec.{eqb}
 use Rattle.terms.specs.Paper.{pick}
 use Rattle.terms.specs.Counters.{sessionOf, tickOf, channelOf}
 use Rattle.terms.specs.Letters.{spelled}
+use Rattle.terms.specs.Refusals.{refusalOf}
+use Rattle.terms.specs.Verdicts.{verdictNumber}
+use Rattle.terms.specs.declared.Refusal.{Refusal}
+use Rattle.terms.specs.declared.Verdict.the-variants.{Fine, Refused}
 use Rattle.rules.specs.Table.{kindOf}
 use Rattle.frame_view.specs.declared.View.{View}
 use Rattle.frame_spec.specs.Frame.{msgType, msgSeqNum, bodyLength, readOf, reads, bodyRead}
@@ -17,7 +21,7 @@ use Rattle.reading.specs.declared.Seen.{Seen}
 abbrev pub shown : List ℕ → View → Seen
 shown s v =
     record {
-      answer = 0;
+      answer = Fine;
       «msg_type» = msgType s;
       seq = sessionOf (msgSeqNum s);
       channel = v .channel;
@@ -29,10 +33,10 @@ shown s v =
 
 -- what is seen where reading answered 1 to 7: four spaces for the type, the answer, else 0
 -- (document 01, Records, paragraph 1; 7 by CR 6)
-abbrev pub blank : ℕ → Seen
-blank number =
+abbrev pub blank : Refusal → Seen
+blank why =
     record {
-      answer = number;
+      answer = Refused why;
       «msg_type» = spelled "    ";
       seq = sessionOf 0;
       channel = channelOf 0;
@@ -44,8 +48,12 @@ blank number =
 
 -- the reading of the bytes at the front of s
 unfoldable pub seenOf : List ℕ → Seen
-seenOf s = pick (reads s) (shown s (viewOf (kindOf (msgType s)) (bodyRead s))) (blank (readOf s .number))
+seenOf s = pick (reads s) (shown s (viewOf (kindOf (msgType s)) (bodyRead s))) (blank (refusalOf (readOf s .number)))
+
+-- its answer in document 01's numbers: 0, or the refusal's
+abbrev pub seenNumber : Seen → ℕ
+seenNumber x = verdictNumber (x .answer)
 
 -- what it says to the walk: a frame of so many bytes, bytes are missing (1), or no frame
 unfoldable pub saysOf : Seen → Says
-saysOf x = pick (eqb (x .answer) 0) (frame (x .size)) (pick (eqb (x .answer) 1) more bad)
+saysOf x = pick (eqb (seenNumber x) 0) (frame (x .size)) (pick (eqb (seenNumber x) 1) more bad)

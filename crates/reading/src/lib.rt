@@ -4,13 +4,15 @@ ghost use lib.ListN.{drop};
 ghost use Rattle.reading.specs.Seen.{blank, seenOf};
 use frame::Read;
 use terms::ChannelNumber;
+use terms::Refusal;
 use terms::SessionNumber;
 use terms::TickNumber;
+use terms::Verdict;
 
-// All that a reading tells the layers above, and nothing private. A refused reading shows its
-// number alone: four spaces, and zeros. size is the frame's length, 0 where none was read.
+// All that a reading tells the layers above, and nothing private. A refused reading shows why, and
+// else four spaces and zeros. size is the frame's length, 0 where none was read.
 pub struct Seen {
-    pub answer: u32,
+    pub answer: Verdict,
     pub msg_type: u32,
     pub seq: SessionNumber,
     pub channel: ChannelNumber,
@@ -20,12 +22,12 @@ pub struct Seen {
     pub size: usize,
 }
 
-// A refused reading: its number, four spaces, and zeros. No byte of it is handed on.
-fn blank(answer: u32) -> Seen
-    ensures { λ r. ⌜ r ≡ blank answer ⌝ }
+// A refused reading: why, four spaces, and zeros. No byte of it is handed on.
+fn blank(why: Refusal) -> Seen
+    ensures { λ r. ⌜ r ≡ blank why ⌝ }
 {
     Seen {
-        answer,
+        answer: Verdict::Refused(why),
         msg_type: 0x20202020,
         seq: SessionNumber::new(0),
         channel: ChannelNumber::new(0),
@@ -41,7 +43,7 @@ pub fn see(bytes: &[u8], at: usize) -> Seen
     ensures { λ r. ⌜ r ≡ seenOf (drop at (now (bytes .entry))) ⌝ }
 {
     match frame::read_at(bytes, at) {
-        Read::Refused(why) => blank(why.number()),
+        Read::Refused(why) => blank(why),
         Read::Frame {
             msg_type,
             sending_time: _,
@@ -56,7 +58,7 @@ pub fn see(bytes: &[u8], at: usize) -> Seen
             let length = body_len as u32;
             let size = 28 + body_len;
             Seen {
-                answer: 0,
+                answer: Verdict::Fine,
                 msg_type,
                 seq,
                 channel,

@@ -104,11 +104,11 @@ module _ (s : List ℕ) (z : stepReadOf s .number ≡ 0) where
 
 -- two frames that agree in type, in what follows them, and in all but private values of one length;
 -- their sums may differ
-pub record Alike (s t : List ℕ) : Type 0 where
+pub record StepAlike (s t : List ℕ) : Type 0 where
   pub types : kind s ≡ kind t
   pub fields-are : AlikeFields (pieces (fields s)) (pieces (fields t))
   pub rests : drop (frameLength s) s ≡ drop (frameLength t) t
 
-pub step-alike : (s t : List ℕ) → Alike s t → scrubbedOf s ≡ scrubbedOf t
+pub step-alike : (s t : List ℕ) → StepAlike s t → scrubbedOf s ≡ scrubbedOf t
 unfolding painted
 step-alike s t a = anew s t (a .types) (ap joined (alike-painted (pieces (fields s)) (pieces (fields t)) (a .fields-are))) (a .rests)

@@ -7,6 +7,7 @@ use mathlib.Core.List.{List, [], _∷_, _++_}
 use denote.Ref.{now}
 use lib.ListN.{length, take, drop, replicate}
 use Rattle.terms.specs.Paper.{Paper, answer, pick}
+use Rattle.terms.specs.Refusals.{refusalOf}
 use Rattle.terms.specs.Counters.{sessionOf, tickOf, channelOf}
 use Rattle.terms.specs.RuledOut.{Row, _never_, _only_, Kept, RulesOut, ruled, lists, papers, beside}
 use Rattle.octets.specs.Octets.{numeral, digitsOf, laid, sum8, sumOf}
@@ -106,7 +107,7 @@ may-take-wrong =
     ∷ []
 
 pub may-take-rules-out : RulesOut (Kept _ may-take-kinds.ps may-take-kinds.r may-take.Post) (λ c. (c .args .0, c .args .1 .0)) (λ c. answer (verdictNumber (c .result)) []) may-take-wrong
-unfolding frameA startOfA frameB checked readOf bodyRead numeral digitsOf laid sum8 sumOf kindOf suits measureOf p001Ok fieldsOk realTime realParts daysIn leap judgeOf viewOf Bits.valueOf Bits.mapOf rotated rangeRules mapRules soundOf Book.ownNumber Book.checkedOf Book.numberTo Book.raised Book.done Book.nextOf Book.fresh bookOf ledgerOf after next found noted joined eachOf Account.accountOf firstHalf secondHalf recordOf blankOf seenOf saysOf callsBy offering offerOf madeOf recordBy bookBy accepts refuses
+unfolding frameA startOfA frameB checked readOf bodyRead numeral digitsOf laid sum8 sumOf kindOf suits measureOf p001Ok fieldsOk realTime realParts daysIn leap judgeOf viewOf Bits.valueOf Bits.mapOf rotated rangeRules mapRules soundOf Book.ownNumber Book.checkedOf Book.numberTo Book.raised Book.done Book.nextOf Book.fresh bookOf ledgerOf after next found noted joined eachOf Account.accountOf firstHalf secondHalf recordOf blankOf refusalOf seenOf saysOf callsBy offering offerOf madeOf recordBy bookBy accepts refuses
     opened State.headOf State.isSeeking State.meantBy State.valueOf State.allZero State.waitsRight State.soundOf Tally.tallyWith Tally.recordAt Tally.tallyAfter Tally.ledgerRight Tally.tallyRight Calls.mayTake Calls.givenOf Calls.behindOf Calls.numberFor Calls.answerFor Calls.nextFor Calls.leavesFor Cuts.feedOf Waits.waits Waits.ranOf
 may-take-rules-out = ruled papers (λ (i : Stream × ℕ). answer (Calls.mayTake (i .0) (i .1)) []) (λ c p. ap (λ (n : ℕ). answer n []) p) _ refl
 
@@ -128,7 +129,7 @@ feed-wrong =
     ∷ []
 
 pub feed-rules-out : RulesOut (Kept _ feed-kinds.ps feed-kinds.r feed.Post) (λ c. (c .args .0, (now (c .args .1 .0), now (c .args .1 .1 .0)))) (λ c. shown (fedPaper (c .result)) (c .result .stream) (now (c .exit .1 .1 .0))) feed-wrong
-unfolding frameA startOfA frameB plainOf frameOf checked readOf bodyRead numeral digitsOf laid sum8 sumOf kindOf suits measureOf p001Ok fieldsOk realTime realParts daysIn leap judgeOf viewOf Bits.valueOf Bits.mapOf rotated rangeRules mapRules soundOf Book.ownNumber Book.checkedOf Book.numberTo Book.raised Book.done Book.nextOf Book.fresh bookOf ledgerOf after next found noted joined eachOf Account.accountOf firstHalf secondHalf recordOf blankOf seenOf saysOf callsBy offering offerOf madeOf recordBy bookBy accepts refuses
+unfolding frameA startOfA frameB plainOf frameOf checked readOf bodyRead numeral digitsOf laid sum8 sumOf kindOf suits measureOf p001Ok fieldsOk realTime realParts daysIn leap judgeOf viewOf Bits.valueOf Bits.mapOf rotated rangeRules mapRules soundOf Book.ownNumber Book.checkedOf Book.numberTo Book.raised Book.done Book.nextOf Book.fresh bookOf ledgerOf after next found noted joined eachOf Account.accountOf firstHalf secondHalf recordOf blankOf refusalOf seenOf saysOf callsBy offering offerOf madeOf recordBy bookBy accepts refuses
     opened State.headOf State.isSeeking State.meantBy State.valueOf State.allZero State.waitsRight State.soundOf Tally.tallyWith Tally.recordAt Tally.tallyAfter Tally.ledgerRight Tally.tallyRight Calls.givenOf Calls.behindOf Calls.numberFor Calls.answerFor Calls.nextFor Calls.leavesFor Cuts.feedOf Waits.waits Waits.ranOf
 feed-rules-out =
     ruled (beside papers (beside lists lists)) (λ (i : Stream × (List ℕ × List ℕ)). shown (answerTo (i .0) (Feed (i .1 .0)) (length (i .1 .1))) (nextOf (i .0) (Feed (i .1 .0)) (length (i .1 .1))) (leaves (i .0) (Feed (i .1 .0)) (i .1 .1)))
@@ -146,7 +147,7 @@ close-wrong =
     ∷ []
 
 pub close-rules-out : RulesOut (Kept _ close-kinds.ps close-kinds.r close.Post) (λ c. (c .args .0, now (c .args .1 .0))) (λ c. shown (fedPaper (c .result)) (c .result .stream) (now (c .exit .1 .0))) close-wrong
-unfolding frameA startOfA frameB checked readOf bodyRead numeral digitsOf laid sum8 sumOf kindOf suits measureOf p001Ok fieldsOk realTime realParts daysIn leap judgeOf viewOf Bits.valueOf Bits.mapOf rotated rangeRules mapRules soundOf Book.ownNumber Book.checkedOf Book.numberTo Book.raised Book.done Book.nextOf Book.fresh bookOf ledgerOf after next found noted joined eachOf Account.accountOf firstHalf secondHalf recordOf blankOf seenOf saysOf callsBy offering offerOf madeOf recordBy bookBy accepts refuses
+unfolding frameA startOfA frameB checked readOf bodyRead numeral digitsOf laid sum8 sumOf kindOf suits measureOf p001Ok fieldsOk realTime realParts daysIn leap judgeOf viewOf Bits.valueOf Bits.mapOf rotated rangeRules mapRules soundOf Book.ownNumber Book.checkedOf Book.numberTo Book.raised Book.done Book.nextOf Book.fresh bookOf ledgerOf after next found noted joined eachOf Account.accountOf firstHalf secondHalf recordOf blankOf refusalOf seenOf saysOf callsBy offering offerOf madeOf recordBy bookBy accepts refuses
     opened State.headOf State.isSeeking State.meantBy State.valueOf State.allZero State.waitsRight State.soundOf Tally.tallyWith Tally.recordAt Tally.tallyAfter Tally.ledgerRight Tally.tallyRight Calls.givenOf Calls.behindOf Calls.numberFor Calls.answerFor Calls.nextFor Calls.leavesFor Cuts.feedOf Waits.waits Waits.ranOf
 close-rules-out =
     ruled (beside papers (beside lists lists)) (λ (i : Stream × List ℕ). shown (answerTo (i .0) Close (length (i .1))) (nextOf (i .0) Close (length (i .1))) (leaves (i .0) Close (i .1)))

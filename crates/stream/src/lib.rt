@@ -55,7 +55,8 @@ fn passes(seeking: bool, answer: u32) -> bool
 fn stride(seen: Seen) -> usize
     ensures { λ r. ⌜ r ≡ strideOf seen ⌝ }
 {
-    if seen.answer == 0 { seen.size } else { 1 }
+    let verdict = seen.answer;
+    if verdict.number() == 0 { seen.size } else { 1 }
 }
 
 // One reading more, and the ledger after it.
@@ -97,7 +98,8 @@ fn run(
     let mut tally = start;
     while p < w.len() {
         let seen = reading::see(w, p);
-        let answer = seen.answer;
+        let verdict = seen.answer;
+        let answer = verdict.number();
         if waits(closing, answer) {
             break;
         }
@@ -280,7 +282,8 @@ fn sound(st: Stream) -> bool
         return false;
     }
     let seen = reading::see(&held[..n], 0);
-    seen.answer == 1
+    let verdict = seen.answer;
+    verdict.number() == 1
 }
 
 // What goes before the room of a call that brings so many bytes: 13, 19, 29, or nothing.

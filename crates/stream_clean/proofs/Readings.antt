@@ -21,7 +21,7 @@ use Rattle.private.specs.Into.{intoAnswer, intoLeaves}
 use Rattle.private.specs.IntoLaws.{into-room, into-laid, into-kept, into-given-0}
 use Rattle.clean_spec.specs.Turns.{scrubbed-none, size-inside}
 use Rattle.reading.specs.declared.Seen.{Seen}
-use Rattle.reading.specs.Seen.{seenOf}
+use Rattle.reading.specs.Seen.{seenOf, seenNumber}
 use Rattle.reading.specs.SeenLaws.{seen-frame, seen-answer, seen-size, seen-blank}
 use Rattle.walk_spec.specs.Walk.{accepts}
 use Rattle.stream_spec.specs.Run.{waitsAt, passedOver, strideOf}
@@ -65,7 +65,7 @@ module _ (s : List ℕ) (n len size : ℕ) (e : answer 0 (size ∷ []) ≡ intoA
       rw (seen-answer s ∙ done, seen-size s done, t, long, v)
 
 -- one that was read otherwise
-pub seen-taken : (s : List ℕ) (x : Seen) (u : ℕ) → x ≡ seenOf s → u ≡ unjudgedBy (x .«msg_type») → _≡_ {A = Taken} (record { answer = x .answer; size = x .size; unjudged = u }) (takenOf (seenOf s))
+pub seen-taken : (s : List ℕ) (x : Seen) (u : ℕ) → x ≡ seenOf s → u ≡ unjudgedBy (x .«msg_type») → _≡_ {A = Taken} (record { answer = seenNumber x; size = x .size; unjudged = u }) (takenOf (seenOf s))
 seen-taken s x u e v = rw (v, e)
 
 -- WHAT IS COUNTED
@@ -84,7 +84,7 @@ module _ (s : Sums) (n u : ℕ) where
   added-read b a z f = simp (f, z, add-zero)
 
 -- a refused reading lays nothing
-pub none-laid : (s : List ℕ) (n : ℕ) (d d′ : List ℕ) → (seenOf s .answer ≡ 0 → ⊥) → d′ ≡ laidIfRoom n (scrubbed (take (seenOf s .size) s)) d → d′ ≡ d
+pub none-laid : (s : List ℕ) (n : ℕ) (d d′ : List ℕ) → (seenNumber (seenOf s) ≡ 0 → ⊥) → d′ ≡ laidIfRoom n (scrubbed (take (seenOf s .size) s)) d → d′ ≡ d
 none-laid s n d d′ ne e =
     let none : seenOf s .size ≡ 0 = ap (λ (y : Seen). y .size) (seen-blank s (λ (z : readOf s .number ≡ 0). ne (seen-answer s ∙ z))) in
     e ∙ ap (λ (m : ℕ). laidIfRoom n (scrubbed (take m s)) d) none ∙ ap (λ (l : List ℕ). laidIfRoom n l d) scrubbed-none ∙ sym (nothing-laid n d)
@@ -94,11 +94,11 @@ unfolding waitsAt
 waits-refused true a e z = clash e refl
 waits-refused false a e z = omega (arith, eqb-true a 1 e)
 
-pub wait-laid : (closing : Bool) (s : List ℕ) (n : ℕ) (d d′ : List ℕ) → waitsAt closing (seenOf s .answer) ≡ true → d′ ≡ laidIfRoom n (scrubbed (take (seenOf s .size) s)) d → d′ ≡ d
-wait-laid closing s n d d′ w e = none-laid s n d d′ (waits-refused closing (seenOf s .answer) w) e
+pub wait-laid : (closing : Bool) (s : List ℕ) (n : ℕ) (d d′ : List ℕ) → waitsAt closing (seenNumber (seenOf s)) ≡ true → d′ ≡ laidIfRoom n (scrubbed (take (seenOf s .size) s)) d → d′ ≡ d
+wait-laid closing s n d d′ w e = none-laid s n d d′ (waits-refused closing (seenNumber (seenOf s)) w) e
 
-pub pass-laid : (seeking : Bool) (s : List ℕ) (n : ℕ) (d d′ : List ℕ) → passedOver seeking (seenOf s .answer) ≡ true → d′ ≡ laidIfRoom n (scrubbed (take (seenOf s .size) s)) d → d′ ≡ d
-pass-laid seeking s n d d′ w e = none-laid s n d d′ (passed seeking (seenOf s .answer) w .1) e
+pub pass-laid : (seeking : Bool) (s : List ℕ) (n : ℕ) (d d′ : List ℕ) → passedOver seeking (seenNumber (seenOf s)) ≡ true → d′ ≡ laidIfRoom n (scrubbed (take (seenOf s .size) s)) d → d′ ≡ d
+pass-laid seeking s n d d′ w e = none-laid s n d d′ (passed seeking (seenNumber (seenOf s)) w .1) e
 
 -- how far it goes
 pub stride-is : (t : Taken) (x : Seen) → t ≡ takenOf x → strideBy t ≡ strideOf x

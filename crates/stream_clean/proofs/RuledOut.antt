@@ -6,6 +6,7 @@ use mathlib.Core.List.{List, [], _∷_, _++_}
 use denote.Ref.{now}
 use lib.ListN.{length, take, drop, replicate}
 use Rattle.terms.specs.Paper.{Paper, answer}
+use Rattle.terms.specs.Refusals.{refusalOf}
 use Rattle.terms.specs.RuledOut.{Row, _never_, _only_, Kept, RulesOut, ruled, lists, papers, beside}
 use Rattle.octets.specs.Octets.{numeral, digitsOf, laid, sum8, sumOf}
 use Rattle.octets.specs.Papers.{laidIfRoom}
@@ -90,7 +91,7 @@ clean-cut-wrong =
     ∷ []
 
 pub clean-cut-rules-out : RulesOut (Kept _ clean-cut-kinds.ps clean-cut-kinds.r clean-cut.Post) (λ c. (c .args .0, (now (c .args .1 .0), now (c .args .1 .1 .0)))) (λ c. shown (washedPaper (c .result)) (c .result .stream) (now (c .exit .1 .1 .0))) clean-cut-wrong
-unfolding plainOf frameOf checked readOf bodyRead numeral digitsOf laid laidIfRoom sum8 sumOf kindOf suits measureOf p002Ok fieldsOk realTime realParts daysIn leap judgeOf viewOf painted summed scrubbed Bits.valueOf Bits.mapOf rotated rangeRules mapRules soundOf Book.ownNumber Book.checkedOf Book.numberTo Book.raised Book.done Book.nextOf Book.fresh bookOf ledgerOf after next found noted joined eachOf Account.accountOf seenOf saysOf callsBy offering offerOf madeOf recordBy bookBy accepts refuses
+unfolding plainOf frameOf checked readOf bodyRead numeral digitsOf laid laidIfRoom sum8 sumOf kindOf suits measureOf p002Ok fieldsOk realTime realParts daysIn leap judgeOf viewOf painted summed scrubbed Bits.valueOf Bits.mapOf rotated rangeRules mapRules soundOf Book.ownNumber Book.checkedOf Book.numberTo Book.raised Book.done Book.nextOf Book.fresh bookOf ledgerOf after next found noted joined eachOf Account.accountOf refusalOf seenOf saysOf callsBy offering offerOf madeOf recordBy bookBy accepts refuses
     opened State.headOf State.isSeeking State.meantBy State.valueOf State.allZero State.waitsRight State.soundOf Tally.tallyWith Tally.recordAt Tally.tallyAfter Tally.ledgerRight Tally.tallyRight Plain.behindOf Plain.mayTake Cuts.feedOf Waits.waits Waits.ranOf Wash.washed Wash.unjudgedBy Wash.plus Wash.oneOf Wash.sumsOf Wash.lays Calls.readsFor Calls.washBehind Calls.numberFor Calls.answerFor Calls.nextFor Calls.leavesFor
 clean-cut-rules-out =
     ruled (beside papers (beside lists lists)) (λ (i : Stream × (List ℕ × List ℕ)). shown (answerTo (i .0) (Feed (i .1 .0)) (length (i .1 .1))) (nextOf (i .0) (Feed (i .1 .0)) (length (i .1 .1))) (leaves (i .0) (Feed (i .1 .0)) (i .1 .1)))
@@ -108,7 +109,7 @@ clean-end-wrong =
     ∷ []
 
 pub clean-end-rules-out : RulesOut (Kept _ clean-end-kinds.ps clean-end-kinds.r clean-end.Post) (λ c. (c .args .0, now (c .args .1 .0))) (λ c. shown (washedPaper (c .result)) (c .result .stream) (now (c .exit .1 .0))) clean-end-wrong
-unfolding plainOf frameOf checked readOf bodyRead numeral digitsOf laid laidIfRoom sum8 sumOf kindOf suits measureOf p002Ok fieldsOk realTime realParts daysIn leap judgeOf viewOf painted summed scrubbed Bits.valueOf Bits.mapOf rotated rangeRules mapRules soundOf Book.ownNumber Book.checkedOf Book.numberTo Book.raised Book.done Book.nextOf Book.fresh bookOf ledgerOf after next found noted joined eachOf Account.accountOf seenOf saysOf callsBy offering offerOf madeOf recordBy bookBy accepts refuses
+unfolding plainOf frameOf checked readOf bodyRead numeral digitsOf laid laidIfRoom sum8 sumOf kindOf suits measureOf p002Ok fieldsOk realTime realParts daysIn leap judgeOf viewOf painted summed scrubbed Bits.valueOf Bits.mapOf rotated rangeRules mapRules soundOf Book.ownNumber Book.checkedOf Book.numberTo Book.raised Book.done Book.nextOf Book.fresh bookOf ledgerOf after next found noted joined eachOf Account.accountOf refusalOf seenOf saysOf callsBy offering offerOf madeOf recordBy bookBy accepts refuses
     opened State.headOf State.isSeeking State.meantBy State.valueOf State.allZero State.waitsRight State.soundOf Tally.tallyWith Tally.recordAt Tally.tallyAfter Tally.ledgerRight Tally.tallyRight Plain.behindOf Plain.mayTake Cuts.feedOf Waits.waits Waits.ranOf Wash.washed Wash.unjudgedBy Wash.plus Wash.oneOf Wash.sumsOf Wash.lays Calls.readsFor Calls.washBehind Calls.numberFor Calls.answerFor Calls.nextFor Calls.leavesFor
 clean-end-rules-out =
     ruled (beside papers (beside lists lists)) (λ (i : Stream × List ℕ). shown (answerTo (i .0) Close (length (i .1))) (nextOf (i .0) Close (length (i .1))) (leaves (i .0) Close (i .1)))

@@ -68,8 +68,9 @@ fn take_in(w: &[u8], p: usize, out: &mut [u8], n: usize) -> Taken
         },
         Written::Refused(_) => {
             let seen = reading::see(w, p);
+            let verdict = seen.answer;
             Taken {
-                answer: seen.answer,
+                answer: verdict.number(),
                 size: seen.size,
                 unjudged: unjudged(seen.msg_type),
             }

@@ -24,7 +24,7 @@ use Rattle.walk_laws.specs.Closing.{finalOf, final-seen, final-after, ran-below
 use Rattle.walk_laws.specs.Cuts as Cuts
 use Rattle.walk_laws.specs.Frames.{joined, eachOf}
 use Rattle.reading.specs.declared.Seen.{Seen}
-use Rattle.reading.specs.Seen.{seenOf, saysOf}
+use Rattle.reading.specs.Seen.{seenOf, seenNumber, saysOf}
 use Rattle.walk_spec.specs.Walk.{sights, accepts, framesOf}
 use Rattle.clean_spec.specs.Clean.{framesIn, cleanIn, cleanOf, foundBy, foundIn, foundOf, fitsIn, cleanAnswer}
 use Rattle.clean_spec.specs.Turns.{adds}
@@ -82,14 +82,14 @@ fresh-sound y s =
     checked-sound (withTally y freshTally) (record { few = c .few; blank = c .blank; counts = omega arith; right = o .right; places = c .places; waits = c .waits })
 
 -- THE INVARIANT: but for counts and ledger the stream is that of the calls not refused
-record Alike (calls : Calls) : Type 0 where
+record InStep (calls : Calls) : Type 0 where
   stream : after calls ≡ withTally (Trace.after (kept calls)) freshTally
   bytes : taken calls ≡ Trace.taken (kept calls)
   over : ended calls ≡ Trace.ended (kept calls)
 
-alike-start : Alike none
+in-step-start : InStep none
 unfolding kept taken ended Trace.taken Trace.ended opened valueOf
-alike-start = record { stream = refl; bytes = refl; over = refl }
+in-step-start = record { stream = refl; bytes = refl; over = refl }
 
 or-false : (b : Bool) → orElse b false ≡ b
 or-false true = refl
@@ -122,8 +122,8 @@ module _ (calls : Calls) (a : Asked) where
     unfolding counted
     counted-refused = rw (f, plus-none (counted calls))
 
-    alike-refused : Alike calls → Alike (calls ▸ a)
-    alike-refused z =
+    in-step-refused : InStep calls → InStep (calls ▸ a)
+    in-step-refused z =
         record {
           stream = after-refused ∙ z .stream ∙ ap (λ (c : Calls). withTally (Trace.after c) freshTally) (sym kept-refused);
           bytes = taken-refused ∙ z .bytes ∙ ap Trace.taken (sym kept-refused);
@@ -131,7 +131,7 @@ module _ (calls : Calls) (a : Asked) where
         }
 
   -- one that is not
-  module _ (t : accepted calls a ≡ true) (z : Alike calls) where
+  module _ (t : accepted calls a ≡ true) (z : InStep calls) where
     abbrev y : Stream
     y = Trace.after (kept calls)
 
@@ -193,8 +193,8 @@ module _ (calls : Calls) (a : Asked) where
     unfolding counted
     counted-more = rw t
 
-    alike-more : Alike (calls ▸ a)
-    alike-more =
+    in-step-more : InStep (calls ▸ a)
+    in-step-more =
         record {
           stream = after-more
               ∙ ap (λ (x : Stream). washBehind x (closes (a .call)) (cutOf (a .call))) (z .stream)
@@ -205,10 +205,10 @@ module _ (calls : Calls) (a : Asked) where
           over = ended-more ∙ sym plain-ended ∙ ap Trace.ended (sym kept-more);
         }
 
-alike : (calls : Calls) → Alike calls
-alike none = alike-start
-alike (calls ▸ a) =
-    ⊎-elim (λ (t : accepted calls a ≡ true). alike-more calls a t (alike calls)) (λ (f : accepted calls a ≡ false). alike-refused calls a f (alike calls)) (two (accepted calls a))
+in-step : (calls : Calls) → InStep calls
+in-step none = in-step-start
+in-step (calls ▸ a) =
+    ⊎-elim (λ (t : accepted calls a ≡ true). in-step-more calls a t (in-step calls)) (λ (f : accepted calls a ≡ false). in-step-refused calls a f (in-step calls)) (two (accepted calls a))
 
 -- ======== THE READINGS of the bytes taken, in one cut
 
@@ -223,7 +223,7 @@ run s = ranOf Wash.cutOf (saysBy false) (within zero) 0 s
 stands : (calls : Calls) → ended calls ≡ false → Stands (after calls) (run (taken calls))
 unfolding meantBy Cuts.feedOf
 stands calls n =
-    let z = alike calls in
+    let z = in-step calls in
     let m = stands-for (kept calls) (sym (z .over) ∙ n) in
     let r = same-run false (within zero) 0 (taken calls) in
     rw (z .stream, z .bytes)
@@ -260,7 +260,7 @@ made none = record { bytes = refl; sums = refl }
 made (calls ▸ a) =
     ⊎-elim
     (λ (t : accepted calls a ≡ true).
-    let z = alike calls in
+    let z = in-step calls in
     let n = not-ended calls a t z in
     let st = stands calls n in
     let x = after calls in
@@ -343,7 +343,7 @@ washed-is s xs (o-cons {x = x} {xs = t} e r) =
 frames-is : (b : Bool) (xs : List (Sight Cut)) → sumsOf b xs .frames ≡ framesOf (plain xs)
 unfolding sumsOf plus oneOf framesOf eachOf
 frames-is b [] = refl
-frames-is b (x ∷ xs) = ap (λ (n : ℕ). accepts (x .read .seen .answer) + n) (frames-is (seeksAfter (x .read .seen)) xs)
+frames-is b (x ∷ xs) = ap (λ (n : ℕ). accepts (seenNumber (x .read .seen)) + n) (frames-is (seeksAfter (x .read .seen)) xs)
 
 unjudged-is : (b : Bool) (xs : List (Sight Cut)) → sumsOf b xs .unjudged ≡ unjudgedOf (plain xs)
 unfolding sumsOf plus oneOf unjudgedOf eachOf
@@ -357,12 +357,12 @@ one-found false n = refl
 found-is : (before : ℕ) (xs : List (Sight Cut)) → sumsOf (not (eqb before 0)) xs .found ≡ foundIn before (plain xs)
 unfolding sumsOf plus oneOf foundIn foundBy eachOf
 found-is before [] = refl
-found-is before (x ∷ xs) = ap₂ (λ (m n : ℕ). m + n) (one-found (eqb before 0) (accepts (x .read .seen .answer))) (found-is (x .read .seen .answer) xs)
+found-is before (x ∷ xs) = ap₂ (λ (m n : ℕ). m + n) (one-found (eqb before 0) (accepts (seenNumber (x .read .seen)))) (found-is (seenNumber (x .read .seen)) xs)
 
 -- ======== THE THEOREM, for every row of calls
 pub cleaned-as-it-arrives : (calls : Calls) → Arrives calls
 cleaned-as-it-arrives calls =
-    let z = alike calls in
+    let z = in-step calls in
     let f = every-cutting (kept calls) in
     let m = made calls in
     let s = taken calls in
@@ -386,7 +386,7 @@ pub cleaned-whole : (calls : Calls) → ended calls ≡ true → Cleaned calls
 unfolding readings cleanOf cleanAnswer fitsIn
 cleaned-whole calls e =
     let a = cleaned-as-it-arrives calls in
-    let z = alike calls in
+    let z = in-step calls in
     let b : written calls ≡ cleanOf (taken calls) = a .bytes ∙ rw e in
     record {
       bytes = b;

@@ -20,12 +20,13 @@ use Rattle.walk_laws.specs.Closing.{finalOf, final-frame, final-seen, final-aft
 use Rattle.walk_laws.specs.Cuts as Cuts
 use Rattle.walk_laws.specs.Frames.{joined, eachOf, each-joined, frontOf, takenOf, acceptedOf}
 use Rattle.reading.specs.declared.Seen.{Seen}
-use Rattle.reading.specs.Seen.{seenOf, saysOf}
+use Rattle.reading.specs.Seen.{seenOf, seenNumber, saysOf}
 use Rattle.reading.specs.SeenLaws.{seen-kept, frame-says, more-says, says-frame, seen-blank, seen-answer}
 use Rattle.frame_spec.specs.Frame.{readOf}
 use Rattle.clean_spec.specs.Clean.{cleanOf}
+use Rattle.walk_spec.specs.Onward.{refused-size}
 use Rattle.clean_spec.specs.Accepted.{acceptedIn, clean-is, clean-short}
-use Rattle.clean_spec.specs.Turns.{size-inside, scrubbed-none, refused-size}
+use Rattle.clean_spec.specs.Turns.{size-inside, scrubbed-none}
 use Rattle.stream_spec.specs.declared.Stream.{Stream}
 use Rattle.stream_spec.specs.declared.Tally.{Tally}
 use Rattle.stream_spec.specs.State.{headOf, isSeeking, meantBy, valueOf}
@@ -115,7 +116,7 @@ counted-read b m p c g e ih ys =
     ∙ sym (plus-assoc (oneOf b c) (sumsOf (isSeeking m) (g .seen)) (sumsOf (isSeeking (g .mode)) ys))
     ∙ ap (λ (s : Sums). plus s (sumsOf (isSeeking (g .mode)) ys)) (sym (sums-read b (isSeeking m) p c (g .seen) e))
 
-in-answer : (closing : Bool) (x : Seen) (n : ℕ) → saysIn closing x ≡ frame n → x .answer ≡ 0
+in-answer : (closing : Bool) (x : Seen) (n : ℕ) → saysIn closing x ≡ frame n → seenNumber x ≡ 0
 in-answer true x n e = frame-says x n (final-frame (saysOf x) n e) .0
 in-answer false x n e = frame-says x n e .0
 
@@ -126,7 +127,7 @@ after-frame : (closing : Bool) (x : Seen) (n : ℕ) → saysIn closing x ≡ fra
 after-frame closing x n e = rw (in-answer closing x n e)
 
 after-bad : (closing : Bool) (x : Seen) → saysIn closing x ≡ bad → seeksAfter x ≡ true
-after-bad closing x e = rw (ne-eqb (x .answer) 0 (λ (z : x .answer ≡ 0). frame-bad _ _ (in-frame closing x z) e))
+after-bad closing x e = rw (ne-eqb (seenNumber x) 0 (λ (z : seenNumber x ≡ 0). frame-bad _ _ (in-frame closing x z) e))
 
 module _ (closing : Bool) (p b : ℕ) (s : List ℕ) where
   abbrev c : Cut
@@ -239,14 +240,14 @@ bounds x closing a = let b = PlainLaws.bounds x closing a in (b .few, b .place)
 -- THE CLOSED WALK: its frames are those of the cleaned capture
 
 module _ (t : List ℕ) where
-  none : (seenOf t .answer ≡ 0 → ⊥) → scrubbed (take (seenOf t .size) t) ++ [] ≡ []
+  none : (seenNumber (seenOf t) ≡ 0 → ⊥) → scrubbed (take (seenOf t .size) t) ++ [] ≡ []
   none ne = rw (refused-size t 0 (seenOf t) refl ne, scrubbed-none)
 
   front : (w : Says) (p : ℕ) → saysOf (seenOf t) ≡ w → washed (record { place = p; read = cutOf t } ∷ []) ≡ joined (eachOf scrubbed (frontOf w t))
   unfolding washed joined eachOf frontOf
   front (frame n) p e = rw (frame-says (seenOf t) n e .1)
-  front more p e = none (λ (z : seenOf t .answer ≡ 0). absurd (omega (arith, z, more-says (seenOf t) e)))
-  front bad p e = none (λ (z : seenOf t .answer ≡ 0). frame-bad _ _ (says-frame (seenOf t) z) e)
+  front more p e = none (λ (z : seenNumber (seenOf t) ≡ 0). absurd (omega (arith, z, more-says (seenOf t) e)))
+  front bad p e = none (λ (z : seenNumber (seenOf t) ≡ 0). frame-bad _ _ (says-frame (seenOf t) z) e)
 
   searched : (w : Says) (p : ℕ) → saysOf (seenOf t) ≡ w → washed (found w p (cutOf t)) ≡ joined (eachOf scrubbed (frontOf w t))
   unfolding washed joined eachOf frontOf found

@@ -18,7 +18,7 @@ use Rattle.walk_laws.specs.Walk.{Says, frame, more, bad, Sight, noted, found}
 use Rattle.walk_laws.specs.Waits.{halt, behind}
 use Rattle.walk_laws.specs.WaitLaws.{modeOf, notes, ranAt, ran-end, ran-more, ran-frame, ran-bad}
 use Rattle.reading.specs.declared.Seen.{Seen}
-use Rattle.reading.specs.Seen.{seenOf, saysOf}
+use Rattle.reading.specs.Seen.{seenOf, seenNumber, saysOf}
 use Rattle.reading.specs.SeenLaws.{seen-fits, says-frame, seen-blank, seen-answer}
 use Rattle.frame_spec.specs.Frame.{readOf}
 use Rattle.walk_spec.specs.Walk.{accepts}
@@ -50,18 +50,18 @@ note-read : (w : Says) (p : ℕ) (r : Cut) → notes false w p r ≡ record { pl
 unfolding noted
 note-read w p r = refl
 
-module _ (seeking closing : Bool) (base p : ℕ) (w : List ℕ) (h : p < length w) (n : waitsAt closing (seenOf (drop p w) .answer) ≡ false) where
+module _ (seeking closing : Bool) (base p : ℕ) (w : List ℕ) (h : p < length w) (n : waitsAt closing (seenNumber (seenOf (drop p w))) ≡ false) where
   abbrev x : Seen
   x = seenOf (drop p w)
 
   -- it is passed over
-  over : passedOver seeking (x .answer) ≡ true → ranAt cutOf (saysBy closing) seeking base p w ≡ ranAt cutOf (saysBy closing) seeking base (p + 1) w
+  over : passedOver seeking (seenNumber x) ≡ true → ranAt cutOf (saysBy closing) seeking base p w ≡ ranAt cutOf (saysBy closing) seeking base (p + 1) w
   over t =
-      let q = passed seeking (x .answer) t in
+      let q = passed seeking (seenNumber x) t in
       rw (q .0) (ran-bad cutOf (saysBy closing) true base p w h (in-bad closing x (q .1) n) ∙ rw (note-bad (base + p) (cutOf (drop p w))))
 
   -- it is read
-  module _ (t : passedOver seeking (x .answer) ≡ false) where
+  module _ (t : passedOver seeking (seenNumber x) ≡ false) where
     far : (1 ≤ strideOf x) × (p + strideOf x ≤ length w)
     far = Plain.seen-at seeking closing base p w x h refl n t .1
 
@@ -69,22 +69,22 @@ module _ (seeking closing : Bool) (base p : ℕ) (w : List ℕ) (h : p < length 
     unfolding strideOf
     read-at =
         ⊎-elim
-        (λ (z : eqb (x .answer) 0 ≡ true).
-        let a : x .answer ≡ 0 = eqb-true _ _ z in
+        (λ (z : eqb (seenNumber x) 0 ≡ true).
+        let a : seenNumber x ≡ 0 = eqb-true _ _ z in
         let f = seen-fits (drop p w) (x .size) (says-frame x a) in
         let l : p + x .size ≤ length w = omega (arith, length-drop p w, f .1) in
         rw z (ran-frame cutOf (saysBy closing) seeking base p w h (x .size) (omega (arith, f .0)) l (in-frame closing x a) ∙ rw (note-frame seeking (x .size) (base + p) (cutOf (drop p w)))))
-        (λ (z : eqb (x .answer) 0 ≡ false).
-        let q = not-passed seeking (x .answer) t (eqb-false _ _ z) in
+        (λ (z : eqb (seenNumber x) 0 ≡ false).
+        let q = not-passed seeking (seenNumber x) t (eqb-false _ _ z) in
         rw (z, q) (ran-bad cutOf (saysBy closing) false base p w h (in-bad closing x (eqb-false _ _ z) n) ∙ rw (note-read bad (base + p) (cutOf (drop p w)))))
-        (two (eqb (x .answer) 0))
+        (two (eqb (seenNumber x) 0))
 
 -- WHAT IS COUNTED OF IT, by its answer, its size, and whether it is judged
 
 abbrev pub oneBy : Bool → ℕ → ℕ → ℕ → Sums
 oneBy seeking reading size unjudged = record { bytes = size; frames = accepts reading; found = pick seeking (accepts reading) 0; unjudged = unjudged }
 
-one-by : (seeking : Bool) (s : List ℕ) → oneOf seeking (cutOf s) ≡ oneBy seeking (seenOf s .answer) (seenOf s .size) (unjudgedBy (seenOf s .«msg_type»))
+one-by : (seeking : Bool) (s : List ℕ) → oneOf seeking (cutOf s) ≡ oneBy seeking (seenNumber (seenOf s)) (seenOf s .size) (unjudgedBy (seenOf s .«msg_type»))
 unfolding oneOf
 one-by seeking s = rw (own-length s)
 
@@ -113,25 +113,25 @@ module _ (seeking : Bool) (s : List ℕ) where
   abbrev seen : Seen
   seen = seenOf s
 
-  right-frame : seen .answer ≡ 0 → (accepts (seen .answer) ≤ seen .size) × (unjudgedBy (seen .«msg_type») ≤ accepts (seen .answer))
+  right-frame : seenNumber seen ≡ 0 → (accepts (seenNumber seen) ≤ seen .size) × (unjudgedBy (seen .«msg_type») ≤ accepts (seenNumber seen))
   unfolding accepts
   right-frame z =
       let f = seen-fits s (seen .size) (says-frame seen z) in
       rw z (omega (arith, f .0), unjudged-most (seen .«msg_type»))
 
-  right-refused : (seen .answer ≡ 0 → ⊥) → (accepts (seen .answer) ≤ seen .size) × (unjudgedBy (seen .«msg_type») ≤ accepts (seen .answer))
+  right-refused : (seenNumber seen ≡ 0 → ⊥) → (accepts (seenNumber seen) ≤ seen .size) × (unjudgedBy (seen .«msg_type») ≤ accepts (seenNumber seen))
   unfolding accepts unjudgedBy
   right-refused ne =
       let b = seen-blank s (λ (z : readOf s .number ≡ 0). ne (seen-answer s ∙ z)) in
-      rw (ne-eqb (seen .answer) 0 ne, b) (omega arith, omega arith)
+      rw (ne-eqb (seenNumber seen) 0 ne, b) (omega arith, omega arith)
 
-  right-one : (accepts (seen .answer) ≤ seen .size) × (unjudgedBy (seen .«msg_type») ≤ accepts (seen .answer))
-  right-one = ⊎-elim right-frame right-refused (same (seen .answer) 0)
+  right-one : (accepts (seenNumber seen) ≤ seen .size) × (unjudgedBy (seen .«msg_type») ≤ accepts (seenNumber seen))
+  right-one = ⊎-elim right-frame right-refused (same (seenNumber seen) 0)
 
 right-plus : (seeking : Bool) (s : List ℕ) (t : Sums) → Right t → Right (plus t (oneOf seeking (cutOf s)))
 right-plus seeking s t r =
     let o = right-one seeking s in
-    rw (one-by seeking s) (right-add t (oneBy seeking (seenOf s .answer) (seenOf s .size) (unjudgedBy (seenOf s .«msg_type»))) (o .0) (pick-most seeking (accepts (seenOf s .answer))) (o .1) r)
+    rw (one-by seeking s) (right-add t (oneBy seeking (seenNumber (seenOf s)) (seenOf s .size) (unjudgedBy (seenOf s .«msg_type»))) (o .0) (pick-most seeking (accepts (seenNumber (seenOf s)))) (o .1) r)
 
 -- THE LOOP
 
@@ -163,8 +163,8 @@ left-start w out base seek closing s r =
     record { inside = omega arith; few = omega arith; right = r; room = refl; mode = rw e; place = rw e; kept = rw e; written = rw e; summed = rw e }
 
 module _ (w out₀ : List ℕ) (base : ℕ) (seek closing : Bool) (s₀ : Sums) (out : List ℕ) (p : ℕ) (seeking : Bool) (s : Sums) (z : Left w out₀ base seek closing s₀ out p seeking s) where
-  module _ (h : p < length w) (n : waitsAt closing (seenOf (drop p w) .answer) ≡ false) where
-    pub left-over : passedOver seeking (seenOf (drop p w) .answer) ≡ true → Left w out₀ base seek closing s₀ out (p + 1) seeking s
+  module _ (h : p < length w) (n : waitsAt closing (seenNumber (seenOf (drop p w))) ≡ false) where
+    pub left-over : passedOver seeking (seenNumber (seenOf (drop p w))) ≡ true → Left w out₀ base seek closing s₀ out (p + 1) seeking s
     left-over v =
         let q = over seeking closing base p w h n v in
         record {
@@ -179,21 +179,21 @@ module _ (w out₀ : List ℕ) (base : ℕ) (seek closing : Bool) (s₀ : Sums) 
           summed = rw q at (z .summed);
         }
 
-    pub left-far : passedOver seeking (seenOf (drop p w) .answer) ≡ false → (1 ≤ strideOf (seenOf (drop p w))) × (p + strideOf (seenOf (drop p w)) ≤ length w)
+    pub left-far : passedOver seeking (seenNumber (seenOf (drop p w))) ≡ false → (1 ≤ strideOf (seenOf (drop p w))) × (p + strideOf (seenOf (drop p w)) ≤ length w)
     left-far v = far seeking closing base p w h n v
 
     size-stride : p + seenOf (drop p w) .size ≤ p + strideOf (seenOf (drop p w))
     unfolding strideOf
     size-stride =
-        ⊎-elim (λ (t : seenOf (drop p w) .answer ≡ 0). rw (eq-eqb _ 0 t) (omega arith))
-        (λ (ne : seenOf (drop p w) .answer ≡ 0 → ⊥).
+        ⊎-elim (λ (t : seenNumber (seenOf (drop p w)) ≡ 0). rw (eq-eqb _ 0 t) (omega arith))
+        (λ (ne : seenNumber (seenOf (drop p w)) ≡ 0 → ⊥).
         let b = seen-blank (drop p w) (λ (t : readOf (drop p w) .number ≡ 0). ne (seen-answer (drop p w) ∙ t)) in
         let none : seenOf (drop p w) .size ≡ 0 = ap (λ (y : Seen). y .size) b in
         omega (arith, none))
-        (same (seenOf (drop p w) .answer) 0)
+        (same (seenNumber (seenOf (drop p w))) 0)
 
-    pub left-note : (s′ : Sums) (out′ : List ℕ) → passedOver seeking (seenOf (drop p w) .answer) ≡ false
-        → s′ ≡ plus s (oneBy seeking (seenOf (drop p w) .answer) (seenOf (drop p w) .size) (unjudgedBy (seenOf (drop p w) .«msg_type»))) → out′ ≡ laidIfRoom (s .bytes) (scrubbed (take (seenOf (drop p w) .size) (drop p w))) out
+    pub left-note : (s′ : Sums) (out′ : List ℕ) → passedOver seeking (seenNumber (seenOf (drop p w))) ≡ false
+        → s′ ≡ plus s (oneBy seeking (seenNumber (seenOf (drop p w))) (seenOf (drop p w) .size) (unjudgedBy (seenOf (drop p w) .«msg_type»))) → out′ ≡ laidIfRoom (s .bytes) (scrubbed (take (seenOf (drop p w) .size) (drop p w))) out
         → Left w out₀ base seek closing s₀ out′ (p + strideOf (seenOf (drop p w))) (seeksAfter (seenOf (drop p w))) s′
     unfolding lays sumsOf
     left-note s′ out′ v e g =
@@ -227,7 +227,7 @@ module _ (w out₀ : List ℕ) (base : ℕ) (seek closing : Bool) (s₀ : Sums) 
         written = rw q at (z .written);
       }
 
-  pub left-wait : p < length w → waitsAt closing (seenOf (drop p w) .answer) ≡ true → RanIs w base seek closing s₀ out₀ out p seeking s
+  pub left-wait : p < length w → waitsAt closing (seenNumber (seenOf (drop p w))) ≡ true → RanIs w base seek closing s₀ out₀ out p seeking s
   left-wait h a = stop (drop p w) (ran-more cutOf (saysBy closing) seeking base p w h (in-more closing (seenOf (drop p w)) a)) refl
 
   pub left-end : length w ≤ p → RanIs w base seek closing s₀ out₀ out p seeking s

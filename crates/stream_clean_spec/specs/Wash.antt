@@ -11,7 +11,7 @@ use Rattle.private.specs.Scrub.{scrubbed}
 use Rattle.walk_laws.specs.Walk.{Says, Sight}
 use Rattle.walk_laws.specs.Frames.{joined, eachOf}
 use Rattle.reading.specs.declared.Seen.{Seen}
-use Rattle.reading.specs.Seen.{seenOf}
+use Rattle.reading.specs.Seen.{seenOf, seenNumber}
 use Rattle.walk_spec.specs.Walk.{accepts}
 use Rattle.stream_spec.specs.Run.{saysIn}
 use Rattle.stream_clean_spec.specs.declared.Sums.{Sums}
@@ -55,14 +55,14 @@ unfoldable pub oneOf : Bool → Cut → Sums
 oneOf seeking c =
     record {
       bytes = length (c .own);
-      frames = accepts (c .seen .answer);
-      found = pick seeking (accepts (c .seen .answer)) 0;
+      frames = accepts (seenNumber (c .seen));
+      found = pick seeking (accepts (seenNumber (c .seen))) 0;
       unjudged = unjudgedBy (c .seen .«msg_type»);
     }
 
 -- behind a refused reading the search is under way
 abbrev pub seeksAfter : Seen → Bool
-seeksAfter x = not (eqb (x .answer) 0)
+seeksAfter x = not (eqb (seenNumber x) 0)
 
 unfoldable pub sumsOf : Bool → List (Sight Cut) → Sums
 sumsOf seeking [] = noSums

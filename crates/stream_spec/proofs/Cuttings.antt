@@ -42,7 +42,7 @@ use Rattle.stream_spec.specs.StateLaws.{sound-checked}
 use Rattle.stream_spec.specs.CutLaws.{meant-value, head-front}
 use Rattle.stream_spec.specs.Window.{enough-in}
 use Rattle.stream_spec.specs.Trace.{Asked, Calls, none, _▸_, after, accepted, given, taken, ended, Row, opening, one-more}
-use Rattle.stream_spec.specs.Words.{recordsBelow, waitAt, decided, readings, tallied, answered, Follows, Closed}
+use Rattle.stream_spec.specs.Words.{recordsBelow, waitAt, decided, readings, tallied, numberTold, Follows, Closed}
 use Rattle.stream_spec.proofs.Walks.{account-tally}
 use Rattle.stream_spec.proofs.Rules.{rules-kept, opening-sound, Passed, passed}
 
@@ -277,17 +277,17 @@ module _ (calls : Calls) (call : Call) (room : ℕ) where
       (λ (l : length (share (after calls) call) ≤ room / 64). le-leb (length (share (after calls) call)) (room / 64) l ∙ sym (le-leb (length (decided (closes call) (taken calls ++ cutOf call))) (length (given calls) + room / 64) (omega (arith, d))))
       (less (room / 64) (length (share (after calls) call)))
 
-  open-number : ended calls ≡ false → numberTo (after calls) call room ≡ answered calls call room
-  unfolding numberFor answered
+  open-number : ended calls ≡ false → numberTo (after calls) call room ≡ numberTold calls call room
+  unfolding numberFor numberTold
   open-number n =
       rw (sound calls, closed-is calls (same calls), n)
       (ap₂ (λ (f r : Bool). pick (not f) 29 (pick (not r) 8 0)) fits-is (room-is n))
 
-  closed-number : ended calls ≡ true → numberTo (after calls) call room ≡ answered calls call room
-  unfolding answered
+  closed-number : ended calls ≡ true → numberTo (after calls) call room ≡ numberTold calls call room
+  unfolding numberTold
   closed-number e = number-19 (after calls) (closes call) (cutOf call) room (sound calls) (closed-is calls (same calls) ∙ e) ∙ rw e
 
-  number-is : numberTo (after calls) call room ≡ answered calls call room
+  number-is : numberTo (after calls) call room ≡ numberTold calls call room
   number-is = ⊎-elim (λ (e : ended calls ≡ true). closed-number e) (λ (n : ended calls ≡ false). open-number n) (two (ended calls))
 
 -- CR 1, FOR EVERY ROW OF CALLS

@@ -20,7 +20,7 @@ use Rattle.walk_laws.specs.WaitLaws.{modeOf}
 use Rattle.walk_laws.specs.Kept.{settled}
 use Rattle.walk_laws.specs.Closing.{final-kept}
 use Rattle.walk_laws.specs.Cuts as Cuts
-use Rattle.reading.specs.Seen.{seenOf, saysOf}
+use Rattle.reading.specs.Seen.{seenOf, seenNumber, saysOf}
 use Rattle.reading.specs.SeenLaws.{more-says}
 use Rattle.stream_spec.specs.declared.Stream.{Stream}
 use Rattle.stream_spec.specs.declared.Tally.{Tally}
@@ -34,14 +34,14 @@ use Rattle.stream_spec.proofs.Walks.{Right, right-facts, right-test, ri
 -- ======== The test and the facts
 
 abbrev Rests : Stream → Type 0
-Rests x = (x .len ≡ 0) ⊎ ((x .closed ≡ false) × (seenOf (headOf (x .len) (x .kept)) .answer ≡ 1))
+Rests x = (x .len ≡ 0) ⊎ ((x .closed ≡ false) × (seenNumber (seenOf (headOf (x .len) (x .kept))) ≡ 1))
 
 waits-facts : (x : Stream) → waitsRight x ≡ true → Rests x
 unfolding waitsRight
 waits-facts x e =
     ⊎-elim (λ (z : x .len ≡ 0). inl z)
     (λ (ne : x .len ≡ 0 → ⊥).
-    let r : orElse false (not (x .closed) && eqb (seenOf (headOf (x .len) (x .kept)) .answer) 1) ≡ true = rw (ne-eqb (x .len) 0 ne) at e in
+    let r : orElse false (not (x .closed) && eqb (seenNumber (seenOf (headOf (x .len) (x .kept)))) 1) ≡ true = rw (ne-eqb (x .len) 0 ne) at e in
     let p = both (not (x .closed)) _ r in
     inr (not-true (x .closed) (p .0), eqb-true _ _ (p .1)))
     (same (x .len) 0)
@@ -50,7 +50,7 @@ waits-test : (x : Stream) → Rests x → waitsRight x ≡ true
 unfolding waitsRight
 waits-test x (inl z) = rw (eq-eqb (x .len) 0 z)
 waits-test x (inr (c, a)) =
-    ⊎-elim (λ (z : x .len ≡ 0). rw (eq-eqb (x .len) 0 z)) (λ (ne : x .len ≡ 0 → ⊥). rw (ne-eqb (x .len) 0 ne, c, eq-eqb (seenOf (headOf (x .len) (x .kept)) .answer) 1 a)) (same (x .len) 0)
+    ⊎-elim (λ (z : x .len ≡ 0). rw (eq-eqb (x .len) 0 z)) (λ (ne : x .len ≡ 0 → ⊥). rw (ne-eqb (x .len) 0 ne, c, eq-eqb (seenNumber (seenOf (headOf (x .len) (x .kept)))) 1 a)) (same (x .len) 0)
 
 pub rules-facts : (x : Stream) → soundOf x ≡ true → StreamRules x
 rules-facts x e =
@@ -82,7 +82,7 @@ rules-test x r =
 pub closed-store : (x : Stream) → StreamRules x → x .closed ≡ true → (x .len ≡ 0) × (allZero (x .kept) ≡ true)
 closed-store x r c =
     ⊎-elim (λ (z : x .len ≡ 0). (z, rw z at (r .blank)))
-    (λ (p : (x .closed ≡ false) × (seenOf (headOf (x .len) (x .kept)) .answer ≡ 1)). absurd (clash c (p .0)))
+    (λ (p : (x .closed ≡ false) × (seenNumber (seenOf (headOf (x .len) (x .kept))) ≡ 1)). absurd (clash c (p .0)))
     (r .rests)
 
 -- ======== Opening and calls keep them
@@ -101,7 +101,7 @@ value-blank closed y = rw (drop-at (y .kept) (replicate (8191 - length (y .kept)
 value-rests : (y : Cuts.Stream Tally) → (y .kept ≡ []) ⊎ (saysOf (seenOf (y .kept)) ≡ more) → Rests (valueOf false y)
 unfolding valueOf
 value-rests y (inl e) = inl (ap length e)
-value-rests y (inr e) = inr (refl, ap (λ (l : List ℕ). seenOf l .answer) (head-front (y .kept) (replicate (8191 - length (y .kept)) 0)) ∙ more-says (seenOf (y .kept)) e)
+value-rests y (inr e) = inr (refl, ap (λ (l : List ℕ). seenNumber (seenOf l)) (head-front (y .kept) (replicate (8191 - length (y .kept)) 0)) ∙ more-says (seenOf (y .kept)) e)
 
 fed-rests : (x : Stream) (cut : List ℕ) → (feedOf false (meantBy x) cut .stream .kept ≡ []) ⊎ (saysOf (seenOf (feedOf false (meantBy x) cut .stream .kept)) ≡ more)
 unfolding meantBy Cuts.feedOf

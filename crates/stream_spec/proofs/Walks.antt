@@ -19,6 +19,7 @@ use Rattle.ledger.proofs.Seam.{book-of}
 use Rattle.walk_laws.specs.Walk.{Sight}
 use Rattle.walk_laws.specs.Account.{accountOf}
 use Rattle.reading.specs.declared.Seen.{Seen}
+use Rattle.reading.specs.Seen.{seenNumber}
 use Rattle.walk_spec.specs.Offers.{callsBy, offering, offerOf}
 use Rattle.walk_spec.specs.Walk.{recordBy, bookBy, accepts, refuses, framesOf, refusedOf}
 use Rattle.stream_spec.specs.declared.Tally.{Tally}
@@ -38,11 +39,11 @@ channel-answered b n (call ∷ calls) r = channel-answered (nextOf b call) (numb
 
 pub rules-by : (b : Book) (x : Sight Seen) → StateRules b → StateRules (bookBy b x)
 unfolding bookBy offerOf
-rules-by b x r = rules-answered b (x .read .answer) (callsBy (x .read)) r
+rules-by b x r = rules-answered b (seenNumber (x .read)) (callsBy (x .read)) r
 
 channel-by : (b : Book) (x : Sight Seen) → StateRules b → bookBy b x .channel ≡ b .channel
 unfolding bookBy offerOf
-channel-by b x r = channel-answered b (x .read .answer) (callsBy (x .read)) r
+channel-by b x r = channel-answered b (seenNumber (x .read)) (callsBy (x .read)) r
 
 -- the ledger's part of the state rules, as facts
 pub record Right (l : Ledger) : Type 0 where
@@ -91,13 +92,13 @@ module _ (f r : ℕ) (b : Book) (x : Sight Seen) (s : StateRules b) where
   unfolding recordAt
   record-is = ap (λ (k : Book). recordBy k x) (book-of b (s .places))
 
-  tally-is : tallyAfter (tallyOf f r b) x ≡ tallyOf (f + accepts (x .read .answer)) (r + refuses (x .read .answer)) (bookBy b x)
+  tally-is : tallyAfter (tallyOf f r b) x ≡ tallyOf (f + accepts (seenNumber (x .read))) (r + refuses (seenNumber (x .read))) (bookBy b x)
   unfolding tallyAfter tallyWith
-  tally-is = ap (λ (k : Book). tallyOf (f + accepts (x .read .answer)) (r + refuses (x .read .answer)) (bookBy k x)) (book-of b (s .places))
+  tally-is = ap (λ (k : Book). tallyOf (f + accepts (seenNumber (x .read))) (r + refuses (seenNumber (x .read))) (bookBy k x)) (book-of b (s .places))
 
 pub account-tally : (f r : ℕ) (b : Book) (xs : List (Sight Seen)) → StateRules b
     → accountOf recordAt tallyAfter (tallyOf f r b) xs ≡ record { records = accountOf recordBy bookBy b xs .records; ledger = tallyOf (f + framesOf xs) (r + refusedOf xs) (accountOf recordBy bookBy b xs .ledger) }
 unfolding accountOf framesOf refusedOf
 account-tally f r b [] s = rw (add-zero f, add-zero r)
 account-tally f r b (x ∷ xs) s =
-    rw (record-is f r b x s, tally-is f r b x s, account-tally (f + accepts (x .read .answer)) (r + refuses (x .read .answer)) (bookBy b x) xs (rules-by b x s), add-assoc f, add-assoc r)
+    rw (record-is f r b x s, tally-is f r b x s, account-tally (f + accepts (seenNumber (x .read))) (r + refuses (seenNumber (x .read))) (bookBy b x) xs (rules-by b x s), add-assoc f, add-assoc r)

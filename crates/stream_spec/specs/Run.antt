@@ -13,7 +13,7 @@ use Rattle.walk_laws.specs.WaitLaws.{modeOf}
 use Rattle.walk_laws.specs.Closing.{final}
 use Rattle.walk_laws.specs.Account.{Account, accountOf}
 use Rattle.reading.specs.declared.Seen.{Seen}
-use Rattle.reading.specs.Seen.{seenOf, saysOf}
+use Rattle.reading.specs.Seen.{seenOf, saysOf, seenNumber}
 use Rattle.stream_spec.specs.declared.Tally.{Tally}
 use Rattle.stream_spec.specs.Tally.{recordAt, tallyAfter}
 
@@ -34,7 +34,7 @@ passedOver true a = not (eqb a 0)
 passedOver false a = false
 
 unfoldable pub strideOf : Seen → ℕ
-strideOf x = pick (eqb (x .answer) 0) (x .size) 1
+strideOf x = pick (eqb (seenNumber x) 0) (x .size) 1
 
 abbrev pub gotOf : ℕ → Bool → Bool → List ℕ → Got Seen
 gotOf base seek closing w = ranOf seenOf (saysIn closing) (modeOf seek) base w

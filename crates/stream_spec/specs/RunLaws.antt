@@ -18,7 +18,7 @@ use Rattle.walk_laws.specs.Closing.{final}
 use Rattle.walk_laws.specs.Account.{Account, accountOf}
 use Rattle.reading.specs.declared.Seen.{Seen}
 use Rattle.walk_step.specs.declared.Offered.{Offered}
-use Rattle.reading.specs.Seen.{seenOf, saysOf}
+use Rattle.reading.specs.Seen.{seenOf, seenNumber, saysOf}
 use Rattle.reading.specs.SeenLaws.{says-frame, says-more, says-bad, seen-fits}
 use Rattle.walk_spec.specs.Offers.{offerOf}
 use Rattle.walk_spec.specs.Walk.{madeOf, recordBy, bookBy, accepts, refuses}
@@ -30,18 +30,18 @@ use Rattle.stream_spec.specs.Run.{saysIn, waitsAt, passedOver, strideOf,
 
 -- WHAT A READING SAYS, at the closing call or before it
 
-pub in-frame : (closing : Bool) (x : Seen) → x .answer ≡ 0 → saysIn closing x ≡ frame (x .size)
+pub in-frame : (closing : Bool) (x : Seen) → seenNumber x ≡ 0 → saysIn closing x ≡ frame (x .size)
 in-frame true x z = ap final (says-frame x z)
 in-frame false x z = says-frame x z
 
-pub in-more : (closing : Bool) (x : Seen) → waitsAt closing (x .answer) ≡ true → saysIn closing x ≡ more
+pub in-more : (closing : Bool) (x : Seen) → waitsAt closing (seenNumber x) ≡ true → saysIn closing x ≡ more
 unfolding waitsAt
 in-more true x e = absurd (clash e refl)
 in-more false x e = says-more x (eqb-true _ _ e)
 
-pub in-bad : (closing : Bool) (x : Seen) → (x .answer ≡ 0 → ⊥) → waitsAt closing (x .answer) ≡ false → saysIn closing x ≡ bad
+pub in-bad : (closing : Bool) (x : Seen) → (seenNumber x ≡ 0 → ⊥) → waitsAt closing (seenNumber x) ≡ false → saysIn closing x ≡ bad
 unfolding waitsAt
-in-bad true x ne e = ⊎-elim (λ (o : x .answer ≡ 1). ap final (says-more x o)) (λ (nm : x .answer ≡ 1 → ⊥). ap final (says-bad x ne nm)) (same (x .answer) 1)
+in-bad true x ne e = ⊎-elim (λ (o : seenNumber x ≡ 1). ap final (says-more x o)) (λ (nm : seenNumber x ≡ 1 → ⊥). ap final (says-bad x ne nm)) (same (seenNumber x) 1)
 in-bad false x ne e = says-bad x ne (eqb-false _ _ e)
 
 -- A PLACE THAT IS PASSED OVER
@@ -55,10 +55,10 @@ unfolding passedOver
 passed true a e = (refl, eqb-false a 0 (not-true _ e))
 passed false a e = absurd (clash e refl)
 
-module _ (seeking closing : Bool) (base p : ℕ) (w : List ℕ) (x : Seen) (h : p < length w) (e : x ≡ seenOf (drop p w)) (n : waitsAt closing (x .answer) ≡ false) where
-  over : passedOver seeking (x .answer) ≡ true → ranAt seenOf (saysIn closing) seeking base p w ≡ ranAt seenOf (saysIn closing) seeking base (p + 1) w
+module _ (seeking closing : Bool) (base p : ℕ) (w : List ℕ) (x : Seen) (h : p < length w) (e : x ≡ seenOf (drop p w)) (n : waitsAt closing (seenNumber x) ≡ false) where
+  over : passedOver seeking (seenNumber x) ≡ true → ranAt seenOf (saysIn closing) seeking base p w ≡ ranAt seenOf (saysIn closing) seeking base (p + 1) w
   over t =
-      let q = passed seeking (x .answer) t in
+      let q = passed seeking (seenNumber x) t in
       rw (q .0) (ran-bad seenOf (saysIn closing) true base p w h (ap (saysIn closing) (sym e) ∙ in-bad closing x (q .1) n) ∙ rw (note-bad (base + p) (seenOf (drop p w))))
 
 -- A PLACE THAT IS NOTED
@@ -77,23 +77,23 @@ unfolding passedOver
 not-passed true a e h = absurd (h (eqb-true a 0 (not-false _ e)))
 not-passed false a e h = refl
 
-pub seen-at : (seeking closing : Bool) (base p : ℕ) (w : List ℕ) (x : Seen) → p < length w → x ≡ seenOf (drop p w) → waitsAt closing (x .answer) ≡ false → passedOver seeking (x .answer) ≡ false
-    → (ranAt seenOf (saysIn closing) seeking base p w ≡ behind (record { place = base + p; read = x } ∷ []) (ranAt seenOf (saysIn closing) (not (eqb (x .answer) 0)) base (p + strideOf x) w))
+pub seen-at : (seeking closing : Bool) (base p : ℕ) (w : List ℕ) (x : Seen) → p < length w → x ≡ seenOf (drop p w) → waitsAt closing (seenNumber x) ≡ false → passedOver seeking (seenNumber x) ≡ false
+    → (ranAt seenOf (saysIn closing) seeking base p w ≡ behind (record { place = base + p; read = x } ∷ []) (ranAt seenOf (saysIn closing) (not (eqb (seenNumber x) 0)) base (p + strideOf x) w))
     × ((1 ≤ strideOf x) × (p + strideOf x ≤ length w))
 unfolding strideOf
 seen-at seeking closing base p w x h e n t =
     ⊎-elim
-    (λ (z : eqb (x .answer) 0 ≡ true).
-    let a : x .answer ≡ 0 = eqb-true _ _ z in
+    (λ (z : eqb (seenNumber x) 0 ≡ true).
+    let a : seenNumber x ≡ 0 = eqb-true _ _ z in
     let s : saysIn closing (seenOf (drop p w)) ≡ frame (x .size) = ap (saysIn closing) (sym e) ∙ in-frame closing x a in
     let f = seen-fits (drop p w) (x .size) (ap saysOf (sym e) ∙ says-frame x a) in
     let l : p + x .size ≤ length w = omega (arith, length-drop p w, f .1) in
     rw z (ran-frame seenOf (saysIn closing) seeking base p w h (x .size) (omega (arith, f .0)) l s ∙ rw (note-frame seeking (x .size) (base + p) (seenOf (drop p w)), e), (omega (arith, f .0), l)))
-    (λ (z : eqb (x .answer) 0 ≡ false).
+    (λ (z : eqb (seenNumber x) 0 ≡ false).
     let s : saysIn closing (seenOf (drop p w)) ≡ bad = ap (saysIn closing) (sym e) ∙ in-bad closing x (eqb-false _ _ z) n in
-    let q = not-passed seeking (x .answer) t (eqb-false _ _ z) in
+    let q = not-passed seeking (seenNumber x) t (eqb-false _ _ z) in
     rw (z, q) (ran-bad seenOf (saysIn closing) false base p w h s ∙ rw (note-read bad (base + p) (seenOf (drop p w)), e), (omega arith, omega arith)))
-    (two (eqb (x .answer) 0))
+    (two (eqb (seenNumber x) 0))
 
 -- one reading's record and tally, as the code makes them
 module _ (t : Tally) (place : ℕ) (x : Seen) (o : Offered) (ae : o .answer ≡ offerOf (bookOf (t .ledger)) x .number) (oe : o .ledger ≡ ledgerOf (offerOf (bookOf (t .ledger)) x .book)) where
@@ -101,7 +101,7 @@ module _ (t : Tally) (place : ℕ) (x : Seen) (o : Offered) (ae : o .answer ≡ 
   unfolding recordAt recordBy ledgerOf
   made-is m me = me ∙ rw (ae, oe)
 
-  tally-is : (t′ : Tally) → t′ ≡ tallyWith t (x .answer) (o .ledger) → t′ ≡ tallyAfter t (record { place = place; read = x })
+  tally-is : (t′ : Tally) → t′ ≡ tallyWith t (seenNumber x) (o .ledger) → t′ ≡ tallyAfter t (record { place = place; read = x })
   unfolding tallyAfter bookBy
   tally-is t′ te = te ∙ rw oe
 
@@ -111,7 +111,7 @@ one-more t t′ reading f r = omega (arith, f, r, each reading)
 pub tallied : (t t′ : Tally) (x : Sight Seen) → t′ ≡ tallyAfter t x → t′ .frames + t′ .refused ≡ t .frames + t .refused + 1
 unfolding tallyAfter tallyWith
 tallied t t′ x e =
-    one-more t t′ (x .read .answer) (ap (λ (u : Tally). u .frames) e) (ap (λ (u : Tally). u .refused) e)
+    one-more t t′ (seenNumber (x .read)) (ap (λ (u : Tally). u .frames) e) (ap (λ (u : Tally). u .refused) e)
 
 -- THE LOOP
 
@@ -149,7 +149,7 @@ left-start w out base seek closing t k c =
     }
 
 module _ (w out₀ : List ℕ) (base : ℕ) (seek closing : Bool) (t₀ : Tally) (k : ℕ) (out : List ℕ) (p : ℕ) (seeking : Bool) (count : ℕ) (t : Tally) (z : Left w out₀ base seek closing t₀ k out p seeking count t) where
-  pub left-over : (x : Seen) → p < length w → x ≡ seenOf (drop p w) → waitsAt closing (x .answer) ≡ false → passedOver seeking (x .answer) ≡ true → Left w out₀ base seek closing t₀ k out (p + 1) seeking count t
+  pub left-over : (x : Seen) → p < length w → x ≡ seenOf (drop p w) → waitsAt closing (seenNumber x) ≡ false → passedOver seeking (seenNumber x) ≡ true → Left w out₀ base seek closing t₀ k out (p + 1) seeking count t
   left-over x h e n v =
       let q = over seeking closing base p w x h e n v in
       record {
@@ -165,10 +165,10 @@ module _ (w out₀ : List ℕ) (base : ℕ) (seek closing : Bool) (t₀ : Tally)
         ends = rw q at (z .ends);
       }
 
-  pub left-note : (x : Seen) (o : Offered) (m : Record) (t′ : Tally) (out′ : List ℕ) → p < length w → x ≡ seenOf (drop p w) → waitsAt closing (x .answer) ≡ false → passedOver seeking (x .answer) ≡ false
+  pub left-note : (x : Seen) (o : Offered) (m : Record) (t′ : Tally) (out′ : List ℕ) → p < length w → x ≡ seenOf (drop p w) → waitsAt closing (seenNumber x) ≡ false → passedOver seeking (seenNumber x) ≡ false
       → (o .answer ≡ offerOf (bookOf (t .ledger)) x .number) × (o .ledger ≡ ledgerOf (offerOf (bookOf (t .ledger)) x .book))
-      → m ≡ madeOf (base + p) x (o .answer) (o .ledger .floor) (o .ledger .top) → t′ ≡ tallyWith t (x .answer) (o .ledger) → out′ ≡ notedAt count m out
-      → Left w out₀ base seek closing t₀ k out′ (p + strideOf x) (not (eqb (x .answer) 0)) (count + 1) t′
+      → m ≡ madeOf (base + p) x (o .answer) (o .ledger .floor) (o .ledger .top) → t′ ≡ tallyWith t (seenNumber x) (o .ledger) → out′ ≡ notedAt count m out
+      → Left w out₀ base seek closing t₀ k out′ (p + strideOf x) (not (eqb (seenNumber x) 0)) (count + 1) t′
   unfolding accountOf writtenFrom
   left-note x o m t′ out′ h e n v oe me te g =
       let s = seen-at seeking closing base p w x h e n v in
@@ -203,7 +203,7 @@ module _ (w out₀ : List ℕ) (base : ℕ) (seek closing : Bool) (t₀ : Tally)
     rw q at (z .written),
   )
 
-  pub left-wait : (x : Seen) → p < length w → x ≡ seenOf (drop p w) → waitsAt closing (x .answer) ≡ true → (RanIs w base seek closing t₀ k p seeking count t) × (out ≡ writtenFrom k (accountedOf base seek closing t₀ w .records) out₀)
+  pub left-wait : (x : Seen) → p < length w → x ≡ seenOf (drop p w) → waitsAt closing (seenNumber x) ≡ true → (RanIs w base seek closing t₀ k p seeking count t) × (out ≡ writtenFrom k (accountedOf base seek closing t₀ w .records) out₀)
   left-wait x h e a = stop (drop p w) (ran-more seenOf (saysIn closing) seeking base p w h (ap (saysIn closing) (sym e) ∙ in-more closing x a)) refl
 
   pub left-end : length w ≤ p → (RanIs w base seek closing t₀ k p seeking count t) × (out ≡ writtenFrom k (accountedOf base seek closing t₀ w .records) out₀)

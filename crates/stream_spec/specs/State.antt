@@ -11,7 +11,7 @@ use Rattle.ledger.specs.State.{bookOf}
 use Rattle.walk_laws.specs.Walk.{Mode, within, seeking}
 use Rattle.walk_laws.specs.WaitLaws.{modeOf}
 use Rattle.walk_laws.specs.Cuts as Cuts
-use Rattle.reading.specs.Seen.{seenOf}
+use Rattle.reading.specs.Seen.{seenOf, seenNumber}
 use Rattle.stream_spec.specs.declared.Stream.{Stream}
 use Rattle.stream_spec.specs.declared.Tally.{Tally}
 use Rattle.stream_spec.specs.Tally.{freshTally, tallyRight}
@@ -58,7 +58,7 @@ allZero (b ∷ s) = eqb b 0 && allZero s
 
 -- nothing is kept, or the stream is not closed and the kept bytes wait for more
 unfoldable pub waitsRight : Stream → Bool
-waitsRight x = orElse (eqb (x .len) 0) (not (x .closed) && eqb (seenOf (headOf (x .len) (x .kept)) .answer) 1)
+waitsRight x = orElse (eqb (x .len) 0) (not (x .closed) && eqb (seenNumber (seenOf (headOf (x .len) (x .kept)))) 1)
 
 unfoldable pub soundOf : Stream → Bool
 soundOf x =
@@ -74,4 +74,4 @@ pub record StreamRules (x : Stream) : Type 0 where
   pub channel : x .tally .ledger .channel .0 ≡ 100
   pub ledger : StateRules (bookOf (x .tally .ledger))
   pub places : x .place + x .len ≤ lastPlace
-  pub rests : (x .len ≡ 0) ⊎ ((x .closed ≡ false) × (seenOf (headOf (x .len) (x .kept)) .answer ≡ 1))
+  pub rests : (x .len ≡ 0) ⊎ ((x .closed ≡ false) × (seenNumber (seenOf (headOf (x .len) (x .kept))) ≡ 1))

@@ -25,7 +25,7 @@ use Rattle.ledger.specs.declared.Answer.{Answer}
 use Rattle.ledger.specs.declared.Answer.the-variants.{Done, Refused}
 use Rattle.ledger.specs.declared.Ledger.{Ledger}
 use Rattle.reading.specs.declared.Seen.{Seen}
-use Rattle.reading.specs.Seen.{seenOf}
+use Rattle.reading.specs.Seen.{seenOf, seenNumber}
 use Rattle.stream_spec.specs.declared.Stream.{Stream}
 use Rattle.stream_spec.specs.declared.Tally.{Tally}
 use Rattle.stream_spec.specs.Tally.{ledgerRight, tallyRight}
@@ -170,7 +170,7 @@ module _ (x : Stream) where
             unfolding soundOf waitsRight
             sound-closed c = rw (le-leb (x .len) 8191 h, z, t, fits, ne-eqb (x .len) 0 ne, c)
 
-            pub sound-waits : x .closed ≡ false → (y : Seen) → x .len ≤ length (x .kept) → y ≡ seenOf (take (x .len) (x .kept)) → eqb (y .answer) 1 ≡ soundOf x
+            pub sound-waits : x .closed ≡ false → (y : Seen) → x .len ≤ length (x .kept) → y ≡ seenOf (take (x .len) (x .kept)) → eqb (seenNumber y) 1 ≡ soundOf x
             unfolding soundOf waitsRight
             sound-waits c y l e = rw (le-leb (x .len) 8191 h, z, t, fits, ne-eqb (x .len) 0 ne, c, head-take (x .len) (x .kept) l, e)
 

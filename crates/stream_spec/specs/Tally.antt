@@ -9,6 +9,7 @@ use Rattle.ledger.specs.declared.Ledger.{Ledger}
 use Rattle.record.specs.declared.Record.{Record}
 use Rattle.walk_laws.specs.Walk.{Sight}
 use Rattle.reading.specs.declared.Seen.{Seen}
+use Rattle.reading.specs.Seen.{seenNumber}
 use Rattle.walk_spec.specs.Walk.{recordBy, bookBy, accepts, refuses}
 use Rattle.stream_spec.specs.declared.Tally.{Tally}
 
@@ -25,7 +26,7 @@ unfoldable pub recordAt : Tally → Sight Seen → Record
 recordAt t x = recordBy (bookOf (t .ledger)) x
 
 unfoldable pub tallyAfter : Tally → Sight Seen → Tally
-tallyAfter t x = tallyWith t (x .read .answer) (ledgerOf (bookBy (bookOf (t .ledger)) x))
+tallyAfter t x = tallyWith t (seenNumber (x .read)) (ledgerOf (bookBy (bookOf (t .ledger)) x))
 
 -- the ledger is sound and of channel 100
 unfoldable pub ledgerRight : Ledger → Bool

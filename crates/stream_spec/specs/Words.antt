@@ -1,4 +1,4 @@
--- The words of CR 1: what a row of calls gives and is answered, told from the bytes taken alone.
+-- The words of CR 1: what a row of calls gives and is numberTold, told from the bytes taken alone.
 use Prim.Native.Nat.{ℕ, zero, _+_, _/_, _≤_}
 use mathlib.Core.Path.{_≡_}
 use mathlib.Core.Bool.{Bool, true, false, not}
@@ -48,8 +48,8 @@ tallied xs = record { frames = framesOf xs; refused = refusedOf xs; ledger = led
 
 -- the number of one more call: 19 after the closing one; 29 where the joined length would pass 64
 -- bits; 8 where its share of the records does not fit; 0 else, and never 13
-unfoldable pub answered : Calls → Call → ℕ → ℕ
-answered calls call room =
+unfoldable pub numberTold : Calls → Call → ℕ → ℕ
+numberTold calls call room =
     pick (ended calls) 19
     (pick (not (leb (length (taken calls) + length (cutOf call)) lastPlace)) 29
     (pick (not (leb (length (decided (closes call) (taken calls ++ cutOf call))) (length (given calls) + room / 64))) 8 0))
@@ -62,7 +62,7 @@ pub record Follows (calls : Calls) : Type 0 where
   -- and so are counts and ledger
   pub tally : after calls .tally ≡ tallied (readings (ended calls) (taken calls))
   -- each number from the bytes alone
-  pub numbers : (call : Call) (room : ℕ) → numberTo (after calls) call room ≡ answered calls call room
+  pub numbers : (call : Call) (room : ℕ) → numberTo (after calls) call room ≡ numberTold calls call room
   -- "at most 8,191 bytes" wait; they are the last of the bytes taken, from the first place
   -- that waits on
   pub few : after calls .len ≤ 8191

@@ -26,7 +26,7 @@ use Rattle.walk_laws.specs.Literal.{fromOf, sightAt, from-end}
 use Rattle.reading.specs.declared.Seen.{Seen}
 use Rattle.walk_step.specs.declared.Offered.{Offered}
 use Rattle.walk.specs.declared.Passed.{Passed}
-use Rattle.reading.specs.Seen.{seenOf, saysOf}
+use Rattle.reading.specs.Seen.{seenOf, seenNumber, saysOf}
 use Rattle.walk_spec.specs.Offers.{callsFor, callsBy, offering, offerOf}
 use Rattle.walk_spec.specs.CallLaws.{book-added}
 use Rattle.walk_spec.specs.Onward.{Goes}
@@ -75,7 +75,7 @@ either-kept false b m k channel n = (refl, refl)
 
 offer-kept : (b : Book) (x : Seen) → Kept (offerOf b x .book) b
 unfolding offerOf callsBy
-offer-kept b x = either-kept (eqb (x .answer) 0) b (x .answer) (kindOf (x .«msg_type»)) (x .channel .0) (x .tick .0)
+offer-kept b x = either-kept (eqb (seenNumber x) 0) b (seenNumber x) (kindOf (x .«msg_type»)) (x .channel .0) (x .tick .0)
 
 -- so the ledger is what the loop carries of it
 carried-book : (b : Book) → b .channel ≡ 100 → b .pending ≡ nothing → ledgerOf b ≡ carriedOf (ledgerOf b .floor) (ledgerOf b .top) (ledgerOf b .map)
@@ -132,7 +132,7 @@ module _ (s : List ℕ) (p r : ℕ) (calls : Calls) (l : Ledger) (x : Seen) (o :
 
   next-book : offerOf (bookAfter calls) x .book ≡ bookAfter more
   unfolding offerOf
-  next-book = book-added 100 calls (x .answer) (callsBy x)
+  next-book = book-added 100 calls (seenNumber x) (callsBy x)
 
   ledger-is : o .ledger ≡ ledgerOf (offerOf (bookAfter calls) x .book)
   ledger-is = oe ∙ ap (λ (b : Book). ledgerOf (offerOf b x .book)) book-is
@@ -159,13 +159,13 @@ module _ (s : List ℕ) (p r : ℕ) (calls : Calls) (l : Ledger) (x : Seen) (o :
   unfolding accountOf bookBy
   left-next = rw (g .rest, ← made-is, ← xe, next-book)
 
-  frames-next : framesOf (fromOf seenOf saysOf p s) ≡ accepts (x .answer) + framesOf (fromOf seenOf saysOf r s)
+  frames-next : framesOf (fromOf seenOf saysOf p s) ≡ accepts (seenNumber x) + framesOf (fromOf seenOf saysOf r s)
   unfolding framesOf
   frames-next = rw (g .rest, xe)
 
 pub left-step : {s out₀ out out′ : List ℕ} {p r records frames k : ℕ} {l l′ : Ledger} {x : Seen} {o : Offered} {m : Record} (w : Left s out₀ out p records frames l)
     → l′ ≡ l → x ≡ seenOf (drop p s) → (o .answer ≡ offerOf (bookOf l′) x .number) × (o .ledger ≡ ledgerOf (offerOf (bookOf l′) x .book))
-    → m ≡ madeOf p x (o .answer) (o .ledger .floor) (o .ledger .top) → out′ ≡ notedAt records m out → Goes s p r → k ≡ accepts (x .answer)
+    → m ≡ madeOf p x (o .answer) (o .ledger .floor) (o .ledger .top) → out′ ≡ notedAt records m out → Goes s p r → k ≡ accepts (seenNumber x)
     → Left s out₀ out′ r (records + 1) (frames + k) (carriedOf (o .ledger .floor) (o .ledger .top) (o .ledger .map))
 unfolding writtenFrom
 left-step {s} {out₀} {out} {out′} {p} {r} {records} {frames} {k} {l} {l′} {x} {o} {m} w le xe oe me n g ke =
@@ -179,7 +179,7 @@ left-step {s} {out₀} {out} {out′} {p} {r} {records} {frames} {k} {l} {l′} 
     record {
       inside = g .inside;
       few = omega (arith, g .further, w .few);
-      frames-few = omega (arith, w .frames-few, accepts-one (x .answer) k ke);
+      frames-few = omega (arith, w .frames-few, accepts-one (seenNumber x) k ke);
       room = ap length n ∙ noted-length records m out ∙ w .room;
       calls = added (w .calls) (callsBy x);
       ledger-is = sym (carried-is (o .ledger) _ whole own calm) ∙ whole;

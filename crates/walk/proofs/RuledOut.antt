@@ -7,6 +7,7 @@ use denote.Ref.{now}
 use lib.Count.{trailingZeros}
 use lib.ListN.{length, drop, replicate}
 use Rattle.terms.specs.Paper.{Paper, answer}
+use Rattle.terms.specs.Refusals.{refusalOf}
 use Rattle.terms.specs.RuledOut.{Row, _never_, _only_, Kept, RulesOut, ruled, lists, papers, beside}
 use Rattle.octets.specs.Octets.{numeral, digitsOf, bytesOf, laid, sum8, sumOf}
 use Rattle.calendar.specs.Calendar.{leap, daysIn, realParts, realTime}
@@ -79,7 +80,7 @@ walk-wrong =
     ∷ []
 
 pub walk-rules-out : RulesOut (Kept _ walk-kinds.ps walk-kinds.r walk.Post) (λ c. (now (c .args .0), now (c .args .1 .0))) (λ c. shown (walkPaper (c .result)) (c .result .ledger) (now (c .exit .1 .0))) walk-wrong
-unfolding frameA startOfA frameB plainOf frameOf checked readOf bodyRead numeral digitsOf laid sum8 sumOf kindOf suits measureOf p001Ok layoutOf suitsTail tailOk m201Ok fieldsOk realTime realParts daysIn leap judgeOf viewOf valueOf mapOf rotated run trailingZeros rangeRules mapRules soundOf has ownNumber checkedOf numberTo passes taken raised done nextOf fresh bookOf ledgerOf after next found noted sightsOf joined eachOf Account.accountOf Account.walkOf firstHalf secondHalf recordOf blankOf seenOf saysOf callsBy offering offerOf madeOf recordBy bookBy accepts refuses framesOf refusedOf fitsIn walkAnswer walkBook walkLeaves
+unfolding frameA startOfA frameB plainOf frameOf checked readOf bodyRead numeral digitsOf laid sum8 sumOf kindOf suits measureOf p001Ok layoutOf suitsTail tailOk m201Ok fieldsOk realTime realParts daysIn leap judgeOf viewOf valueOf mapOf rotated run trailingZeros rangeRules mapRules soundOf has ownNumber checkedOf numberTo passes taken raised done nextOf fresh bookOf ledgerOf after next found noted sightsOf joined eachOf Account.accountOf Account.walkOf firstHalf secondHalf recordOf blankOf refusalOf seenOf saysOf callsBy offering offerOf madeOf recordBy bookBy accepts refuses framesOf refusedOf fitsIn walkAnswer walkBook walkLeaves
 walk-rules-out =
     ruled (beside papers (beside lists lists)) (λ (i : List ℕ × List ℕ). shown (walkAnswer (i .0) (length (i .1))) (ledgerOf (walkBook (i .0) (length (i .1)))) (walkLeaves (i .0) (i .1)))
     (λ c p. ap₂ (λ (x : Paper) (y : List ℕ × List ℕ). (x, y)) (p .0) (ap₂ (λ (l : Ledger) (d : List ℕ). (seen (bookOf l), d)) (p .1 .0) (p .1 .1)))

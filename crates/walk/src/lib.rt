@@ -1,24 +1,22 @@
 // A closed capture to records, counts and ledger. Document 01, "Fault records and the listing".
 ghost use mathlib.Core.Path.{_≡_};
-ghost use Prim.Native.Nat.{_+_, _*_, _/_, _<_};
+ghost use Prim.Native.Nat.{_+_, _*_, _/_};
 ghost use lib.Dec.{leb};
-ghost use lib.ListN.{length, drop};
+ghost use lib.ListN.{length};
+ghost use Rattle.terms.specs.Verdicts.{verdictNumber};
 ghost use Rattle.ledger.specs.State.{ledgerOf};
 ghost use Rattle.ledger_spec.specs.Calls.{fresh};
-ghost use Rattle.reading.specs.Seen.{seenOf};
-ghost use Rattle.walk_spec.specs.Onward.{Goes};
 ghost use Rattle.walk_spec.specs.Walk.{accepts, walkOf, fitsIn, walkAnswer, walkBook, walkLeaves};
 ghost use Rattle.walk_spec.specs.Tables.{writtenFrom};
 ghost use Rattle.walk.specs.Papers.{walkPaper};
 ghost use Rattle.walk.specs.Passes.{carriedOf, passedOf};
-use frame::Found;
 use ledger::Answer;
 use ledger::Ledger;
 use ledger::Pending;
-use reading::Seen;
 use terms::ChannelNumber;
 use terms::Refusal;
 use terms::TickNumber;
+use terms::Verdict;
 use tick_map::Map;
 
 // What the walk returns: 0, or 8 where the buffer can't take all records; how many records there
@@ -39,28 +37,11 @@ struct Passed {
     ledger: Ledger,
 }
 
-// The place of the next reading, after the one at p: past the frame, or where the search from the
-// next byte on finds one; the end where it finds none. A refused frame's BodyLength is
-// never stepped by.
-fn onward(capture: &[u8], p: usize, seen: Seen) -> usize
-    requires { ⌜ (p < length (now capture)) × (seen ≡ seenOf (drop p (now capture))) ⌝ }
-    ensures { λ r. ⌜ Goes (now (capture .entry)) p r ⌝ }
-{
-    if seen.answer == 0 {
-        return p + seen.size;
-    }
-    match frame::search(capture, p + 1) {
-        Found::At(q) => q,
-        Found::Nothing => capture.len(),
-        Found::Beyond => capture.len(),
-    }
-}
-
 // 1 for a reading that answered 0, else 0.
-fn accepted(answer: u32) -> usize
-    ensures { λ r. ⌜ r ≡ accepts answer ⌝ }
+fn accepted(verdict: Verdict) -> usize
+    ensures { λ r. ⌜ r ≡ accepts (verdictNumber verdict) ⌝ }
 {
-    if answer == 0 { 1 } else { 0 }
+    if verdict.number() == 0 { 1 } else { 0 }
 }
 
 // The walk's ledger, of channel 100 and with nothing pending: no reading asks for a resend.
@@ -93,9 +74,10 @@ fn pass(capture: &[u8], start: Ledger, out: &mut [u8]) -> Passed
         let seen = reading::see(capture, p);
         let after = walk_step::offer(carried(floor, top, map), seen);
         walk_step::note(out, records, walk_step::made(p as u64, seen, after));
-        p = onward(capture, p, seen);
+        p = walk_step::onward(capture, p, seen.size);
         records += 1;
-        frames += accepted(seen.answer);
+        let verdict = seen.answer;
+        frames += accepted(verdict);
         let next = after.ledger;
         floor = next.floor;
         top = next.top;

@@ -20,6 +20,7 @@ use Rattle.walk_laws.specs.Walk.{Sight}
 use Rattle.walk_laws.specs.Account as Account
 use Rattle.walk_laws.specs.Account.{accountOf}
 use Rattle.reading.specs.declared.Seen.{Seen}
+use Rattle.reading.specs.Seen.{seenNumber}
 use Rattle.walk_spec.specs.Offers.{callsFor, callsBy, offering, offerOf}
 use Rattle.walk_spec.specs.OfferLaws.{calls-refused, calls-of}
 use Rattle.walk_spec.specs.Walk.{madeOf, recordBy, bookBy, sights, walkOf, added, callsFrom, callsOf}
@@ -34,7 +35,7 @@ book-added channel calls n (call ∷ more) = book-added channel (calls ▸ call)
 
 pub book-by : (channel : ℕ) (calls : Calls) (x : Sight Seen) → bookBy (after channel calls) x ≡ after channel (added calls (callsBy (x .read)))
 unfolding bookBy offerOf
-book-by channel calls x = book-added channel calls (x .read .answer) (callsBy (x .read))
+book-by channel calls x = book-added channel calls (seenNumber (x .read)) (callsBy (x .read))
 
 ledger-from : (channel : ℕ) (calls : Calls) (xs : List (Sight Seen)) → accountOf recordBy bookBy (after channel calls) xs .ledger ≡ after channel (callsFrom calls xs)
 unfolding accountOf callsFrom
@@ -97,19 +98,19 @@ module _ (channel n : ℕ) (calls : Calls) where
   by-type M201 c t = refl
   by-type Unknown c t = refl
 
-  accepted : (x : Sight Seen) → x .read .answer ≡ 0
+  accepted : (x : Sight Seen) → seenNumber (x .read) ≡ 0
       → received (trace channel (added calls (callsBy (x .read)))) n ≡ orElse (brings (recordBy (after channel calls) x) n) (received (trace channel calls) n)
   unfolding brings recordBy madeOf offerOf
   accepted x z = rw (calls-of (x .read) (kindOf (x .read .«msg_type»)) z refl, z) (by-type (kindOf (x .read .«msg_type»)) (x .read .channel .0) (x .read .tick .0))
 
   -- a refused one brings nothing
-  refused : (x : Sight Seen) → (x .read .answer ≡ 0 → ⊥)
+  refused : (x : Sight Seen) → (seenNumber (x .read) ≡ 0 → ⊥)
       → received (trace channel (added calls (callsBy (x .read)))) n ≡ orElse (brings (recordBy (after channel calls) x) n) (received (trace channel calls) n)
   unfolding brings recordBy madeOf offerOf offering
-  refused x ne = rw (calls-refused (x .read) ne, ne-eqb (x .read .answer) 0 ne, and-false)
+  refused x ne = rw (calls-refused (x .read) ne, ne-eqb (seenNumber (x .read)) 0 ne, and-false)
 
   one-more : (x : Sight Seen) → received (trace channel (added calls (callsBy (x .read)))) n ≡ orElse (brings (recordBy (after channel calls) x) n) (received (trace channel calls) n)
-  one-more x = ⊎-elim (λ (z : x .read .answer ≡ 0). accepted x z) (λ (ne : x .read .answer ≡ 0 → ⊥). refused x ne) (same (x .read .answer) 0)
+  one-more x = ⊎-elim (λ (z : seenNumber (x .read) ≡ 0). accepted x z) (λ (ne : seenNumber (x .read) ≡ 0 → ⊥). refused x ne) (same (seenNumber (x .read)) 0)
 
 received-from : (channel n : ℕ) (calls : Calls) (xs : List (Sight Seen))
     → received (trace channel (callsFrom calls xs)) n ≡ orElse (brought (accountOf recordBy bookBy (after channel calls) xs .records) n) (received (trace channel calls) n)
@@ -142,9 +143,9 @@ module _ (channel n : ℕ) (calls : Calls) where
 
   given-one : (x : Sight Seen) → givenUp (trace channel (added calls (callsBy (x .read)))) n ≡ givenUp (trace channel calls) n
   given-one x =
-      ⊎-elim (λ (z : x .read .answer ≡ 0). rw (calls-of (x .read) (kindOf (x .read .«msg_type»)) z refl) (given-by (kindOf (x .read .«msg_type»)) (x .read .channel .0) (x .read .tick .0)))
-      (λ (ne : x .read .answer ≡ 0 → ⊥). rw (calls-refused (x .read) ne))
-      (same (x .read .answer) 0)
+      ⊎-elim (λ (z : seenNumber (x .read) ≡ 0). rw (calls-of (x .read) (kindOf (x .read .«msg_type»)) z refl) (given-by (kindOf (x .read .«msg_type»)) (x .read .channel .0) (x .read .tick .0)))
+      (λ (ne : seenNumber (x .read) ≡ 0 → ⊥). rw (calls-refused (x .read) ne))
+      (same (seenNumber (x .read)) 0)
 
 given-from : (channel n : ℕ) (calls : Calls) (xs : List (Sight Seen)) → givenUp (trace channel (callsFrom calls xs)) n ≡ givenUp (trace channel calls) n
 unfolding callsFrom

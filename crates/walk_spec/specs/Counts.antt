@@ -9,6 +9,7 @@ use lib.ListN.{length}
 use Rattle.terms.specs.Paper.{pick}
 use Rattle.walk_laws.specs.Walk.{Sight}
 use Rattle.reading.specs.declared.Seen.{Seen}
+use Rattle.reading.specs.Seen.{seenNumber}
 use Rattle.walk_spec.specs.Walk.{accepts, refuses, framesOf, refusedOf}
 
 one : (b : Bool) → pick b 1 0 + pick b 0 1 ≡ 1
@@ -25,4 +26,4 @@ accepts-one reading n e = omega (arith, each reading)
 pub counts : (xs : List (Sight Seen)) → framesOf xs + refusedOf xs ≡ length xs
 unfolding framesOf refusedOf
 counts [] = refl
-counts (x ∷ xs) = omega (arith, each (x .read .answer), counts xs)
+counts (x ∷ xs) = omega (arith, each (seenNumber (x .read)), counts xs)

@@ -8,6 +8,7 @@ use native.Mathlib.Omega.{arith}
 use lib.ListN.{drop}
 use borrow.Author.Tests.{eqb-true, leb-true}
 use Rattle.terms.specs.Counters.{tickOf, channelOf}
+use Rattle.terms.specs.declared.Verdict.the-variants.{Fine}
 use Rattle.octets.specs.Octets.{be}
 use Rattle.octets.specs.Numerals.{numeral-drop, numeral-take}
 use Rattle.rules.specs.Table.{kindOf, suits}
@@ -22,7 +23,7 @@ use Rattle.record.specs.Record.{blankOf}
 use Rattle.terms.specs.declared.ChannelNumber.{ChannelNumber}
 use Rattle.terms.specs.declared.TickNumber.{TickNumber}
 use Rattle.reading.specs.declared.Seen.{Seen}
-use Rattle.reading.specs.Seen.{seenOf}
+use Rattle.reading.specs.Seen.{seenOf, seenNumber}
 use Rattle.reading.specs.SeenLaws.{seen-frame, seen-blank, seen-answer}
 use Rattle.walk_spec.specs.Offers.{callsFor, callsBy, Offer, offering, offerOf}
 use Rattle.walk_spec.specs.OfferLaws.{calls-refused, calls-of}
@@ -120,7 +121,7 @@ module _ (s : List ℕ) (z : readOf s .number ≡ 0) where
     unfolding recordBy madeOf
     frame-record p =
         rw (offer-number, offer-book, seen-channel, seen-tick)
-        (ap (λ (x : Seen). madeOf p (record { answer = 0; «msg_type» = x .«msg_type»; seq = x .seq; channel = channelOf (channelIn (typeIn s) s); tick = tickOf (tickIn (typeIn s) s); status = 0; «body_len» = x .«body_len»; size = 0 }) (answerIn (typeIn s) b s) (tickOf (ledgerAfter b s .floor)) (tickOf (ledgerAfter b s .top))) (seen-frame s z))
+        (ap (λ (x : Seen). madeOf p (record { answer = Fine; «msg_type» = x .«msg_type»; seq = x .seq; channel = channelOf (channelIn (typeIn s) s); tick = tickOf (tickIn (typeIn s) s); status = 0; «body_len» = x .«body_len»; size = 0 }) (answerIn (typeIn s) b s) (tickOf (ledgerAfter b s .floor)) (tickOf (ledgerAfter b s .top))) (seen-frame s z))
 
 -- A REFUSED READING
 
@@ -128,8 +129,8 @@ module _ (s : List ℕ) (ne : readOf s .number ≡ 0 → ⊥) (b : Book) where
   offer-refused : offerOf b (seenOf s) ≡ record { number = readOf s .number; book = b }
   unfolding offerOf offering
   offer-refused =
-      let a : seenOf s .answer ≡ readOf s .number = seen-answer s in
-      rw (calls-refused (seenOf s) (λ (z : seenOf s .answer ≡ 0). ne (sym a ∙ z)), a)
+      let a : seenNumber (seenOf s) ≡ readOf s .number = seen-answer s in
+      rw (calls-refused (seenOf s) (λ (z : seenNumber (seenOf s) ≡ 0). ne (sym a ∙ z)), a)
 
   pub refused-book : offerOf b (seenOf s) .book ≡ b
   refused-book = ap (λ (o : Offer). o .book) offer-refused

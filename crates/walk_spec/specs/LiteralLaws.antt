@@ -20,7 +20,7 @@ use Rattle.walk_laws.specs.Account as Account
 use Rattle.walk_laws.specs.Account.{accountOf}
 use Rattle.walk_laws.specs.Literal.{fromOf, sightAt, from-end}
 use Rattle.reading.specs.declared.Seen.{Seen}
-use Rattle.reading.specs.Seen.{seenOf, saysOf}
+use Rattle.reading.specs.Seen.{seenOf, seenNumber, saysOf}
 use Rattle.reading.specs.SeenLaws.{seen-answer, seen-size}
 use Rattle.walk_spec.specs.Onward.{Goes, goes-frame, goes-found, goes-none}
 use Rattle.walk_spec.specs.Walk.{recordBy, bookBy, sights, walkOf, accepts, refuses, framesOf, refusedOf}
@@ -44,12 +44,12 @@ whole-none b = refl
 module _ (s : List ℕ) (p : ℕ) (b : Book) (xs : List (Sight Seen)) where
   whole-frame : readOf (drop p s) .number ≡ 0 → whole b (sightAt seenOf saysOf p s ∷ xs) ≡ aFrame (frameRecord p b (drop p s)) (whole (ledgerAfter b (drop p s)) xs)
   unfolding accountOf framesOf refusedOf accepts refuses bookBy
-  whole-frame z = rw (frame-record (drop p s) z b p, offer-book (drop p s) z b, eq-eqb (seenOf (drop p s) .answer) 0 (seen-answer (drop p s) ∙ z), zero-add)
+  whole-frame z = rw (frame-record (drop p s) z b p, offer-book (drop p s) z b, eq-eqb (seenNumber (seenOf (drop p s))) 0 (seen-answer (drop p s) ∙ z), zero-add)
 
   whole-refusal : (readOf (drop p s) .number ≡ 0 → ⊥) → whole b (sightAt seenOf saysOf p s ∷ xs) ≡ aRefusal (blankOf p (readOf (drop p s) .number) (b .floor) (b .top)) (whole b xs)
   unfolding accountOf framesOf refusedOf accepts refuses bookBy
   whole-refusal ne =
-      rw (refused-record (drop p s) ne b p, refused-book (drop p s) ne b, ne-eqb (seenOf (drop p s) .answer) 0 (λ (z : seenOf (drop p s) .answer ≡ 0). ne (sym (seen-answer (drop p s)) ∙ z)), zero-add)
+      rw (refused-record (drop p s) ne b p, refused-book (drop p s) ne b, ne-eqb (seenNumber (seenOf (drop p s))) 0 (λ (z : seenNumber (seenOf (drop p s)) ≡ 0). ne (sym (seen-answer (drop p s)) ∙ z)), zero-add)
 
 -- one reading, where the walk behind it is known
 module _ (k : ℕ) (s : List ℕ) (p : ℕ) (b : Book) (h : p < length s) (ih : (q : ℕ) (c : Book) → p < q → walkFrom k s q c ≡ whole c (fromOf seenOf saysOf q s)) where
@@ -64,12 +64,12 @@ module _ (k : ℕ) (s : List ℕ) (p : ℕ) (b : Book) (h : p < length s) (ih : 
   on-refusal : (readOf (drop p s) .number ≡ 0 → ⊥) → (a : Paper) → searchOf s (p + 1) ≡ a → Lowest s (p + 1) a
       → aRefusal (blankOf p (readOf (drop p s) .number) (b .floor) (b .top)) (goOn (λ q. walkFrom k s q b) (stopped b) (a .values)) ≡ whole b (fromOf seenOf saysOf p s)
   on-refusal ne a e (l-at q f x y z d) =
-      let g = goes-found s p (seenOf (drop p s)) h refl (λ (i : seenOf (drop p s) .answer ≡ 0). ne (sym (seen-answer (drop p s)) ∙ i)) q (sym (e ∙ f)) in
+      let g = goes-found s p (seenOf (drop p s)) h refl (λ (i : seenNumber (seenOf (drop p s)) ≡ 0). ne (sym (seen-answer (drop p s)) ∙ i)) q (sym (e ∙ f)) in
       rw f (ap (aRefusal (blankOf p (readOf (drop p s) .number) (b .floor) (b .top))) (ih q b (omega arith)))
       ∙ sym (whole-refusal s p b (fromOf seenOf saysOf q s) ne)
       ∙ ap (whole b) (sym (g .rest))
   on-refusal ne a e (l-none f d) =
-      let g = goes-none s p (seenOf (drop p s)) h refl (λ (i : seenOf (drop p s) .answer ≡ 0). ne (sym (seen-answer (drop p s)) ∙ i)) (sym (e ∙ f)) in
+      let g = goes-none s p (seenOf (drop p s)) h refl (λ (i : seenNumber (seenOf (drop p s)) ≡ 0). ne (sym (seen-answer (drop p s)) ∙ i)) (sym (e ∙ f)) in
       rw f (ap (aRefusal (blankOf p (readOf (drop p s) .number) (b .floor) (b .top))) (sym (ap (whole b) (from-end seenOf saysOf (length s) s (omega arith)) ∙ whole-none b)))
       ∙ sym (whole-refusal s p b (fromOf seenOf saysOf (length s) s) ne)
       ∙ ap (whole b) (sym (g .rest))

@@ -5,15 +5,16 @@ use borrow.Author.Tests.{eq-eqb, ne-eqb}
 use Rattle.rules.specs.Table.{kindOf}
 use Rattle.rules.specs.declared.Kind.{Kind}
 use Rattle.reading.specs.declared.Seen.{Seen}
+use Rattle.reading.specs.Seen.{seenNumber}
 use Rattle.walk_spec.specs.Offers.{callsFor, callsBy}
 
 module _ (x : Seen) where
   -- a refused reading makes no call
-  pub calls-refused : (x .answer ≡ 0 → ⊥) → callsBy x ≡ []
+  pub calls-refused : (seenNumber x ≡ 0 → ⊥) → callsBy x ≡ []
   unfolding callsBy
-  calls-refused ne = rw (ne-eqb (x .answer) 0 ne)
+  calls-refused ne = rw (ne-eqb (seenNumber x) 0 ne)
 
   -- an accepted one makes those of its type
-  pub calls-of : (k : Kind) → x .answer ≡ 0 → k ≡ kindOf (x .«msg_type») → callsBy x ≡ callsFor k (x .channel .0) (x .tick .0)
+  pub calls-of : (k : Kind) → seenNumber x ≡ 0 → k ≡ kindOf (x .«msg_type») → callsBy x ≡ callsFor k (x .channel .0) (x .tick .0)
   unfolding callsBy
-  calls-of k z e = rw (eq-eqb (x .answer) 0 z, e)
+  calls-of k z e = rw (eq-eqb (seenNumber x) 0 z, e)

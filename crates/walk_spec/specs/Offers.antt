@@ -10,6 +10,7 @@ use Rattle.rules.specs.declared.Kind.the-variants.{S001, S002, S003, P001, P002
 use Rattle.ledger_spec.specs.State.{Book}
 use Rattle.ledger_spec.specs.Calls.{Call, Tick, Announce, numberTo, nextOf}
 use Rattle.reading.specs.declared.Seen.{Seen}
+use Rattle.reading.specs.Seen.{seenNumber}
 
 -- the calls that a frame of a type makes: one, or none
 abbrev pub callsFor : Kind → ℕ → ℕ → List Call
@@ -25,7 +26,7 @@ callsFor Unknown channel n = []
 
 -- those of a reading: only an accepted one makes any
 unfoldable pub callsBy : Seen → List Call
-callsBy x = pick (eqb (x .answer) 0) (callsFor (kindOf (x .«msg_type»)) (x .channel .0) (x .tick .0)) []
+callsBy x = pick (eqb (seenNumber x) 0) (callsFor (kindOf (x .«msg_type»)) (x .channel .0) (x .tick .0)) []
 
 -- the number answered, and the book after the call
 pub record Offer : Type 0 where
@@ -38,4 +39,4 @@ offering b number [] = record { number = number; book = b }
 offering b number (call ∷ calls) = offering (nextOf b call) (numberTo b call) calls
 
 unfoldable pub offerOf : Book → Seen → Offer
-offerOf b x = offering b (x .answer) (callsBy x)
+offerOf b x = offering b (seenNumber x) (callsBy x)

@@ -20,7 +20,7 @@ use Rattle.walk_laws.specs.Account as Account
 use Rattle.walk_laws.specs.Account.{accountOf}
 use Rattle.walk_laws.specs.Seen.{Rising, r-nil, r-cons, places-rise, Inside, i-in, i-later, Has, h-at, h-in, h-later, none-lost}
 use Rattle.reading.specs.declared.Seen.{Seen}
-use Rattle.reading.specs.Seen.{seenOf, saysOf}
+use Rattle.reading.specs.Seen.{seenOf, seenNumber, saysOf}
 use Rattle.reading.specs.SeenLaws.{says-frame, frame-says, seen-answer}
 use Rattle.walk_spec.specs.Walk.{madeOf, recordBy, bookBy, sights, walkOf}
 use Rattle.walk_spec.specs.Literal.{lengthIn, ledgerAfter, frameRecord, Walk, stopped, goOn, walkFrom, literalWalk}
@@ -85,7 +85,7 @@ pub data At (q : ℕ) : List Record → Type 0 where
 
 -- an accepted reading whose frame has the byte at q, and does not begin there
 pub data Covers (q : ℕ) : List (Sight Seen) → Type 0 where
-  covers-here : {x : Sight Seen} {xs : List (Sight Seen)} → x .read .answer ≡ 0 → x .place < q → q < x .place + x .read .size → Covers q (x ∷ xs)
+  covers-here : {x : Sight Seen} {xs : List (Sight Seen)} → seenNumber (x .read) ≡ 0 → x .place < q → q < x .place + x .read .size → Covers q (x ∷ xs)
   covers-later : {x : Sight Seen} {xs : List (Sight Seen)} → Covers q xs → Covers q (x ∷ xs)
 
 pub covered : (q : ℕ) (xs : List (Sight Seen)) → Inside saysOf q xs → Covers q xs

@@ -20,7 +20,7 @@ use Rattle.walk_laws.specs.Account.{Account}
 use Rattle.walk_laws.specs.Frames.{joined, eachOf}
 use Rattle.terms.specs.declared.TickNumber.{TickNumber}
 use Rattle.reading.specs.declared.Seen.{Seen}
-use Rattle.reading.specs.Seen.{seenOf, saysOf}
+use Rattle.reading.specs.Seen.{seenOf, seenNumber, saysOf}
 use Rattle.walk_spec.specs.Offers.{callsBy, offerOf}
 
 -- ---- records and ledger
@@ -83,11 +83,11 @@ refuses reading = pick (eqb reading 0) 0 1
 
 unfoldable pub framesOf : List (Sight Seen) → ℕ
 framesOf [] = 0
-framesOf (x ∷ xs) = accepts (x .read .answer) + framesOf xs
+framesOf (x ∷ xs) = accepts (seenNumber (x .read)) + framesOf xs
 
 unfoldable pub refusedOf : List (Sight Seen) → ℕ
 refusedOf [] = 0
-refusedOf (x ∷ xs) = refuses (x .read .answer) + refusedOf xs
+refusedOf (x ∷ xs) = refuses (seenNumber (x .read)) + refusedOf xs
 
 -- ---- what the walk answers and leaves
 

@@ -1,4 +1,5 @@
--- Two answers that the promise of `offer` allows are equal. Assumes nothing.
+-- Two answers that one promise allows are equal, and so are two final contents of a buffer.
+-- Assumes nothing.
 use mathlib.Core.Path.{sym, ap₂, _∙_, refl}
 use Prim.Native.Nat.{ℕ}
 use Rattle.terms.specs.OneAnswer.{OneAnswer}
@@ -11,6 +12,8 @@ use Rattle.walk_step.proofs.made.Reads as made
 use Rattle.walk_step.proofs.made.Kinds as made-kinds
 use Rattle.walk_step.proofs.note.Reads as note
 use Rattle.walk_step.proofs.note.Kinds as note-kinds
+use Rattle.walk_step.proofs.onward.Reads as onward
+use Rattle.walk_step.proofs.onward.Kinds as onward-kinds
 
 pub offer-one-answer : OneAnswer _ offer-kinds.ps offer-kinds.r offer.Post
 offer-one-answer κs a x y s t p q =
@@ -24,3 +27,6 @@ note-one-answer κs a x y s t p q = refl
 
 pub note-one-buffer : OneBuffer _ note-kinds.ps note-kinds.r note.Post (λ κs s. now (s .0))
 note-one-buffer κs a x y s t p q = p ∙ sym q
+
+pub onward-one-answer : OneAnswer _ onward-kinds.ps onward-kinds.r onward.Post
+onward-one-answer κs a x y s t p q = p ∙ sym q

@@ -1,12 +1,17 @@
--- Wrong answers that the promise of `offer` rules out, as a table of what is given and what is then
--- wrong. Assumes nothing.
+-- Wrong answers that the promises of this crate rule out, as tables of what is given and what is
+-- then wrong. Assumes nothing.
 use Prim.Native.Nat.{ℕ}
 use mathlib.Core.Path.{_≡_, refl, ap, ap₂}
 use mathlib.Core.List.{List, [], _∷_, _++_}
 use lib.Count.{trailingZeros}
 use Rattle.terms.specs.Counters.{sessionOf, tickOf, channelOf}
+use Rattle.terms.specs.declared.Verdict.the-variants.{Fine}
 use Rattle.terms.specs.RuledOut.{Row, _never_, _only_, Kept, RulesOut, ruled, numbers, lists, beside}
-use Rattle.rules.specs.Table.{kindOf}
+use Rattle.rules.specs.Table.{kindOf, suits, measureOf}
+use Rattle.rules.specs.Fields.{p001Ok, fieldsOk, judgeOf}
+use Rattle.frame_spec.specs.Frame.{checked, readOf}
+use Rattle.frame_spec.specs.Search.{firstOf, searchOf}
+use Rattle.frame_spec.specs.Examples.{startOfA, frameA, frameB, four, A}
 use Rattle.tick_map.specs.Bits.{valueOf, mapOf, run}
 use Rattle.tick_map.specs.Ring.{rotated}
 use Rattle.ledger_spec.specs.State.{Asked, nothing, range, Book, has, rangeRules, mapRules, soundOf}
@@ -19,16 +24,20 @@ use Rattle.walk_step.proofs.offer.Reads as offer
 use Rattle.walk_step.proofs.offer.Kinds as offer-kinds
 use denote.Ref.{now}
 use lib.ListN.{replicate}
-use Rattle.octets.specs.Octets.{digitsOf, laid}
+use Rattle.octets.specs.Octets.{numeral, digitsOf, laid, sum8, sumOf}
+use Rattle.calendar.specs.Calendar.{leap, daysIn, realParts, realTime}
 use Rattle.record.specs.declared.Record.{Record}
 use Rattle.record.specs.Record.{firstHalf, secondHalf, recordOf}
 use Rattle.record.specs.Examples.{recordA}
 use Rattle.walk_spec.specs.Walk.{madeOf}
 use Rattle.walk_spec.specs.Tables.{notedAt}
+use Rattle.walk_spec.specs.Onward.{onwardOf}
 use Rattle.walk_step.proofs.made.Reads as made
 use Rattle.walk_step.proofs.made.Kinds as made-kinds
 use Rattle.walk_step.proofs.note.Reads as note
 use Rattle.walk_step.proofs.note.Kinds as note-kinds
+use Rattle.walk_step.proofs.onward.Reads as onward
+use Rattle.walk_step.proofs.onward.Kinds as onward-kinds
 
 -- a ledger of channel 100 with nothing held; and what is seen of an accepted frame of this type and
 -- channel, with the number 1
@@ -36,7 +45,7 @@ abbrev book : ℕ → ℕ → Book
 book floor top = record { channel = 100; floor = floor; top = top; bits = 0; pending = nothing }
 
 abbrev frame : ℕ → ℕ → Seen
-frame type channel = record { answer = 0; «msg_type» = type; seq = sessionOf 9; channel = channelOf channel; tick = tickOf 1; status = 0; «body_len» = 45; size = 73 }
+frame type channel = record { answer = Fine; «msg_type» = type; seq = sessionOf 9; channel = channelOf channel; tick = tickOf 1; status = 0; «body_len» = 45; size = 73 }
 
 -- the number answered; and of the ledger then: floor, top, held numbers
 abbrev seen : Book → List ℕ
@@ -61,7 +70,7 @@ offer-rules-out = ruled (beside numbers lists) (λ (i : Book × Seen). shown (of
 -- MADE: a place, what is seen there, and of the ledger after it: the number answered, its floor and
 -- its top. The record's nine numbers.
 abbrev tick : Seen
-tick = record { answer = 0; «msg_type» = 0x4D323031; seq = sessionOf 2; channel = channelOf 100; tick = tickOf 3; status = 0; «body_len» = 45; size = 73 }
+tick = record { answer = Fine; «msg_type» = 0x4D323031; seq = sessionOf 2; channel = channelOf 100; tick = tickOf 3; status = 0; «body_len» = 45; size = 73 }
 
 abbrev noted : Record → List ℕ
 noted r = r .place ∷ r .«msg_type» ∷ r .answer ∷ r .seq .0 ∷ r .tick .0 ∷ r .channel .0 ∷ r .«body_len» ∷ r .floor .0 ∷ r .top .0 ∷ []
@@ -88,3 +97,24 @@ note-wrong =
 pub note-rules-out : RulesOut (Kept _ note-kinds.ps note-kinds.r note.Post) (λ c. (now (c .args .0), (c .args .1 .0, c .args .1 .1 .0))) (λ c. now (c .exit .0)) note-wrong
 unfolding digitsOf laid firstHalf secondHalf recordOf notedAt
 note-rules-out = ruled lists (λ (i : List ℕ × (ℕ × Record)). notedAt (i .1 .0) (i .1 .1) (i .0)) (λ c p. p) _ refl
+
+-- ONWARD: a capture, a place, and how many bytes the frame there has, none where it was refused;
+-- the place of the next reading
+abbrev damaged : List ℕ
+damaged = frameA (four 0 41) (four 0 0x8E) ++ (0xFF ∷ frameB)
+
+abbrev pub onward-wrong : List (Row (List ℕ × (ℕ × ℕ)) ℕ)
+onward-wrong =
+    (damaged, (0, 0)) never 69  -- stepped by a damaged BodyLength, over B
+    ∷ (damaged, (0, 0)) only 29  -- B is found from the next byte on
+    ∷ (A ++ frameB, (0, 28)) never 1  -- a frame's own bytes searched
+    ∷ (A ++ frameB, (0, 28)) only 28
+    ∷ (A ++ frameB, (0, 0)) only 28  -- behind a refusal a frame at its own place is not looked for
+    ∷ (0xFF ∷ 0xFF ∷ [], (0, 0)) only 2  -- nothing found: the end
+    ∷ (A, (0, 29)) only 28  -- no place beyond the end
+    ∷ (A, (29, 0)) only 28
+    ∷ []
+
+pub onward-rules-out : RulesOut (Kept _ onward-kinds.ps onward-kinds.r onward.Post) (λ c. (now (c .args .0), (c .args .1 .0, c .args .1 .1 .0))) (λ c. c .result) onward-wrong
+unfolding frameA startOfA frameB checked readOf firstOf searchOf numeral sum8 sumOf kindOf suits measureOf p001Ok fieldsOk realTime realParts daysIn leap judgeOf onwardOf
+onward-rules-out = ruled numbers (λ (i : List ℕ × (ℕ × ℕ)). onwardOf (i .0) (i .1 .0) (i .1 .1)) (λ c p. p) _ refl

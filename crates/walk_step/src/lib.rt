@@ -1,8 +1,16 @@
-// A reading offered to the ledger. Document 01, "Fault records and the listing".
+// One step of the walk: a reading offered to the ledger and recorded, and where the next one is.
+// Document 01, "Fault records and the listing".
 ghost use mathlib.Core.Path.{_≡_};
 ghost use Rattle.ledger.specs.State.{bookOf, ledgerOf};
 ghost use Rattle.ledger_spec.specs.Calls.{Tick, Announce, numberTo, nextOf};
+ghost use Prim.Native.Nat.{_+_, _<_};
+ghost use lib.Dec.{leb};
+ghost use lib.ListN.{length, getD};
+ghost use Rattle.terms.specs.Paper.{pick};
+ghost use Rattle.frame_spec.specs.Search.{searchOf};
 ghost use Rattle.walk_spec.specs.Offers.{offerOf};
+ghost use Rattle.walk_spec.specs.Onward.{onwardOf};
+use frame::Found;
 use ledger::Answer;
 use ledger::Ledger;
 use ledger::TickAnswer;
@@ -73,8 +81,10 @@ pub fn offer(ledger: Ledger, seen: Seen) -> Offered
 {
     let channel = seen.channel;
     let tick = seen.tick;
-    if seen.answer != 0 {
-        return kept(ledger, seen.answer);
+    let verdict = seen.answer;
+    let answer = verdict.number();
+    if answer != 0 {
+        return kept(ledger, answer);
     }
     match rules::kind_of(seen.msg_type) {
         Kind::S001 => kept(ledger, 0),
@@ -120,4 +130,39 @@ pub fn note(out: &mut [u8], k: usize, r: Record)
     if k < out.len() / 64 {
         record::put(out, 64 * k, r);
     }
+}
+
+// So many bytes behind the place p, which is inside, or the end where that lies beyond it.
+fn past(end: usize, p: usize, size: usize) -> usize
+    requires { ⌜ p < end ⌝ }
+    ensures { λ r. ⌜ r ≡ pick (leb (p + size) end) (p + size) end ⌝ }
+{
+    if size <= end - p { p + size } else { end }
+}
+
+// Where the search from a place on finds a frame, or the end.
+fn sought(capture: &[u8], from: usize) -> usize
+    ensures { λ r. ⌜ r ≡ getD (searchOf (now (capture .entry)) from .values) 0 (length (now (capture .entry))) ⌝ }
+{
+    match frame::search(capture, from) {
+        Found::At(q) => q,
+        Found::Nothing => capture.len(),
+        Found::Beyond => capture.len(),
+    }
+}
+
+// The place of the next reading, after the one at p, whose frame has size bytes, none where it was
+// refused: past the frame, or where the search from the next byte on finds one. The end where it
+// finds none, or a frame is said to be longer than what is there. A refused frame's BodyLength is
+// never stepped by.
+pub fn onward(capture: &[u8], p: usize, size: usize) -> usize
+    ensures { λ r. ⌜ r ≡ onwardOf (now (capture .entry)) p size ⌝ }
+{
+    if capture.len() <= p {
+        return capture.len();
+    }
+    if size == 0 {
+        return sought(capture, p + 1);
+    }
+    past(capture.len(), p, size)
 }

@@ -4,12 +4,12 @@
 use native.Mathlib.Omega.{arith}
 use Prim.Native.Nat.{_-_}
 use borrow.Author.Needs.{needs}
-use Rattle.clean_spec.specs.Differ.{Alike, alike-step, alike-here, alike-all}
+use Rattle.clean_spec.specs.Differ.{AgreesSoFar, agrees-step, agrees-here, agrees-all}
 use Rattle.clean.proofs.agreed.Statement.{statement}
 use Rattle.clean.proofs.agreed.Tie as tie
 
 abbrev Inv-loop : tie.InvT-loop
-Inv-loop capture n one size i₀ i = Alike capture one n size i
+Inv-loop capture n one size i₀ i = AgreesSoFar capture one n size i
 
 abbrev μ-loop : tie.MeasureT-loop
 μ-loop capture n one size i₀ i = size - i
@@ -32,7 +32,7 @@ shared-slice-read-if1-2 c = omega arith
 returns : tie.Need-returns Inv-loop μ-loop
 returns c =
     let x = c .before .before .before .before .before .before .before .before in
-    (omega arith, alike-here _ _ _ _ (x .pre .0) (x .pre .1) _ (c .before .before .before .before .loop .inv) (c .before .before .before .loop-test .taken) (c .if1 .taken))
+    (omega arith, agrees-here _ _ _ _ (x .pre .0) (x .pre .1) _ (c .before .before .before .before .loop .inv) (c .before .before .before .loop-test .taken) (c .if1 .taken))
 
 add-i : tie.Need-add-i Inv-loop μ-loop
 add-i c = omega arith
@@ -43,10 +43,10 @@ loop-less c = omega arith
 loop-again : tie.Need-loop-again Inv-loop μ-loop
 loop-again c =
     let x = c .before .before .before .before .before .before .before .before in
-    alike-step _ _ _ _ (x .pre .0) (x .pre .1) _ (c .before .before .before .before .loop .inv) (c .before .before .before .loop-test .taken) (c .if1 .left)
+    agrees-step _ _ _ _ (x .pre .0) (x .pre .1) _ (c .before .before .before .before .loop .inv) (c .before .before .before .loop-test .taken) (c .if1 .left)
 
 returns-2 : tie.Need-returns-2 Inv-loop μ-loop
-returns-2 c = let x = c .before .before .before .before .before in (omega arith, alike-all _ _ _ _ (x .pre .0) (x .pre .1) _ (c .before .loop .inv) (c .loop-test .left))
+returns-2 c = let x = c .before .before .before .before .before in (omega arith, agrees-all _ _ _ _ (x .pre .0) (x .pre .1) _ (c .before .loop .inv) (c .loop-test .left))
 
 pub agreed-spec : {M : Type 1} → statement M
 agreed-spec =

@@ -6,7 +6,8 @@ use Prim.Native.Nat.{_-_}
 use mathlib.Core.Path.{_≡_, sym}
 use lib.ListN.{length}
 use borrow.Author.Needs.{needs}
-use Rattle.clean.proofs.PassLaws.{Same, same-start, kept-inside, kept-small, one-long, same-step, same-here, same-more, same-end}
+use Rattle.clean_spec.specs.Steps.{Steps}
+use Rattle.clean.proofs.PassLaws.{Same, same-start, kept-inside, kept-small, kept-steps, one-long, same-step, same-here, same-more, same-end}
 use Rattle.clean.proofs.is_clean.Statement.{statement}
 use Rattle.clean.proofs.is_clean.Tie as tie
 
@@ -45,17 +46,21 @@ returns : tie.Need-returns Inv-loop μ-loop
 returns c = same-here _ _ _ _ _ _ (c .before .before .before .before .before .before .before .before .loop .inv) (c .before .before .before .before .before .keep .ensures) _ (c .before .before .agreed .ensures .1) (c .before .before .before .before .before .before .before .loop-test .taken) (c .if1 .taken)
 
 onward-requires : tie.Need-onward-requires Inv-loop μ-loop
-onward-requires c κs = (omega arith, c .before .before .before .before .before .keep .ensures .0)
+onward-requires c κs = search needs
+
+-- where it leads is the place of the next reading
+steps : (c : tie.After-onward Inv-loop μ-loop) → Steps (c .before .before .before .before .before .before .before .before .before .before .before .args .capture .now) (c .before .before .before .before .before .before .before .before .before .loop .at) (c .before .before .before .before .before .before .keep .result .size) (c .onward .result)
+steps c = kept-steps _ _ _ (c .before .before .before .before .before .before .keep .ensures .0) (c .before .before .before .before .before .before .before .before .loop-test .taken) _ (c .onward .ensures)
 
 add-n : tie.Need-add-n Inv-loop μ-loop
-add-n c = omega (arith, c .before .before .before .before .before .before .before .before .before .before .loop .inv .few, c .before .onward .ensures .past, c .before .onward .ensures .goes .inside)
+add-n c = let g = steps (c .before) in omega (arith, c .before .before .before .before .before .before .before .before .before .before .loop .inv .few, g .past, g .goes .inside)
 
 loop-less : tie.Need-loop-less Inv-loop μ-loop
-loop-less c = omega (arith, c .before .onward .ensures .goes .further, c .before .onward .ensures .goes .inside)
+loop-less c = let g = steps (c .before) in omega (arith, g .goes .further, g .goes .inside)
 
 loop-again : tie.Need-loop-again Inv-loop μ-loop
 loop-again c =
-    same-step _ _ _ _ _ _ (c .before .before .before .before .before .before .before .before .before .before .loop .inv) (c .before .before .before .before .before .before .before .keep .ensures) _ (c .before .before .before .before .agreed .ensures .1) _ (c .before .onward .ensures) (c .before .before .if1 .left)
+    same-step _ _ _ _ _ _ (c .before .before .before .before .before .before .before .before .before .before .loop .inv) (c .before .before .before .before .before .before .before .keep .ensures) _ (c .before .before .before .before .agreed .ensures .1) _ (steps (c .before)) (c .before .before .if1 .left)
 
 returns-2 : tie.Need-returns-2 Inv-loop μ-loop
 returns-2 c = same-more (c .before .before .loop .inv) (c .before .loop-test .left) (c .if2 .taken)

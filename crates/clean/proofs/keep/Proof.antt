@@ -20,6 +20,9 @@ enum-told c = search needs
 see-requires : tie.Need-see-requires
 see-requires c κs = search needs
 
+number-requires : tie.Need-number-requires
+number-requires c κs = search needs
+
 same-length : tie.Need-same-length
 same-length c = search needs
 
@@ -33,8 +36,8 @@ same-length-2 c = search needs
 
 returns-2 : tie.Need-returns-2
 returns-2 c =
-    let z = c .before .before .before .before .before in
-    (ap keptOf (c .see .ensures), z .scrub-into .ensures .1 ∙ into-seen _ _ _)
+    let z = c .before .before .before .before .before .before in
+    (rw (c .number .ensures) (ap keptOf (c .before .see .ensures)), z .scrub-into .ensures .1 ∙ into-seen _ _ _)
 
 pub keep-spec : {M : Type 1} → statement M
 keep-spec =
@@ -44,6 +47,7 @@ keep-spec =
     enum-known-size
     enum-told
     see-requires
+    number-requires
     same-length
     returns
     same-length-2

@@ -6,7 +6,8 @@ use Prim.Native.Nat.{_-_}
 use lib.ListN.{length}
 use borrow.Author.Needs.{needs}
 use Rattle.walk_spec.specs.Counts.{accepts-one}
-use Rattle.clean.proofs.PassLaws.{Left, left-start, left-step, left-end}
+use Rattle.clean_spec.specs.Steps.{Steps}
+use Rattle.clean.proofs.PassLaws.{Left, left-start, kept-steps, left-step, left-end}
 use Rattle.clean.proofs.pass.Statement.{statement}
 use Rattle.clean.proofs.pass.Tie as tie
 
@@ -23,10 +24,14 @@ keep-requires : tie.Need-keep-requires Inv-loop μ-loop
 keep-requires c κs = search needs
 
 onward-requires : tie.Need-onward-requires Inv-loop μ-loop
-onward-requires c κs = (omega arith, c .before .before .keep .ensures .0)
+onward-requires c κs = search needs
+
+-- where it leads is the place of the next reading
+steps : (c : tie.After-onward Inv-loop μ-loop) → Steps (c .before .before .before .before .before .before .before .before .before .args .capture .now) (c .before .before .before .before .before .before .loop .p) (c .before .before .before .keep .result .size) (c .onward .result)
+steps c = kept-steps _ _ _ (c .before .before .before .keep .ensures .0) (c .before .before .before .before .before .loop-test .taken) _ (c .onward .ensures)
 
 add-bytes : tie.Need-add-bytes Inv-loop μ-loop
-add-bytes c = omega (arith, c .before .before .before .before .before .before .before .loop .inv .few, c .before .onward .ensures .past, c .before .onward .ensures .goes .inside)
+add-bytes c = let g = steps (c .before) in omega (arith, c .before .before .before .before .before .before .before .loop .inv .few, g .past, g .goes .inside)
 
 accepted-requires : tie.Need-accepted-requires Inv-loop μ-loop
 accepted-requires c κs = search needs
@@ -41,11 +46,11 @@ add-after-damage : tie.Need-add-after-damage Inv-loop μ-loop
 add-after-damage c = omega (arith, c .before .before .before .before .before .before .before .before .before .loop .inv .found-few, c .before .before .before .before .before .before .before .before .before .loop .inv .inside, c .found .ensures .1)
 
 loop-less : tie.Need-loop-less Inv-loop μ-loop
-loop-less c = omega (arith, c .before .before .before .onward .ensures .goes .further, c .before .before .before .onward .ensures .goes .inside)
+loop-less c = let g = steps (c .before .before .before) in omega (arith, g .goes .further, g .goes .inside)
 
 loop-again : tie.Need-loop-again Inv-loop μ-loop
 loop-again c =
-    left-step _ (c .before .before .before .before .before .before .before .before .before .loop .inv) (c .before .before .before .before .before .before .keep .ensures) (c .before .before .before .onward .ensures) (c .before .accepted .ensures) (c .found .ensures)
+    left-step _ (c .before .before .before .before .before .before .before .before .before .loop .inv) (c .before .before .before .before .before .before .keep .ensures) (steps (c .before .before .before)) (c .before .accepted .ensures) (c .found .ensures)
 
 same-length : tie.Need-same-length Inv-loop μ-loop
 same-length c = c .before .loop .inv .room

@@ -4,19 +4,19 @@ use native.Mathlib.Omega.{arith}
 use Prim.Native.Nat.{_-_}
 use mathlib.Core.Path.{sym, _∙_}
 use borrow.Author.Needs.{needs}
-use Rattle.clean_spec.specs.Differ.{Alike, alike-start}
-use Rattle.clean.proofs.Eights.{alike-word}
+use Rattle.clean_spec.specs.Differ.{AgreesSoFar, agrees-start}
+use Rattle.clean.proofs.Eights.{agrees-word}
 use Rattle.clean.proofs.words.Statement.{statement}
 use Rattle.clean.proofs.words.Tie as tie
 
 abbrev Inv-loop : tie.InvT-loop
-Inv-loop capture n one size i₀ i = Alike capture one n size i
+Inv-loop capture n one size i₀ i = AgreesSoFar capture one n size i
 
 abbrev μ-loop : tie.MeasureT-loop
 μ-loop capture n one size i₀ i = size - i
 
 loop-holds : tie.Need-loop-holds Inv-loop μ-loop
-loop-holds c = let x = c .before .before in alike-start _ _ _ _ (x .pre .0) (x .pre .1)
+loop-holds c = let x = c .before .before in agrees-start _ _ _ _ (x .pre .0) (x .pre .1)
 
 sub-loop : tie.Need-sub-loop Inv-loop μ-loop
 sub-loop c = c .loop .inv .few
@@ -43,7 +43,7 @@ loop-again : tie.Need-loop-again Inv-loop μ-loop
 loop-again c =
     let l = c .before .before .before .before .loop in
     let x = c .before .before .before .before .before .before .before in
-    alike-word _ _ _ _ (x .pre .0) (x .pre .1) (l .i) (l .inv) (omega (arith, l .inv .few))
+    agrees-word _ _ _ _ (x .pre .0) (x .pre .1) (l .i) (l .inv) (omega (arith, l .inv .few))
     (λ k. c .before .before .before .before .before .before .shared-slice-known .given k .fits)
     (λ k. c .before .before .before .before .before .shared-slice-known2 .given k .fits)
     (sym (c .before .before .word .ensures) ∙ c .if1 .left ∙ c .before .word2 .ensures)

@@ -3,10 +3,12 @@
 -- Assumes nothing.
 use native.Mathlib.Omega.{arith}
 use Prim.Native.Nat.{ℕ, _-_, _≤_}
-use mathlib.Core.Path.{_≡_, ap, _∙_}
+use mathlib.Core.Path.{_≡_, sym, ap, _∙_}
 use mathlib.Core.List.{List}
 use lib.ListN.{length}
 use borrow.Author.Needs.{needs}
+use Rattle.reading.specs.Seen.{seenNumber}
+use Rattle.walk_spec.specs.Onward.{Goes, goes-onward}
 use Rattle.month_spec.specs.Page.{placeIn}
 use Rattle.month.proofs.PassLaws.{Left, left-start, left-refused, left-none, row-roomy, left-own, left-end}
 use Rattle.month.proofs.pass.Statement.{statement}
@@ -35,13 +37,27 @@ see-requires : tie.Need-see-requires Inv-loop μ-loop
 see-requires c κs = search needs
 
 onward-requires : tie.Need-onward-requires Inv-loop μ-loop
-onward-requires c κs = (omega arith, c .see .ensures)
+onward-requires c κs = search needs
+
+-- where it leads is the place of the next reading
+goes : (c : tie.After-onward Inv-loop μ-loop) → Goes (c .before .before .before .before .before .before .args .capture .now) (c .before .before .before .loop .p) (c .onward .result)
+goes c = goes-onward _ _ _ (c .before .see .ensures) (c .before .before .loop-test .taken) _ (c .onward .ensures)
+
+-- what its answer is
+refused : (c : tie.Then1 Inv-loop μ-loop) → seenNumber (c .before .before .before .see .result) ≡ 0 → ⊥
+refused c z = c .if1 .taken (c .before .number .ensures ∙ z)
+
+accepted : (c : tie.Else1 Inv-loop μ-loop) → seenNumber (c .before .before .before .see .result) ≡ 0
+accepted c = sym (c .before .number .ensures) ∙ c .if1 .left
+
+number-requires : tie.Need-number-requires Inv-loop μ-loop
+number-requires c κs = search needs
 
 loop-less : tie.Need-loop-less Inv-loop μ-loop
-loop-less c = omega (arith, c .before .before .onward .ensures .further, c .before .before .onward .ensures .inside)
+loop-less c = let g = goes (c .before .before) in omega (arith, g .further, g .inside)
 
 loop-again : tie.Need-loop-again Inv-loop μ-loop
-loop-again c = left-refused _ _ _ _ _ _ (c .before .before .before .before .before .loop .inv) _ (c .before .before .before .see .ensures) (c .before .before .onward .ensures) (c .if1 .taken)
+loop-again c = left-refused _ _ _ _ _ _ (c .before .before .before .before .before .loop .inv) _ (c .before .before .before .see .ensures) (goes (c .before .before)) (refused c)
 
 value-requires : tie.Need-value-requires Inv-loop μ-loop
 value-requires c κs = search needs
@@ -50,10 +66,10 @@ place-of-requires : tie.Need-place-of-requires Inv-loop μ-loop
 place-of-requires c κs = c .before .before .before .before .before .before .before .before .before .before .pre .few
 
 loop-less-2 : tie.Need-loop-less-2 Inv-loop μ-loop
-loop-less-2 c = omega (arith, c .before .before .before .before .before .before .onward .ensures .further, c .before .before .before .before .before .before .onward .ensures .inside)
+loop-less-2 c = let g = goes (c .before .before .before .before .before .before) in omega (arith, g .further, g .inside)
 
 loop-again-2 : tie.Need-loop-again-2 Inv-loop μ-loop
-loop-again-2 c = left-none _ _ _ _ _ _ (c .before .before .before .before .before .before .before .before .before .loop .inv) _ (c .before .before .before .before .before .before .before .see .ensures) (c .before .before .before .before .before .before .onward .ensures) (c .before .before .before .before .if1 .left) (c .before .before .before .before .before .before .before .before .before .before .before .before .pre)
+loop-again-2 c = left-none _ _ _ _ _ _ (c .before .before .before .before .before .before .before .before .before .loop .inv) _ (c .before .before .before .before .before .before .before .see .ensures) (goes (c .before .before .before .before .before .before)) (accepted (c .before .before .before .before)) (c .before .before .before .before .before .before .before .before .before .before .before .before .pre)
     (none-at (c .before .before .before .before .before .before .before .before .before .before .before .before .args .channels) (c .before .before .before .before .before .before .before .before .before .before .before .before .args .named) (c .before .place-of .ensures) (c .before .before .value .ensures) (c .if2 .taken))
 
 mul-row : tie.Need-mul-row Inv-loop μ-loop
@@ -63,7 +79,7 @@ array-copy-out-row : tie.Need-array-copy-out-row Inv-loop μ-loop
 array-copy-out-row c = search needs
 
 turned-requires : tie.Need-turned-requires Inv-loop μ-loop
-turned-requires c κs = row-roomy _ _ _ _ _ _ (c .before .before .before .before .before .before .before .before .before .before .loop .inv) _ (c .before .before .before .before .before .before .before .before .see .ensures) (c .before .before .before .before .before .before .before .onward .ensures) (c .before .before .before .before .before .if1 .left) (c .before .before .before .before .before .before .before .before .before .before .before .before .before .pre) _
+turned-requires c κs = row-roomy _ _ _ _ _ _ (c .before .before .before .before .before .before .before .before .before .before .loop .inv) _ (c .before .before .before .before .before .before .before .before .see .ensures) (goes (c .before .before .before .before .before .before .before)) (accepted (c .before .before .before .before .before)) (c .before .before .before .before .before .before .before .before .before .before .before .before .before .pre) _
     (found-here (c .before .before .before .before .before .before .before .before .before .before .before .before .before .args .channels) (c .before .before .before .before .before .before .before .before .before .before .before .before .before .args .named) (c .before .before .place-of .ensures) (c .before .before .before .value .ensures)) (search needs) _ (search needs)
 
 mul-rows : tie.Need-mul-rows Inv-loop μ-loop
@@ -73,10 +89,10 @@ array-set-from-rows : tie.Need-array-set-from-rows Inv-loop μ-loop
 array-set-from-rows c = omega (arith, c .before .before .if2 .left, c .before .before .before .before .before .before .before .before .before .before .before .before .before .before .pre .few)
 
 loop-less-3 : tie.Need-loop-less-3 Inv-loop μ-loop
-loop-less-3 c = omega (arith, c .before .before .before .before .before .before .before .before .onward .ensures .further, c .before .before .before .before .before .before .before .before .onward .ensures .inside)
+loop-less-3 c = let g = goes (c .before .before .before .before .before .before .before .before) in omega (arith, g .further, g .inside)
 
 loop-again-3 : tie.Need-loop-again-3 Inv-loop μ-loop
-loop-again-3 c = left-own _ _ _ _ _ _ (c .before .before .before .before .before .before .before .before .before .before .before .loop .inv) _ (c .before .before .before .before .before .before .before .before .before .see .ensures) (c .before .before .before .before .before .before .before .before .onward .ensures) (c .before .before .before .before .before .before .if1 .left) (c .before .before .before .before .before .before .before .before .before .before .before .before .before .before .pre) _
+loop-again-3 c = left-own _ _ _ _ _ _ (c .before .before .before .before .before .before .before .before .before .before .before .loop .inv) _ (c .before .before .before .before .before .before .before .before .before .see .ensures) (goes (c .before .before .before .before .before .before .before .before)) (accepted (c .before .before .before .before .before .before)) (c .before .before .before .before .before .before .before .before .before .before .before .before .before .before .pre) _
     (found-here (c .before .before .before .before .before .before .before .before .before .before .before .before .before .before .args .channels) (c .before .before .before .before .before .before .before .before .before .before .before .before .before .before .args .named) (c .before .before .before .place-of .ensures) (c .before .before .before .before .value .ensures)) (search needs) _ _ (c .turned .ensures)
 
 returns : tie.Need-returns Inv-loop μ-loop
@@ -92,6 +108,7 @@ pass-spec =
     loop-holds
     see-requires
     onward-requires
+    number-requires
     loop-less
     loop-again
     value-requires

@@ -14,7 +14,6 @@ use Rattle.frame_view.specs.View.{viewOf}
 use Rattle.frame_spec.specs.Outcomes.{good, read-done, read-length}
 use Rattle.frame_spec.specs.Measures.{fits}
 use Rattle.frame_spec.specs.Places.{part-body, inside-at}
-use Rattle.reading.specs.Seen.{blank}
 use Rattle.reading.specs.SeenLaws.{seen-refused, seen-read}
 use Rattle.reading.proofs.see.Statement.{statement}
 use Rattle.reading.proofs.see.Tie as tie
@@ -46,9 +45,6 @@ read-at-requires c κs = search needs
 
 enum-known-why : tie.Need-enum-known-why
 enum-known-why c = search needs
-
-number-requires : tie.Need-number-requires
-number-requires c κs = search needs
 
 blank-requires : tie.Need-blank-requires
 blank-requires c κs = search needs
@@ -85,8 +81,8 @@ add-size c = omega (arith, small (c .before .before .before .before .before .bef
 
 returns : tie.Need-returns
 returns c =
-    let w = c .before .before .before in
-    c .blank .ensures ∙ ap blank (c .before .number .ensures)
+    let w = c .before .before in
+    c .blank .ensures
     ∙ seen-refused _ (w .why .given .0 .0) (sym (ap readPaper (w .why .given .1)) ∙ w .before .before .read-at .ensures)
 
 returns-2 : tie.Need-returns-2
@@ -102,7 +98,6 @@ see-spec =
     (tie.spec
     read-at-requires
     enum-known-why
-    number-requires
     blank-requires
     enum-known-msg-type
     add-first

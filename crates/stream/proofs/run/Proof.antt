@@ -3,10 +3,11 @@
 use borrow.Author.Needs.{needs}
 use native.Mathlib.Omega.{arith}
 use Prim.Native.Nat.{_+_, _-_, _≤_}
-use mathlib.Core.Path.{_≡_, sym, _∙_}
+use mathlib.Core.Path.{_≡_, sym, ap, _∙_}
 use mathlib.Core.Bool.{false}
 use lib.ListN.{length}
-use Rattle.stream_spec.specs.Run.{strideOf, waitsAt}
+use Rattle.reading.specs.Seen.{seenNumber}
+use Rattle.stream_spec.specs.Run.{strideOf, waitsAt, passedOver}
 use Rattle.stream_spec.specs.RunLaws.{Left, left-start, left-over, left-note, left-wait, left-end, seen-at}
 use Rattle.stream.proofs.run.Statement.{statement}
 use Rattle.stream.proofs.run.Tie as tie
@@ -17,21 +18,31 @@ Inv-loop w base seek closing k out₀ p₀ seeking₀ count₀ tally₀ out p se
 abbrev μ-loop : tie.MeasureT-loop
 μ-loop w base seek closing k out₀ p₀ seeking₀ count₀ tally₀ out p seeking count tally = length w - p
 
+-- what was asked of the reading's number is so of the reading
+waiting : (c : tie.After-waits Inv-loop μ-loop) → waitsAt (c .before .before .before .before .before .before .before .args .closing) (seenNumber (c .before .before .see .result)) ≡ c .waits .result
+waiting c = ap (waitsAt _) (sym (c .before .number .ensures)) ∙ sym (c .waits .ensures)
+
+passing : (c : tie.After-passes Inv-loop μ-loop) → passedOver (c .before .before .before .before .before .before .loop .seeking) (seenNumber (c .before .before .before .before .see .result)) ≡ c .passes .result
+passing c = ap (passedOver _) (sym (c .before .before .before .number .ensures)) ∙ sym (c .passes .ensures)
+
 -- the place does not wait
-not-waiting : (c : tie.Else1 Inv-loop μ-loop) → waitsAt (c .before .before .before .before .before .before .before .args .closing) (c .before .before .see .result .answer) ≡ false
-not-waiting c = sym (c .before .waits .ensures) ∙ c .if1 .left
+not-waiting : (c : tie.Else1 Inv-loop μ-loop) → waitsAt (c .before .before .before .before .before .before .before .before .args .closing) (seenNumber (c .before .before .before .see .result)) ≡ false
+not-waiting c = waiting (c .before) ∙ c .if1 .left
 
 -- how far a reading goes
-far : (c : tie.Else2 Inv-loop μ-loop) → (1 ≤ strideOf (c .before .before .before .before .see .result)) × (c .before .before .before .before .before .before .loop .p + strideOf (c .before .before .before .before .see .result) ≤ length (c .before .before .before .before .before .before .before .before .before .args .w .now))
+far : (c : tie.Else2 Inv-loop μ-loop) → (1 ≤ strideOf (c .before .before .before .before .before .see .result)) × (c .before .before .before .before .before .before .before .loop .p + strideOf (c .before .before .before .before .before .see .result) ≤ length (c .before .before .before .before .before .before .before .before .before .before .args .w .now))
 far c =
-    seen-at (c .before .before .before .before .before .before .loop .seeking) (c .before .before .before .before .before .before .before .before .before .args .closing) (c .before .before .before .before .before .before .before .before .before .args .base) (c .before .before .before .before .before .before .loop .p) (c .before .before .before .before .before .before .before .before .before .args .w .now) (c .before .before .before .before .see .result) (omega arith) (c .before .before .before .before .see .ensures)
-    (not-waiting (c .before .before)) (sym (c .before .passes .ensures) ∙ c .if2 .left) .1
+    seen-at (c .before .before .before .before .before .before .before .loop .seeking) (c .before .before .before .before .before .before .before .before .before .before .args .closing) (c .before .before .before .before .before .before .before .before .before .before .args .base) (c .before .before .before .before .before .before .before .loop .p) (c .before .before .before .before .before .before .before .before .before .before .args .w .now) (c .before .before .before .before .before .see .result) (omega arith) (c .before .before .before .before .before .see .ensures)
+    (not-waiting (c .before .before)) (passing (c .before) ∙ c .if2 .left) .1
 
 loop-holds : tie.Need-loop-holds Inv-loop μ-loop
 loop-holds c = left-start _ _ _ _ _ _ _ (c .before .before .pre .1 .1)
 
 see-requires : tie.Need-see-requires Inv-loop μ-loop
 see-requires c κs = search needs
+
+number-requires : tie.Need-number-requires Inv-loop μ-loop
+number-requires c κs = search needs
 
 waits-requires : tie.Need-waits-requires Inv-loop μ-loop
 waits-requires c κs = search needs
@@ -46,7 +57,7 @@ loop-less : tie.Need-loop-less Inv-loop μ-loop
 loop-less c = omega arith
 
 loop-again : tie.Need-loop-again Inv-loop μ-loop
-loop-again c = left-over _ _ _ _ _ _ _ _ _ _ _ _ (c .before .before .before .before .before .before .loop .inv) _ (omega arith) (c .before .before .before .before .see .ensures) (not-waiting (c .before .before)) (sym (c .before .passes .ensures) ∙ c .if2 .taken)
+loop-again c = left-over _ _ _ _ _ _ _ _ _ _ _ _ (c .before .before .before .before .before .before .before .loop .inv) _ (omega arith) (c .before .before .before .before .before .see .ensures) (not-waiting (c .before .before)) (passing (c .before) ∙ c .if2 .taken)
 
 offer-requires : tie.Need-offer-requires Inv-loop μ-loop
 offer-requires c κs = search needs
@@ -64,22 +75,22 @@ stride-requires : tie.Need-stride-requires Inv-loop μ-loop
 stride-requires c κs = search needs
 
 add-p-2 : tie.Need-add-p-2 Inv-loop μ-loop
-add-p-2 c = omega (arith, c .stride .ensures, far (c .before .before .before .before .before .before .before .before) .1, c .before .before .before .before .before .before .before .before .before .before .before .before .before .before .before .before .before .pre .0)
+add-p-2 c = omega (arith, c .stride .ensures, far (c .before .before .before .before .before .before .before .before) .1, c .before .before .before .before .before .before .before .before .before .before .before .before .before .before .before .before .before .before .pre .0)
 
 add-count : tie.Need-add-count Inv-loop μ-loop
-add-count c = omega (arith, c .before .before .before .before .before .before .before .before .before .before .before .before .before .before .loop .inv .few, c .before .before .before .before .before .before .before .before .before .before .before .before .before .before .before .before .before .pre .1 .0)
+add-count c = omega (arith, c .before .before .before .before .before .before .before .before .before .before .before .before .before .before .before .loop .inv .few, c .before .before .before .before .before .before .before .before .before .before .before .before .before .before .before .before .before .before .pre .1 .0)
 
 counted-requires : tie.Need-counted-requires Inv-loop μ-loop
-counted-requires c κs = omega (arith, c .before .before .before .before .before .before .before .before .before .before .before .before .before .before .before .loop .inv .counts, c .before .before .before .before .before .before .before .before .before .before .before .before .before .before .before .before .before .before .pre .0)
+counted-requires c κs = omega (arith, c .before .before .before .before .before .before .before .before .before .before .before .before .before .before .before .before .loop .inv .counts, c .before .before .before .before .before .before .before .before .before .before .before .before .before .before .before .before .before .before .before .pre .0)
 
 loop-less-2 : tie.Need-loop-less-2 Inv-loop μ-loop
 loop-less-2 c = omega (arith, c .before .before .stride .ensures, far (c .before .before .before .before .before .before .before .before .before .before) .0, far (c .before .before .before .before .before .before .before .before .before .before) .1)
 
 loop-again-2 : tie.Need-loop-again-2 Inv-loop μ-loop
 loop-again-2 c =
-    rw (c .before .before .stride .ensures)
-    (left-note _ _ _ _ _ _ _ _ _ _ _ _ (c .before .before .before .before .before .before .before .before .before .before .before .before .before .before .before .before .loop .inv) _ _ _ _ _ (c .before .before .before .before .before .before .before .before .before .before .before .before .before .before .before .loop-test .taken) (c .before .before .before .before .before .before .before .before .before .before .before .before .before .before .see .ensures) (not-waiting (c .before .before .before .before .before .before .before .before .before .before .before .before)) (sym (c .before .before .before .before .before .before .before .before .before .before .before .passes .ensures) ∙ c .before .before .before .before .before .before .before .before .before .before .if2 .left)
-    (c .before .before .before .before .before .before .before .before .offer .ensures) (c .before .before .before .before .before .before .made .ensures) (c .counted .ensures) (c .before .before .before .before .before .note .ensures))
+    rw (c .before .before .stride .ensures, c .before .before .before .before .before .before .before .before .before .before .before .before .before .before .number .ensures)
+    (left-note _ _ _ _ _ _ _ _ _ _ _ _ (c .before .before .before .before .before .before .before .before .before .before .before .before .before .before .before .before .before .loop .inv) _ _ _ _ _ (c .before .before .before .before .before .before .before .before .before .before .before .before .before .before .before .before .loop-test .taken) (c .before .before .before .before .before .before .before .before .before .before .before .before .before .before .before .see .ensures) (not-waiting (c .before .before .before .before .before .before .before .before .before .before .before .before)) (passing (c .before .before .before .before .before .before .before .before .before .before .before) ∙ c .before .before .before .before .before .before .before .before .before .before .if2 .left)
+    (c .before .before .before .before .before .before .before .before .offer .ensures) (c .before .before .before .before .before .before .made .ensures) (rw (c .before .before .before .before .before .before .before .before .before .before .before .before .before .before .number .ensures) at (c .counted .ensures)) (c .before .before .before .before .before .note .ensures))
 
 same-length : tie.Need-same-length Inv-loop μ-loop
 same-length c = c .before .loop .inv .room
@@ -88,10 +99,10 @@ returns : tie.Need-returns Inv-loop μ-loop
 returns c = left-end _ _ _ _ _ _ _ _ _ _ _ _ (c .before .loop .inv) (c .loop-test .left)
 
 same-length-2 : tie.Need-same-length-2 Inv-loop μ-loop
-same-length-2 c = c .before .before .before .before .loop .inv .room
+same-length-2 c = c .before .before .before .before .before .loop .inv .room
 
 returns-2 : tie.Need-returns-2 Inv-loop μ-loop
-returns-2 c = left-wait _ _ _ _ _ _ _ _ _ _ _ _ (c .before .before .before .before .loop .inv) _ (omega arith) (c .before .before .see .ensures) (sym (c .before .waits .ensures) ∙ c .if1 .taken)
+returns-2 c = left-wait _ _ _ _ _ _ _ _ _ _ _ _ (c .before .before .before .before .before .loop .inv) _ (omega arith) (c .before .before .before .see .ensures) (waiting (c .before) ∙ c .if1 .taken)
 
 pub run-spec : {M : Type 1} → statement M
 run-spec =
@@ -101,6 +112,7 @@ run-spec =
     μ-loop
     loop-holds
     see-requires
+    number-requires
     waits-requires
     passes-requires
     add-p

@@ -68,9 +68,13 @@ slice-aggregate-see c = sym (length-take-le _ _ (held (c .before)))
 see-requires : tie.Need-see-requires
 see-requires c κs = search needs
 
+number-requires : tie.Need-number-requires
+number-requires c κs = search needs
+
 returns-7 : tie.Need-returns-7
 returns-7 c =
-    sound-waits _ (c .before .before .before .before .before .before .before .before .before .before .before .before .if1 .left) (blank (c .before .before .before .before .before .before .before .before .before)) (tally (c .before .before .before .before .before .before .before)) (places (c .before .before .before .before .before)) (c .before .before .before .before .if5 .left) (c .before .before .before .if6 .left) _ (held (c .before .before .before)) (c .before .see .ensures)
+    rw (c .number .ensures)
+    (sound-waits _ (c .before .before .before .before .before .before .before .before .before .before .before .before .if1 .left) (blank (c .before .before .before .before .before .before .before .before .before)) (tally (c .before .before .before .before .before .before .before)) (places (c .before .before .before .before .before)) (c .before .before .before .before .if5 .left) (c .before .before .before .if6 .left) _ (held (c .before .before .before)) (c .before .see .ensures))
 
 pub sound-spec : {M : Type 1} → statement M
 sound-spec =
@@ -89,4 +93,5 @@ sound-spec =
     array-share-prefix-held
     slice-aggregate-see
     see-requires
+    number-requires
     returns-7)

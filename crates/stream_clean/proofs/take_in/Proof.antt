@@ -27,6 +27,9 @@ enum-told c = search needs
 see-requires : tie.Need-see-requires
 see-requires c κs = search needs
 
+number-requires : tie.Need-number-requires
+number-requires c κs = search needs
+
 unjudged-requires-2 : tie.Need-unjudged-requires-2
 unjudged-requires-2 c κs = search needs
 
@@ -45,8 +48,8 @@ same-length-2 c = search needs
 
 returns-2 : tie.Need-returns-2
 returns-2 c =
-    let z = c .before .before .before .before .before .before in
-    (seen-taken _ _ _ (c .before .see .ensures) (c .unjudged2 .ensures), z .scrub-into .ensures .1 ∙ into-seen _ _ _)
+    let z = c .before .before .before .before .before .before .before in
+    (rw (c .before .number .ensures) (seen-taken _ _ _ (c .before .before .see .ensures) (c .unjudged2 .ensures)), z .scrub-into .ensures .1 ∙ into-seen _ _ _)
 
 pub take-in-spec : {M : Type 1} → statement M
 take-in-spec =
@@ -58,6 +61,7 @@ take-in-spec =
     unjudged-requires
     enum-told
     see-requires
+    number-requires
     unjudged-requires-2
     same-length
     returns

@@ -7,7 +7,7 @@ use Prim.Native.Nat.{ℕ, _+_, _-_, _≤_}
 use mathlib.Core.Path.{_≡_, sym, ap, _∙_}
 use mathlib.Core.Bool.{true, false}
 use lib.ListN.{length, drop}
-use Rattle.reading.specs.Seen.{seenOf}
+use Rattle.reading.specs.Seen.{seenOf, seenNumber}
 use Rattle.stream_spec.specs.Run.{waitsAt, passedOver, strideOf}
 use Rattle.stream_clean_spec.specs.Wash.{plus}
 use Rattle.stream_clean_spec.specs.LayLaws.{laid-length}
@@ -29,13 +29,13 @@ is-taken : (c : tie.After-take-in Inv-loop μ-loop) → c .take-in .result ≡ t
 is-taken c = c .take-in .ensures .0
 
 -- whether the place waits, and whether it is passed over
-waiting : (c : tie.After-waits Inv-loop μ-loop) → waitsAt (c .before .before .before .before .before .before .before .before .before .args .closing) (seenOf (drop (c .before .before .before .before .before .before .loop .p) (c .before .before .before .before .before .before .before .before .before .args .w .now)) .answer) ≡ c .waits .result
+waiting : (c : tie.After-waits Inv-loop μ-loop) → waitsAt (c .before .before .before .before .before .before .before .before .before .args .closing) (seenNumber (seenOf (drop (c .before .before .before .before .before .before .loop .p) (c .before .before .before .before .before .before .before .before .before .args .w .now)))) ≡ c .waits .result
 waiting c = ap (waitsAt _) (sym (ap (λ (t : Taken). t .answer) (is-taken (c .before .before .before)))) ∙ sym (c .waits .ensures)
 
-passing : (c : tie.After-passes Inv-loop μ-loop) → passedOver (c .before .before .before .before .before .before .before .before .loop .seeking) (seenOf (drop (c .before .before .before .before .before .before .before .before .loop .p) (c .before .before .before .before .before .before .before .before .before .before .before .args .w .now)) .answer) ≡ c .passes .result
+passing : (c : tie.After-passes Inv-loop μ-loop) → passedOver (c .before .before .before .before .before .before .before .before .loop .seeking) (seenNumber (seenOf (drop (c .before .before .before .before .before .before .before .before .loop .p) (c .before .before .before .before .before .before .before .before .before .before .before .args .w .now)))) ≡ c .passes .result
 passing c = ap (passedOver _) (sym (ap (λ (t : Taken). t .answer) (is-taken (c .before .before .before .before .before)))) ∙ sym (c .passes .ensures)
 
-not-waiting : (c : tie.Else1 Inv-loop μ-loop) → waitsAt (c .before .before .before .before .before .before .before .before .before .before .args .closing) (seenOf (drop (c .before .before .before .before .before .before .before .loop .p) (c .before .before .before .before .before .before .before .before .before .before .args .w .now)) .answer) ≡ false
+not-waiting : (c : tie.Else1 Inv-loop μ-loop) → waitsAt (c .before .before .before .before .before .before .before .before .before .before .args .closing) (seenNumber (seenOf (drop (c .before .before .before .before .before .before .before .loop .p) (c .before .before .before .before .before .before .before .before .before .before .args .w .now)))) ≡ false
 not-waiting c = waiting (c .before) ∙ c .if1 .left
 
 -- how far a reading goes

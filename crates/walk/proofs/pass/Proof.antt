@@ -5,6 +5,7 @@ use native.Mathlib.Omega.{arith}
 use Prim.Native.Nat.{_-_}
 use lib.ListN.{length}
 use borrow.Author.Needs.{needs}
+use Rattle.walk_spec.specs.Onward.{Goes, goes-onward}
 use Rattle.walk_spec.specs.Counts.{accepts-one}
 use Rattle.walk.specs.Passes.{carriedOf}
 use Rattle.walk.proofs.PassLaws.{Left, left-start, left-step, left-end}
@@ -36,25 +37,29 @@ note-requires : tie.Need-note-requires Inv-loop μ-loop
 note-requires c κs = search needs
 
 onward-requires : tie.Need-onward-requires Inv-loop μ-loop
-onward-requires c κs = (omega arith, c .before .before .before .before .before .before .before .see .ensures)
+onward-requires c κs = search needs
+
+-- where it leads is the place of the next reading
+goes : (c : tie.After-onward Inv-loop μ-loop) → Goes (c .before .before .before .before .before .before .before .before .before .before .before .before .before .before .before .before .args .capture .now) (c .before .before .before .before .before .before .before .before .before .before .loop .p) (c .onward .result)
+goes c = goes-onward _ _ _ (c .before .before .before .before .before .before .before .before .see .ensures) (c .before .before .before .before .before .before .before .before .before .loop-test .taken) _ (c .onward .ensures)
 
 add-records : tie.Need-add-records Inv-loop μ-loop
-add-records c = omega (arith, c .before .before .before .before .before .before .before .before .before .before .loop .inv .few)
+add-records c = omega (arith, c .before .before .before .before .before .before .before .before .before .before .loop .inv .few, goes c .further)
 
 accepted-requires : tie.Need-accepted-requires Inv-loop μ-loop
 accepted-requires c κs = search needs
 
 add-frames : tie.Need-add-frames Inv-loop μ-loop
-add-frames c = omega (arith, c .before .before .before .before .before .before .before .before .before .before .before .loop .inv .few, c .before .before .before .before .before .before .before .before .before .before .before .loop .inv .frames-few, accepts-one _ _ (c .accepted .ensures))
+add-frames c = omega (arith, goes (c .before) .further, c .before .before .before .before .before .before .before .before .before .before .before .loop .inv .few, c .before .before .before .before .before .before .before .before .before .before .before .loop .inv .frames-few, accepts-one _ _ (c .accepted .ensures))
 
 loop-less : tie.Need-loop-less Inv-loop μ-loop
-loop-less c = omega (arith, c .before .before .before .before .before .onward .ensures .further, c .before .before .before .before .before .onward .ensures .inside)
+loop-less c = let g = goes (c .before .before .before .before .before) in omega (arith, g .further, g .inside)
 
 loop-again : tie.Need-loop-again Inv-loop μ-loop
 loop-again c =
     let n = c .before .before .before .before .before .before .before .before in
     left-step (n .before .before .before .before .before .before .before .loop .inv) (n .before .before .before .before .carried .ensures) (n .before .before .before .before .before .see .ensures) (n .before .before .before .offer .ensures) (n .before .made .ensures) (n .note .ensures)
-    (c .before .before .before .before .before .onward .ensures) (c .before .before .before .before .accepted .ensures)
+    (goes (c .before .before .before .before .before)) (c .before .before .before .before .accepted .ensures)
 
 carried-requires-2 : tie.Need-carried-requires-2 Inv-loop μ-loop
 carried-requires-2 c κs = search needs

@@ -4,6 +4,7 @@ use mathlib.Core.Path.{_≡_, sym, _∙_}
 use borrow.Author.Needs.{needs}
 use Rattle.rules.specs.Table.{kind-is}
 use Rattle.rules.specs.declared.Kind.{Kind}
+use Rattle.reading.specs.Seen.{seenNumber}
 use Rattle.walk_spec.specs.Offers.{callsFor, callsBy}
 use Rattle.walk_spec.specs.OfferLaws.{calls-refused, calls-of}
 use Rattle.walk_step.specs.OfferedLaws.{offer-none, offer-one}
@@ -11,18 +12,21 @@ use Rattle.walk_step.proofs.offer.Statement.{statement}
 use Rattle.walk_step.proofs.offer.Tie as tie
 
 -- behind the test of the answer: it is 0; and an arm knows the type, and so the calls
-zero : (c : tie.After-kind-of) → c .before .before .before .before .before .args .seen .answer ≡ 0
-zero c = c .before .if1 .left
+zero : (c : tie.After-kind-of) → seenNumber (c .before .before .before .before .before .args .seen) ≡ 0
+zero c = sym (c .before .before .number .ensures) ∙ c .before .if1 .left
 
 calls : (c : tie.After-kind-of) (k : Kind) → c .kind-of .result ≡ k
     → callsBy (c .before .before .before .before .before .args .seen) ≡ callsFor k (c .before .before .before .before .before .args .seen .channel .0) (c .before .before .before .before .before .args .seen .tick .0)
 calls c k e = calls-of _ k (zero c) (sym e ∙ kind-is _ _ (c .kind-of .ensures))
 
+number-requires : tie.Need-number-requires
+number-requires c κs = search needs
+
 kept-requires : tie.Need-kept-requires
 kept-requires c κs = search needs
 
 returns : tie.Need-returns
-returns c = offer-none _ _ _ (calls-refused _ (c .before .if1 .taken)) (c .kept .ensures .0) (c .kept .ensures .1)
+returns c = let n = c .before .before .number .ensures in offer-none _ _ _ (calls-refused _ (λ z. c .before .if1 .taken (n ∙ z))) (c .kept .ensures .0 ∙ n) (c .kept .ensures .1)
 
 kind-of-requires : tie.Need-kind-of-requires
 kind-of-requires c κs = search needs
@@ -112,6 +116,7 @@ pub offer-spec : {M : Type 1} → statement M
 offer-spec =
     tie.close
     (tie.spec
+    number-requires
     kept-requires
     returns
     kind-of-requires
