@@ -96,7 +96,8 @@ Month-added-wrong =
     ∷ (page 1 18446744073709551614, ticked 100 3) only of100 0 2 (1 ∷ 0 ∷ 0 ∷ 2 ∷ 0 ∷ 0 ∷ []) (18446744073709551615 ∷ 0 ∷ 0 ∷ 2 ∷ 0 ∷ 0 ∷ [])
     ∷ (page 0 0, ticked 100 257) only of100 0 1 (0 ∷ 0 ∷ 1 ∷ 257 ∷ 0 ∷ 0 ∷ []) (0 ∷ 0 ∷ 1 ∷ 257 ∷ 0 ∷ 0 ∷ [])  -- far is no reception, and its number is missing
     ∷ (page 0 0, announced 100 5 ++ announced 100 3) only of100 0 1 (0 ∷ 0 ∷ 0 ∷ 5 ∷ 0 ∷ 0 ∷ []) (0 ∷ 0 ∷ 0 ∷ 5 ∷ 0 ∷ 0 ∷ [])  -- not by the last announcement
-    ∷ (page 0 0, asked 100 0 ++ (asked 100 0 ++ (asked 100 4 ++ (asked 100 3 ++ asked 102 0)))) only of100 0 1 (0 ∷ 0 ∷ 0 ∷ 0 ∷ 2 ∷ 1 ∷ []) (0 ∷ 0 ∷ 0 ∷ 0 ∷ 2 ∷ 1 ∷ [])  -- a P002 by its channel and status, 0 told from 4, and offered to no ledger
+    ∷ (page 0 0, asked 100 0 ++ (asked 100 0 ++ (asked 100 4 ++ (asked 100 3 ++ asked 102 0)))) only of100 0 1 (0 ∷ 0 ∷ 0 ∷ 0 ∷ 2 ∷ 1 ∷ []) (0 ∷ 0 ∷ 0 ∷ 0 ∷ 2 ∷ 1 ∷ [])  -- a P002 by its channel and status, 0 told from 4
+    ∷ (page 0 0, ticked 100 1 ++ (ticked 100 2 ++ (announced 100 5 ++ (asked 100 0 ++ asked 100 4)))) only of100 0 1 (2 ∷ 0 ∷ 0 ∷ 3 ∷ 1 ∷ 1 ∷ []) (2 ∷ 0 ∷ 0 ∷ 3 ∷ 1 ∷ 1 ∷ [])  -- a P002 offered to the ledger: it would give up 3 to 5
     ∷ (page 0 0, ticked 101 1 ++ ticked 100 3) only (0 ∷ 1 ∷ ((1 ∷ 0 ∷ 0 ∷ 0 ∷ 0 ∷ 0 ∷ []) ++ ((1 ∷ 0 ∷ 0 ∷ 2 ∷ 0 ∷ 0 ∷ []) ++ ((1 ∷ 0 ∷ 0 ∷ 0 ∷ 0 ∷ 0 ∷ []) ++ (1 ∷ 0 ∷ 0 ∷ 2 ∷ 0 ∷ 0 ∷ [])))))  -- a figure in another channel's row
     ∷ (page 0 0, 0xFF ∷ ticked 100 1) only of100 0 1 (1 ∷ 0 ∷ 0 ∷ 0 ∷ 0 ∷ 0 ∷ []) (1 ∷ 0 ∷ 0 ∷ 0 ∷ 0 ∷ 0 ∷ [])  -- a frame behind damage is counted once
     ∷ (page 0 0, ticked 102 1) only of100 0 1 none none  -- a channel that is not named
