@@ -181,21 +181,18 @@ clear-bit : (x : ℕ) → x < 2 → eqb x 1 ≡ false → x ≡ 0
 clear-bit x l e = ⊎-elim (λ (q : x < 1). omega arith) (λ (q : 1 ≤ x). absurd (eqb-false x 1 e (omega arith))) (less x 1)
 
 module _ (s known m : ℕ) (h : m < 2 ^ 256) where
-  rules-empty : m ≡ 0 → true ≡ mapRules (rotated s m) known
+  pub rules-empty : m ≡ 0 → true ≡ mapRules (rotated s m) known
   unfolding mapRules
   rules-empty e = rw (e, rotated-zero s, zero-div (2 ^ min known 256))
 
   -- held, and nothing known
-  rules-none : (m ≡ 0 → ⊥) → known ≡ 0 → false ≡ mapRules (rotated s m) known
+  pub rules-none : (m ≡ 0 → ⊥) → known ≡ 0 → false ≡ mapRules (rotated s m) known
   unfolding mapRules
   rules-none n e =
       let k : min known 256 ≡ 0 = omega arith in
       let z : eqb (rotated s m / 2 ^ min known 256) 0 ≡ false =
       ne-eqb (rotated s m / 2 ^ min known 256) 0 (λ g. n (rotated-none s m h (sym (ap (λ (x : ℕ). rotated s m / 2 ^ x) k ∙ div-one (rotated s m)) ∙ g))) in
       sym (ap (λ (x : Bool). not (isSet (rotated s m) 0) && x) z ∙ and-false (not (isSet (rotated s m) 0)))
-
-  pub rules-known-none : known ≡ 0 → eqb m 0 ≡ mapRules (rotated s m) known
-  rules-known-none e = ⊎-elim (λ (z : m ≡ 0). eq-eqb m 0 z ∙ rules-empty z) (λ (n : m ≡ 0 → ⊥). ne-eqb m 0 n ∙ rules-none n e) (same m 0)
 
   pub rules-all : 256 ≤ known → not (isSet m (s % 256)) ≡ mapRules (rotated s m) known
   unfolding mapRules
