@@ -356,8 +356,8 @@ impl Ledger {
         Verdict::Fine
     }
 
-    // A tick whose place is marked: the floor passes the run of held places above it, which are then
-    // free for the numbers 256 above.
+    // A tick whose place is marked: the floor passes the run of held places above it, which are
+    // then free for the numbers 256 above.
     fn passed_run(self, n: u64) -> Ticked
         requires { ⌜ (self .floor .0 < n) × (n ≤ self .floor .0 + 256) × (n ≤ largest) ⌝ }
         ensures { λ r. ⌜ (tickPaper (r .answer) ≡ answer 0 ((self .floor .0 + 1) ∷ passes (bookOf self) n ∷ []))
@@ -409,7 +409,8 @@ impl Ledger {
         }
     }
 
-    // The tick of floor + 1, where the number after it is not held: one is passed, and the map stays.
+    // The tick of floor + 1, where the number after it is not held: one is passed, and the map
+    // stays.
     fn passed_one(self, n: u64) -> Ticked
         requires { ⌜ (n ≡ self .floor .0 + 1) × (n ≤ largest) × (soundOf (bookOf self) ≡ true) × (isSet (bitsIn (self .map)) ((n + 1) % 256) ≡ false) ⌝ }
         ensures { λ r. ⌜ (tickPaper (r .answer) ≡ answer 0 ((self .floor .0 + 1) ∷ passes (bookOf self) n ∷ []))
@@ -648,7 +649,8 @@ impl Ledger {
         }
     }
 
-    // The pending request is cleared, and the floor goes on over the w numbers above it, perhaps none.
+    // The pending request is cleared, and the floor goes on over the w numbers above it, perhaps
+    // none.
     fn replied(self, w: u64) -> Replied
         requires { ⌜ (soundOf (bookOf self) ≡ true) × (w ≤ 256) × (w ≤ self .top .0 - self .floor .0) ⌝ }
         ensures { λ r. ⌜ (replyPaper (r .answer) (r .first) (r .«given_up») (r .passed) ≡ answer 0 ((self .floor .0 + 1) ∷ gaveUp (bookOf self) w ∷ handed (bookOf self) w ∷ []))

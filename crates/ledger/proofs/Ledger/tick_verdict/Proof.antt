@@ -1,5 +1,5 @@
--- Each return is one check: 10, those of a number up to the floor, 10, 12, 11, none. Above the floor, received is held, and
--- nothing beyond floor + 256 is. Assumes nothing.
+-- Each return is one check: 10, those of a number up to the floor, 10, 12, 11, none. Above the
+-- floor, received is held, and nothing beyond floor + 256 is. Assumes nothing.
 use mathlib.Core.Path.{_≡_, sym, ap, _∙_}
 use mathlib.Core.Bool.{true, false}
 use Prim.Native.Nat.{ℕ, _+_, _-_, _≤_, _<_}
