@@ -1,4 +1,5 @@
-//! A table of channels: a tick and a request of ours beside plain Rust with the same checks, both lent.
+//! A table of channels: a tick and a request of ours beside plain Rust with the same checks, both
+//! lent.
 
 use crate::plain::{Ledger, Settled};
 use crate::{done, number, Job};
@@ -6,8 +7,9 @@ use rietknoest_host as host;
 use rietknoest_host::{ChannelNumber, Channels, Passed, TickNumber};
 use std::hint::black_box;
 
-/// The table written by hand. It makes the checks of the library in the same order: the index, the named channel at one place only, and of
-/// the row that a call turns to its channel, its bit, its request and its ledger.
+/// The table written by hand. It makes the checks of the library in the same order: the index, the
+/// named channel at one place only, and of the row that a call turns to its channel, its bit, its
+/// request and its ledger.
 #[derive(Clone, Copy)]
 struct Table {
     names: [u16; 32],

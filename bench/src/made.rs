@@ -1,4 +1,5 @@
-//! Made-up captures: a session's frames with ticks in order, a gap now and then, and damage in one frame of two hundred.
+//! Made-up captures: a session's frames with ticks in order, a gap now and then, and damage in one
+//! frame of two hundred.
 
 use crate::plain;
 
@@ -39,7 +40,8 @@ pub fn frame(msg_type: u32, seq: u64, body: &[u8]) -> Vec<u8> {
     f
 }
 
-/// An M201 of a stream that source document 000 does not name, with so many bytes behind its fixed ones.
+/// An M201 of a stream that source document 000 does not name, with so many bytes behind its fixed
+/// ones.
 pub fn tick(d: &mut Dice, number: u64, tail: usize) -> Vec<u8> {
     tick_of(d, b"MD001", b'F', number, tail)
 }
@@ -151,7 +153,8 @@ pub fn capture(bytes: usize) -> Vec<u8> {
     c
 }
 
-/// Headers of a frame of n bytes of body one behind the other, each with everything right but the sum.
+/// Headers of a frame of n bytes of body one behind the other, each with everything right but the
+/// sum.
 pub fn false_headers(bytes: usize, msg_type: u32, n: usize) -> Vec<u8> {
     let mut f = frame(msg_type, 1, &[]);
     f[20..24].copy_from_slice(&(n as u32).to_be_bytes());

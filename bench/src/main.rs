@@ -1,4 +1,5 @@
-//! The proved library beside plain Rust: the same jobs on the same inputs in one run, with the same answers.
+//! The proved library beside plain Rust: the same jobs on the same inputs in one run, with the same
+//! answers.
 //!
 //!     cargo run --release -p bench            everything
 //!     cargo run --release -p bench -- small   without the captures of 10 and 100 MB
@@ -7,7 +8,8 @@
 //!     cargo run --release -p bench -- month   those of a page over captures
 //!     cargo run --release -p bench -- ledger  the rows of a ledger alone
 //!
-//! Each job runs both ways in turn several times, and the best time of each counts. The answers are compared first.
+//! Each job runs both ways in turn several times, and the best time of each counts. The answers are
+//! compared first.
 
 mod channels;
 mod made;
@@ -28,8 +30,9 @@ use std::time::{Duration, Instant};
 const KIB_64: usize = 65_536;
 const MB: usize = 1_000_000;
 
-/// The time of a run that does its work so many times. On a busy machine others take the core from a long run: there the time that the thread
-/// had one counts, where Linux tells it. It does so in steps of some milliseconds, too coarse for a short run, whose best was left alone.
+/// The time of a run that does its work so many times. On a busy machine others take the core from
+/// a long run: there the time that the thread had one counts, where Linux tells it. It does so in
+/// steps of some milliseconds, too coarse for a short run, whose best was left alone.
 fn timed(times: usize, work: &mut dyn FnMut()) -> Duration {
     let before = on_core();
     let start = Instant::now();
@@ -49,7 +52,8 @@ fn on_core() -> Option<Duration> {
     Some(Duration::from_nanos(nanoseconds))
 }
 
-/// How many runs there are, and how often each does its work: short runs many times, long ones a few times.
+/// How many runs there are, and how often each does its work: short runs many times, long ones a
+/// few times.
 fn turns(bytes: usize) -> (u32, usize) {
     if bytes <= 2 * MB {
         return (100, (MB / 2 / bytes).max(1));
@@ -396,7 +400,8 @@ fn replies() {
     reply("passes none", none);
 }
 
-/// How many of a span are missing, on ledgers that hold few and many: every second number from 3 on.
+/// How many of a span are missing, on ledgers that hold few and many: every second number from 3
+/// on.
 fn spans() {
     const MOST: u64 = 999_999_999_999_999_999;
     let channel = host::ChannelNumber::new(100);
@@ -560,7 +565,8 @@ fn growth(sizes: &[(&str, usize)]) {
 
 // BYTES IN CUTS
 
-/// All of a capture in cuts of one size, from a stream that is opened for it to its closing. The records stand one behind the other.
+/// All of a capture in cuts of one size, from a stream that is opened for it to its closing. The
+/// records stand one behind the other.
 fn in_cuts(capture: &[u8], size: usize, records: &mut [u8]) -> (host::Stream, host::Fed) {
     let mut stream = host::Stream::open();
     let mut at = 0;
@@ -601,7 +607,8 @@ fn cuts(input: &str, bytes: usize, sizes: &[usize]) {
     }
 }
 
-/// Bytes of one long frame that come one by one, at its front and at its end: what waits by then should cost nothing.
+/// Bytes of one long frame that come one by one, at its front and at its end: what waits by then
+/// should cost nothing.
 fn one_by_one() {
     const PART: usize = 1_024;
     let frame = made::frame(plain::M101, 1, &Dice(5).bytes(8_164));

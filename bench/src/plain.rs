@@ -1,4 +1,5 @@
-//! The same jobs in plain Rust, as one would write them by hand for speed: the same checks in the same order, the same answers.
+//! The same jobs in plain Rust, as one would write them by hand for speed: the same checks in the
+//! same order, the same answers.
 
 use rietknoest_host::{ChannelNumber, Cleaned, Frame, Passed, SessionNumber, TickNumber};
 
@@ -266,7 +267,8 @@ pub fn scrub_anew(buffer: &mut [u8]) -> Result<usize, u32> {
 
 pub const LARGEST: u64 = 999_999_999_999_999_999;
 
-/// A number's place in the map is its remainder by 256. A state by `&mut`, so that its map stays where it is.
+/// A number's place in the map is its remainder by 256. A state by `&mut`, so that its map stays
+/// where it is.
 #[derive(Clone, Copy, Debug, PartialEq, Eq)]
 pub struct Ledger {
     pub channel: u16,

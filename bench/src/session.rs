@@ -33,7 +33,8 @@ struct Said {
     dead: bool,
 }
 
-/// The client's side of a line, written by hand. It makes the checks of the library in the same order.
+/// The client's side of a line, written by hand. It makes the checks of the library in the same
+/// order.
 #[derive(Clone, Copy, PartialEq, Eq, Debug)]
 struct Line {
     state: State,

@@ -1,4 +1,5 @@
-//! The ledger with the map as it was before request 9, by value: place i stands for floor + 1 + i, and each tick delivered shifts the map.
+//! The ledger with the map as it was before request 9, by value: place i stands for floor + 1 + i,
+//! and each tick delivered shifts the map.
 
 use crate::plain::{pending_right, LARGEST};
 use rietknoest_host::{Passed, TickNumber};

@@ -1,6 +1,6 @@
-//! The command `rietknoest`: lists, scrubs, checks and explains captures, finds their gaps, and sums
-//! them up. It has no rule of the documents: what a byte means is up to `rietknoest_host`. Files, words and exit
-//! statuses are handled here, tested but not proved.
+//! The command `rietknoest`: lists, scrubs, checks and explains captures, finds their gaps, and
+//! sums them up. It has no rule of the documents: what a byte means is up to `rietknoest_host`.
+//! Files, words and exit statuses are handled here, tested but not proved.
 
 #![deny(unsafe_code)]
 

@@ -7,7 +7,8 @@ use rietknoest_host::market::{check, spot, Fault, Lines, Wrong};
 use crate::capture::Capture;
 use crate::{count, print, Status, Trouble};
 
-/// Amiss where the file is not sound. Told is the number, its place and what stands there; no byte of the file is shown.
+/// Amiss where the file is not sound. Told is the number, its place and what stands there; no byte
+/// of the file is shown.
 pub fn market(file: &OsStr) -> Result<Status, Trouble> {
     let file = Capture::read(file)?;
     let name = &file.name;

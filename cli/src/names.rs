@@ -24,7 +24,8 @@ pub fn purpose(frame: &Frame) -> &'static str {
     }
 }
 
-/// The private field that starts at a place of a body of a type. Which there are is the library's to say.
+/// The private field that starts at a place of a body of a type. Which there are is the library's
+/// to say.
 pub fn private_field(frame: &Frame, place: u64) -> &'static str {
     match (&frame.type_name(), place) {
         (b"S001", 0) => "SenderCompID",

@@ -376,7 +376,8 @@ fn check_names_each_private_field() {
     );
 }
 
-/// The order of tick 1 stands at 823, in the sample and in what is left of it: its side and QuoteID are as sent, codes and names are nowhere.
+/// The order of tick 1 stands at 823, in the sample and in what is left of it: its side and QuoteID
+/// are as sent, codes and names are nowhere.
 #[test]
 fn scrub_leaves_side_and_order_number() {
     let folder = Folder::new().with("sample", &sample());

@@ -98,7 +98,8 @@ fn zsh_and_fish_know_the_same() {
     }
 }
 
-/// The manual has a part for each subcommand, which its synopsis shows with the options of its help.
+/// The manual has a part for each subcommand, which its synopsis shows with the options of its
+/// help.
 #[test]
 fn the_manual_has_the_same() {
     let path = root().join("docs/rietknoest.1");

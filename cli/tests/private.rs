@@ -402,8 +402,8 @@ fn generated_pairs_are_told_alike() {
     assert!(left_out > 1, "most pairs have no clean one: {left_out}");
 }
 
-/// `month` counts clean captures alone, so it tells a clean one from its unscrubbed pair: docs/PRIVATE.md
-/// names it.
+/// `month` counts clean captures alone, so it tells a clean one from its unscrubbed pair:
+/// docs/PRIVATE.md names it.
 #[test]
 fn month_tells_a_clean_capture_from_another() {
     let capture = logon("MADE-UP SENDER", "MADE-UP TARGET");

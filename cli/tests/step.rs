@@ -111,7 +111,8 @@ fn a_frame_is_explained_without_a_private_value() {
     }
 }
 
-/// Whatever the command is asked of a capture with damage in it, it writes none of the private values, to no output and no file.
+/// Whatever the command is asked of a capture with damage in it, it writes none of the private
+/// values, to no output and no file.
 #[test]
 fn no_private_value_is_written() {
     let mut damaged = logon();

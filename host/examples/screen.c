@@ -1,4 +1,4 @@
-/* For a screen: how many numbers of 1 to 1000 are missing, once 1 and 4 came and 6 was announced. */
+/* For a screen: how many of 1 to 1000 are missing, once 1 and 4 came and 6 was announced. */
 #include "rietknoest.h"
 #include <inttypes.h>
 #include <stdio.h>

@@ -1,4 +1,5 @@
-/* Scrubs the STEP frame on standard input, a logon say: user name, password and the like become spaces. */
+/* Scrubs the STEP frame on standard input, a logon say: user name, password and the like become
+ * spaces. */
 #include "rietknoest.h"
 #include <stdio.h>
 

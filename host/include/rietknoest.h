@@ -11,8 +11,8 @@
  * comment says so.
  *
  * A refusal (any code but 0) writes nothing. One exception: a tick's 12 raises the ledger's
- * top, alone or in a table. Success writes all of each out-parameter, and of a buffer the bytes that are counted, none
- * beyond them.
+ * top, alone or in a table. Success writes all of each out-parameter, and of a buffer the bytes
+ * that are counted, none beyond them.
  *
  * Numbers of sessions, ticks and channels are plain integers in C: the compiler can't tell one from
  * another. In Rust it does.
@@ -559,11 +559,11 @@ uint32_t rk_stream_feed(uint64_t words[6], rk_ledger *ledger, uint8_t kept[8191]
  * kept and *told. */
 uint32_t rk_stream_close(uint64_t words[6], rk_ledger *ledger, uint8_t kept[8191], uint8_t *records, size_t records_len, rk_fed *told);
 
-/* A capture that is scrubbed while it arrives: an rk_stream from rk_stream_open, and these two calls
- * in place of rk_stream_feed and rk_stream_close. However the capture is cut, the bytes of all calls,
- * one after the other, are what rk_clean writes of the whole, and the counts of all calls add up to
- * rk_clean's. Counts and ledger of the stream stay as they are. Do not mix them with feed and close
- * on one stream: each decides only what it is given. */
+/* A capture that is scrubbed while it arrives: an rk_stream from rk_stream_open, and these two
+ * calls in place of rk_stream_feed and rk_stream_close. However the capture is cut, the bytes of
+ * all calls, one after the other, are what rk_clean writes of the whole, and the counts of all
+ * calls add up to rk_clean's. Counts and ledger of the stream stay as they are. Do not mix them
+ * with feed and close on one stream: each decides only what it is given. */
 typedef struct {
     uint64_t bytes;        /* written by this call */
     uint64_t frames;       /* they are so many frames */

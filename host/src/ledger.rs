@@ -132,9 +132,9 @@ impl Ledger {
         told(|request| raw::ledger_request(self, channel, request))
     }
 
-    /// The exchange's reply to the pending request, which is then no longer pending. On status 4 the
-    /// numbers of the request that were not received are given up, and the floor passes them and the
-    /// received ones that follow. A given-up number that arrives later is a repeat, 11.
+    /// The exchange's reply to the pending request, which is then no longer pending. On status 4
+    /// the numbers of the request that were not received are given up, and the floor passes them
+    /// and the received ones that follow. A given-up number that arrives later is a repeat, 11.
     pub fn reply(
         &mut self,
         channel: ChannelNumber,

@@ -1,5 +1,6 @@
-//! B-to-H market files, mktdth.txt: checked, taken apart into values, and written again from them. A refusal writes nothing.
-//! The columns' names are for people, and decide nothing: tests/market.rs holds them against what the library answers.
+//! B-to-H market files, mktdth.txt: checked, taken apart into values, and written again from them.
+//! A refusal writes nothing. The columns' names are for people, and decide nothing: tests/market.rs
+//! holds them against what the library answers.
 
 use std::error::Error;
 use std::fmt;
@@ -223,7 +224,8 @@ pub struct Spot {
     pub behind: bool,
 }
 
-/// The column in which a place of a file lies, as far as the lines before it have types. It looks at no byte but those of types.
+/// The column in which a place of a file lies, as far as the lines before it have types. It looks
+/// at no byte but those of types.
 pub fn spot(file: &[u8], place: usize) -> Option<Spot> {
     let mut line = 0;
     let mut start = 0;

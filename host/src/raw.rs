@@ -91,7 +91,8 @@ pub struct Counts {
     pub refused: u64,
 }
 
-/// A STEP frame: its type, the place of its fields behind the frame's start, their length, the frame's length.
+/// A STEP frame: its type, the place of its fields behind the frame's start, their length, the
+/// frame's length.
 #[derive(Default)]
 #[repr(C)]
 pub struct StepFrame {
@@ -254,8 +255,8 @@ pub fn private(msg_type: u32, body: &[u8], i: usize, told: &mut Span) -> u32 {
 }
 
 pub fn tail_field(body: &[u8], i: usize, told: &mut Field) -> u32 {
-    // SAFETY: `body` is passed with its own length and only read; any number is allowed; `told` is a
-    // row of four.
+    // SAFETY: `body` is passed with its own length and only read; any number is allowed; `told` is
+    // a row of four.
     unsafe { rk_tail_field(body.as_ptr(), body.len(), i, told) }
 }
 
@@ -504,7 +505,8 @@ pub fn market_check(file: &[u8]) -> Finding {
 }
 
 pub fn market_values(file: &[u8], out: &mut [u8]) -> Finding {
-    // SAFETY: both are passed with their own lengths, and `out` is not in `file`: nothing else borrows it.
+    // SAFETY: both are passed with their own lengths, and `out` is not in `file`: nothing else
+    // borrows it.
     unsafe { rk_market_values(file.as_ptr(), file.len(), out.as_mut_ptr(), out.len()) }
 }
 

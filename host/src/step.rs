@@ -23,7 +23,8 @@ pub struct Frame<'a> {
 }
 
 impl<'a> Frame<'a> {
-    /// The frame at a place of bytes; what stands behind it does not matter. 1 for a place beyond the end.
+    /// The frame at a place of bytes; what stands behind it does not matter. 1 for a place beyond
+    /// the end.
     pub fn read(bytes: &'a [u8], place: usize) -> Result<Frame<'a>, Refusal> {
         let mut row = raw::StepFrame::default();
         let answer = raw::step_read(bytes, place, &mut row);
@@ -122,7 +123,8 @@ pub fn write(kind: u8, fields: &[u8], out: &mut [u8]) -> Result<usize, Refusal> 
     result(answer, bytes as usize)
 }
 
-/// Scrubs the frame at the front of a buffer where it stands, and tells how many bytes it has. A refusal writes nothing.
+/// Scrubs the frame at the front of a buffer where it stands, and tells how many bytes it has. A
+/// refusal writes nothing.
 pub fn scrub(frame: &mut [u8]) -> Result<usize, Refusal> {
     let mut bytes = 0;
     let answer = raw::step_scrub(frame, &mut bytes);

@@ -87,9 +87,9 @@ impl Stream {
     }
 }
 
-/// A capture that is scrubbed while it arrives, in cuts of any size. However it is cut, the bytes of
-/// all calls are, one after the other, those that `clean` writes of the whole, and their counts add
-/// up to `clean`'s.
+/// A capture that is scrubbed while it arrives, in cuts of any size. However it is cut, the bytes
+/// of all calls are, one after the other, those that `clean` writes of the whole, and their counts
+/// add up to `clean`'s.
 ///
 /// The bytes that wait are kept as they came, private ones included; so there is no `Debug`.
 #[derive(Clone, PartialEq, Eq)]
@@ -97,9 +97,10 @@ pub struct Scrubber {
     stream: Stream,
 }
 
-/// The result of a scrubber's call, of this call alone: how many bytes were written, how many frames
-/// they are, how many of these the search found after damage, and how many are M101 frames, whose
-/// bodies no rule judges. `place` is that of the first byte that waits, or of the next one to come;
+/// The result of a scrubber's call, of this call alone: how many bytes were written, how many
+/// frames they are, how many of these the search found after damage, and how many are M101 frames,
+/// whose bodies no rule judges. `place` is that of the first byte that waits, or of the next one to
+/// come;
 /// `waiting` is how many bytes wait.
 #[derive(Clone, Copy, Debug, Default, PartialEq, Eq)]
 #[must_use = "no later call says how many bytes this one wrote"]
@@ -120,8 +121,9 @@ impl Scrubber {
         Scrubber::from_stream(Stream::open())
     }
 
-    /// One more cut, perhaps empty: the accepted frames that it decides, each scrubbed, at the front
-    /// of `out`; 8 if they do not fit. As many bytes as wait and the cut has are always enough.
+    /// One more cut, perhaps empty: the accepted frames that it decides, each scrubbed, at the
+    /// front of `out`; 8 if they do not fit. As many bytes as wait and the cut has are always
+    /// enough.
     pub fn clean(&mut self, cut: &[u8], out: &mut [u8]) -> Result<Scrubbed, Refusal> {
         let mut scrubbed = Scrubbed::default();
         let (words, ledger, kept) = self.stream.parts();

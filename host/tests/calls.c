@@ -1,7 +1,8 @@
-/* Calls every function of the header, but those for market files (market.c), the table of channels (channels.c) and a month (month.c), as the
- * lines on standard input ask, and prints each answer with what was told. Each line is a function's name, its numbers, and its bytes in
- * hexadecimal (- for none). Rows and buffers are lent with known bytes in them and around them; a byte that changes where the header says
- * that none does ends the program with status 3. */
+/* Calls every function of the header, but those for market files (market.c), the table of channels
+ * (channels.c) and a month (month.c), as the lines on standard input ask, and prints each answer
+ * with what was told. Each line is a function's name, its numbers, and its bytes in hexadecimal (-
+ * for none). Rows and buffers are lent with known bytes in them and around them; a byte that
+ * changes where the header says that none does ends the program with status 3. */
 #include "rietknoest.h"
 #include <inttypes.h>
 #include <stdio.h>
@@ -107,7 +108,8 @@ static void ledger_kept(const rk_ledger *was, uint32_t answer) {
     for (int i = 0; i < 9; i++) TELL(ledger.words[i]);
 }
 
-/* A stream with a number on both sides; the byte behind its kept ones is nobody's to write either. */
+/* A stream with a number on both sides; the byte behind its kept ones is nobody's to write either.
+ * */
 typedef struct {
     uint64_t before;
     rk_stream row;
@@ -116,7 +118,8 @@ typedef struct {
 
 static guarded stream;
 
-/* Whether a call has left alone what it should. Beside 0 the stream is printed: its numbers, and the bytes that wait. */
+/* Whether a call has left alone what it should. Beside 0 the stream is printed: its numbers, and
+ * the bytes that wait. */
 static void stream_kept(const guarded *was, uint32_t answer, uint64_t waiting) {
     if (answer != RK_DONE) {
         insist(memcmp(&stream, was, sizeof stream) == 0, "the stream changed");

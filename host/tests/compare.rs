@@ -1,7 +1,8 @@
-//! The library against oracle/, the second program: the cases of oracle/src/cases, made by hand and generated, put to both, and the two
-//! texts compared line by line. All data are made up.
+//! The library against oracle/, the second program: the cases of oracle/src/cases, made by hand and
+//! generated, put to both, and the two texts compared line by line. All data are made up.
 //!
-//!     RK_INPUTS=1000000 RK_SEED=1 cargo test --release -p rietknoest-host --test compare -- --nocapture
+//!     RK_INPUTS=1000000 RK_SEED=1 \
+//!         cargo test --release -p rietknoest-host --test compare -- --nocapture
 //!
 //! A run that does not say takes 200,000 generated cases; the gate says a million.
 

@@ -1,5 +1,5 @@
-//! The declarations: the header, the Rust wrapper and the library say the same as the proved crates' sources, and a C program that calls
-//! every function gets the wrapper's answers.
+//! The declarations: the header, the Rust wrapper and the library say the same as the proved
+//! crates' sources, and a C program that calls every function gets the wrapper's answers.
 
 use oracle::cases::NUMBERS;
 use oracle::made::{self, about, Dice, Ticks};
@@ -93,7 +93,8 @@ fn in_brackets(text: &str) -> &str {
     &text[..text.find(')').expect("a closing bracket")]
 }
 
-/// A function's name, its parameters, and what stands behind their bracket up to the end of its line.
+/// A function's name, its parameters, and what stands behind their bracket up to the end of its
+/// line.
 fn parts(text: &str) -> (&str, Vec<&str>, &str) {
     let (name, rest) = text.split_once('(').expect("parameters");
     let parameters = in_brackets(rest);
@@ -262,7 +263,8 @@ fn everyone_declares_the_same_functions() {
     for (name, count) in EXPORTS {
         let functions = of_crate(name);
         assert_eq!(functions.len(), count);
-        // a market file's number and place come back as one struct, a table's stands beside the call
+        // a market file's number and place come back as one struct, a table's stands beside the
+        // call
         let answer = match name {
             "host_market" => "Finding",
             "host_channels" => "()",
@@ -485,7 +487,8 @@ struct Script {
 }
 
 impl Script {
-    /// A call with its numbers, and its answer: the numbers and the bytes that are told, and the ledger behind a call that has one.
+    /// A call with its numbers, and its answer: the numbers and the bytes that are told, and the
+    /// ledger behind a call that has one.
     fn ask(
         &mut self,
         call: &'static str,
@@ -799,7 +802,8 @@ fn is_clean(s: &mut Script, capture: &[u8]) {
     s.ask("is_clean", &hex(capture), answer, None);
 }
 
-/// A stream as the C program prints it: its numbers, and the bytes that wait; those behind them are 0.
+/// A stream as the C program prints it: its numbers, and the bytes that wait; those behind them are
+/// 0.
 fn shown(stream: &Stream, waiting: u64) -> String {
     let (words, ledger, kept) = stream.clone().into_parts();
     let mut line = " :".to_string();
@@ -816,7 +820,8 @@ fn shown(stream: &Stream, waiting: u64) -> String {
     format!("{line} {waiting}")
 }
 
-/// A call on a stream: beside 0 the numbers and the records that are told, and the stream behind it.
+/// A call on a stream: beside 0 the numbers and the records that are told, and the stream behind
+/// it.
 fn call_stream(s: &mut Script, d: &mut Dice, stream: &mut Stream, cut: Option<&[u8]>) {
     let call = |stream: &mut Stream, records: &mut [u8]| match cut {
         Some(cut) => stream.feed(cut, records),

@@ -1,5 +1,6 @@
-/* Calls the functions for market files as C does: on the file of standard input it prints the check's number and place; of a sound one
- * then the values' number and count, and the number and length of what is written from them, and whether that is the file. */
+/* Calls the functions for market files as C does: on the file of standard input it prints the
+ * check's number and place; of a sound one then the values' number and count, and the number and
+ * length of what is written from them, and whether that is the file. */
 #include "rietknoest.h"
 #include <inttypes.h>
 #include <stdio.h>

@@ -1,4 +1,5 @@
-//! The wrapper's names and layouts of market files, held against what the library answers: each column damaged, each bar, each cut.
+//! The wrapper's names and layouts of market files, held against what the library answers: each
+//! column damaged, each bar, each cut.
 
 use std::io::Write;
 use std::path::Path;

@@ -1,5 +1,5 @@
-//! Market files: the library against oracle/, the second program, on the cases of oracle/src/market,
-//! made by hand and generated.
+//! Market files: the library against oracle/, the second program, on the cases of
+//! oracle/src/market, made by hand and generated.
 //!
 //! What it takes of the wrapper stands in `impl Answers` alone.
 

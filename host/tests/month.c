@@ -1,6 +1,8 @@
-/* Calls both functions of the header's page over a month, as the lines on standard input ask, and prints each answer, then what was told and
- * the page. A line is `start` and channels, how many of them first; or `add` and bytes, how many of them first. Page and told row are lent
- * with known numbers around them; one that changes, and a page or a row that a refusal changes, end the program with status 3. */
+/* Calls both functions of the header's page over a month, as the lines on standard input ask, and
+ * prints each answer, then what was told and the page. A line is `start` and channels, how many of
+ * them first; or `add` and bytes, how many of them first. Page and told row are lent with known
+ * numbers around them; one that changes, and a page or a row that a refusal changes, end the
+ * program with status 3. */
 #include "rietknoest.h"
 #include <inttypes.h>
 #include <stdio.h>

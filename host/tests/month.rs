@@ -1,5 +1,5 @@
-//! The month in whole numbers: the library against oracle/, the second program; pages made by hand that break their rules; and a C program
-//! that calls both functions of the header.
+//! The month in whole numbers: the library against oracle/, the second program; pages made by hand
+//! that break their rules; and a C program that calls both functions of the header.
 
 use oracle::answers::Answer;
 use oracle::cases::text::{compare, difference};

@@ -1,6 +1,6 @@
 //! CR 13 through the library: two captures that agree in all but private fields and checksum are
-//! listed, recorded, asked about and scrubbed alike. oracle/, the second program, makes the pairs and
-//! judges that they meet the premise.
+//! listed, recorded, asked about and scrubbed alike. oracle/, the second program, makes the pairs
+//! and judges that they meet the premise.
 
 use oracle::alike::{captures_alike, pair, pair_of_captures};
 use oracle::made::Dice;

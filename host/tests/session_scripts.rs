@@ -1,6 +1,6 @@
-//! Sessions: the library against oracle/, the second program. The scripts of oracle/scripts/session.txt,
-//! a line a call and what it must answer, and generated ones are put to both; and the table of
-//! docs/SESSION.md is the one that runs of the library show.
+//! Sessions: the library against oracle/, the second program. The scripts of
+//! oracle/scripts/session.txt, a line a call and what it must answer, and generated ones are put to
+//! both; and the table of docs/SESSION.md is the one that runs of the library show.
 //!
 //! What it takes of the wrapper stands in `impl Answers` alone.
 

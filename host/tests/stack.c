@@ -1,6 +1,6 @@
-/* How much stack each call takes, in bytes, over the capture on standard input: the bytes below the caller's frame are painted, and those
- * that the call has changed are counted. A call that takes more or less by its input is made over the sample, which has every kind of
- * frame and damage. */
+/* How much stack each call takes, in bytes, over the capture on standard input: the bytes below the
+ * caller's frame are painted, and those that the call has changed are counted. A call that takes
+ * more or less by its input is made over the sample, which has every kind of frame and damage. */
 #include "rietknoest.h"
 #include <pthread.h>
 #include <stdio.h>

@@ -1,5 +1,5 @@
-//! STEP frames: the library against oracle/, the second program, on the cases of oracle/src/step, made
-//! by hand and generated.
+//! STEP frames: the library against oracle/, the second program, on the cases of oracle/src/step,
+//! made by hand and generated.
 //!
 //! What it takes of the wrapper stands in `impl Answers` alone.
 

@@ -1,5 +1,6 @@
-//! Numbers are loaded at once: the code of `rk_read` has byte swaps. That rests on passes of the compiler, which no proof covers: it
-//! joins the loads of single bytes into one only where they are put together as `octets` does.
+//! Numbers are loaded at once: the code of `rk_read` has byte swaps. That rests on passes of the
+//! compiler, which no proof covers: it joins the loads of single bytes into one only where they are
+//! put together as `octets` does.
 
 use std::path::Path;
 use std::process::Command;

@@ -246,7 +246,8 @@ fn push(body: &mut Vec<u8>, width: usize, value: u64) {
 
 const DIGITS_18: u64 = MOST + 1;
 
-/// The numbers of a channel's ticks as a capture has them: mostly in order, with gaps, repeats and far ones.
+/// The numbers of a channel's ticks as a capture has them: mostly in order, with gaps, repeats and
+/// far ones.
 pub struct Ticks(pub u64);
 
 impl Ticks {
@@ -512,7 +513,8 @@ pub fn damage(d: &mut Dice, f: &mut Vec<u8>) {
     }
 }
 
-/// A capture of about so many bytes: frames, damaged and cut ones, stray bytes, and beginnings of frames that are none.
+/// A capture of about so many bytes: frames, damaged and cut ones, stray bytes, and beginnings of
+/// frames that are none.
 pub fn capture(d: &mut Dice, about: usize, most: usize) -> Vec<u8> {
     let mut c = Vec::new();
     let mut ticks = Ticks(d.of(&[0, 0, 0, 250, DIGITS_18 - 300]));
@@ -646,7 +648,8 @@ pub fn about(d: &mut Dice, n: usize) -> usize {
     }
 }
 
-/// How a stream is made broken, or moved so far that few places are left. A state by its parts: the words, the ledger's, and the store.
+/// How a stream is made broken, or moved so far that few places are left. A state by its parts: the
+/// words, the ledger's, and the store.
 pub fn spoil_stream(d: &mut Dice, words: &mut [u64; 6], ledger: &mut Words, kept: &mut [u8; KEPT]) {
     let waiting = words[3].min(8_190) as usize;
     match d.below(12) {
@@ -663,7 +666,8 @@ pub fn spoil_stream(d: &mut Dice, words: &mut [u64; 6], ledger: &mut Words, kept
     }
 }
 
-/// How many of the bytes that are left a cut has, in a row of cuts of about that size; now and then none.
+/// How many of the bytes that are left a cut has, in a row of cuts of about that size; now and then
+/// none.
 pub fn cut(d: &mut Dice, size: usize, left: usize) -> usize {
     match d.below(8) {
         0 => 0,

@@ -180,7 +180,8 @@ pub fn logon(sender: &str, target: &str) -> Vec<u8> {
     frame(b"S001", 1, &fields.concat())
 }
 
-/// A tick of a stream that source document 000 does not name: its extension has any length, and is private.
+/// A tick of a stream that source document 000 does not name: its extension has any length, and is
+/// private.
 pub fn tick(number: u64, extension: &[u8]) -> Vec<u8> {
     tick_on(100, number, extension)
 }

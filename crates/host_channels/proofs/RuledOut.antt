@@ -1,5 +1,6 @@
 -- Of the lent table: wrong answers and wrong later contents that the promise rules out. The promise
--- is one relation, `Exchanges`, since a lent struct has no `Post` of the checker's. Assumes nothing.
+-- is one relation, `Exchanges`, since a lent struct has no `Post` of the checker's. Assumes
+-- nothing.
 use Prim.Native.Nat.{ℕ, _+_, _-_, _^_}
 use mathlib.Core.Path.{_≡_, refl, ap₂}
 use mathlib.Core.List.{List, [], _∷_, _++_, map}

@@ -1,7 +1,7 @@
 // A stream for C and Rust: bytes that arrive in cuts, to records, counts and ledger; or, by the
-// calls that clean, to scrubbed frames. Between two calls the host keeps it as six numbers, the nine
-// words of its ledger, and the bytes that wait. Each call returns a code, 0 where all is well. A
-// refusal writes nothing.
+// calls that clean, to scrubbed frames. Between two calls the host keeps it as six numbers, the
+// nine words of its ledger, and the bytes that wait. Each call returns a code, 0 where all is well.
+// A refusal writes nothing.
 ghost use mathlib.Core.Path.{_≡_};
 ghost use lib.ListN.{length};
 ghost use Rattle.stream_spec.specs.State.{opened};
@@ -161,8 +161,8 @@ pub extern "C" fn rk_stream_close(
     settle(state, ledger, kept, told, fed)
 }
 
-// What a call that cleans returns: its number; beside 0 the stream after it is kept, and its numbers
-// are the results.
+// What a call that cleans returns: its number; beside 0 the stream after it is kept, and its
+// numbers are the results.
 fn settle_washed(
     state: &mut [u64; 6],
     ledger: &mut [u64; 9],
@@ -193,10 +193,11 @@ fn settle_washed(
 }
 
 // One more cut, perhaps of no bytes: writes the accepted frames that it decides at the front of
-// out, each scrubbed, one after the other. Results, of this call alone: how many bytes it wrote, how
-// many frames they are, how many of these the search found after damage, how many are M101 frames,
-// whose bodies are passed on unjudged; then the place of the first byte that waits, or of the next
-// to come, and how many bytes wait. Counts and ledger stay as they are. Refusals 13, 19, 29, 8.
+// out, each scrubbed, one after the other. Results, of this call alone: how many bytes it wrote,
+// how many frames they are, how many of these the search found after damage, how many are M101
+// frames, whose bodies are passed on unjudged; then the place of the first byte that waits, or of
+// the next to come, and how many bytes wait. Counts and ledger stay as they are. Refusals 13, 19,
+// 29, 8.
 #[no_mangle]
 pub extern "C" fn rk_stream_clean(
     state: &mut [u64; 6],

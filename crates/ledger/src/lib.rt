@@ -374,7 +374,8 @@ impl Ledger {
         }
     }
 
-    // The tick of floor + 1, where the number after it is not held: one is passed, and the map stays.
+    // The tick of floor + 1, where the number after it is not held: one is passed, and the map
+    // stays.
     fn passed_one(self, n: u64) -> Ticked
         requires { ⌜ (n ≡ self .floor .0 + 1) × (n ≤ largest) × (soundOf (bookOf self) ≡ true) × (isSet (bitsIn (self .map)) ((n + 1) % 256) ≡ false) ⌝ }
         ensures { λ r. ⌜ (tickPaper (r .answer) ≡ answer 0 ((self .floor .0 + 1) ∷ passes (bookOf self) n ∷ []))
@@ -625,7 +626,8 @@ impl Ledger {
         }
     }
 
-    // The pending request is cleared, and the floor goes on over the w numbers above it, perhaps none.
+    // The pending request is cleared, and the floor goes on over the w numbers above it, perhaps
+    // none.
     fn replied(self, w: u64) -> Replied
         requires { ⌜ (soundOf (bookOf self) ≡ true) × (w ≤ 256) × (w ≤ self .top .0 - self .floor .0) ⌝ }
         ensures { λ r. ⌜ (replyPaper (r .answer) (r .first) (r .«given_up») (r .passed) ≡ answer 0 ((self .floor .0 + 1) ∷ gaveUp (bookOf self) w ∷ handed (bookOf self) w ∷ []))

@@ -342,8 +342,8 @@ pub fn sum(s: &[u8], at: usize, n: usize) -> u8
 
 // The sum v after each of the n bytes of s from at on became b: that byte taken off, b added. Bytes
 // past the end count for nothing. Only those bytes are loaded, so that a sum that is known need not
-// be made again. What is taken off and what is added are kept apart, each a plain sum, and joined at
-// the end: that is half the work a byte.
+// be made again. What is taken off and what is added are kept apart, each a plain sum, and joined
+// at the end: that is half the work a byte.
 pub fn sum_after(v: u8, s: &[u8], at: usize, n: usize, b: u8) -> u8
     ensures { λ r. ⌜ r ≡ sumAfter v (take n (drop at (now (s .entry)))) b ⌝ }
 {

@@ -1,8 +1,8 @@
--- A capture scrubbed while it arrives, of every row of calls of the code on a stream that it opened,
--- refused calls and empty cuts among them: what is written is what cleaning the whole writes, and so
--- are the counts. `Row calls x` says that the stream x comes of the calls, each meeting its promise;
--- `taken` has the joined bytes of the calls not refused; `heard` has what a host then has from its
--- buffers.
+-- A capture scrubbed while it arrives, of every row of calls of the code on a stream that it
+-- opened, refused calls and empty cuts among them: what is written is what cleaning the whole
+-- writes, and so are the counts. `Row calls x` says that the stream x comes of the calls, each
+-- meeting its promise; `taken` has the joined bytes of the calls not refused; `heard` has what a
+-- host then has from its buffers.
 use Prim.Native.Nat.{ℕ, _≤_}
 use mathlib.Core.Path.{_≡_}
 use mathlib.Core.Bool.{true}

@@ -61,7 +61,8 @@ module _ (channel : ℕ) (opens : channel ≤ 9999) {calls : Calls} {l : Ledger}
       let rules : StateRules (bookOf l) = rw here (agrees channel opens calls .rules) in
       rw (there, p .paper-is) (Book.only-4-gives-up (bookOf l) channel first status rules (rw (p .paper-is) at z) s)
 
--- no asking "for ever": after a reply of status 4 no request of the code names a number of its range
+-- no asking "for ever": after a reply of status 4 no request of the code names a number of its
+-- range
 pub code-asks-no-more : (channel : ℕ) → channel ≤ 9999 → (calls : Calls) (first : ℕ) → answered (reply channel calls first 4) 0 ≡ true → (more : Calls)
     → {l : Ledger} {h : History} → Ran channel (then (calls ▸ Reply channel first 4) more) l h → (next : Ledger) (paper : Paper) → Promise l (Request channel) next paper
     → AsksNoMore (trace channel calls) paper

@@ -1,6 +1,7 @@
 -- Document 02, CR 10, for what the functions on market files may answer by their promises
 -- (`market::check`, `market_values::values` and `written`): which numbers there are, and when each
--- call gives which. `given-40` to `given-47` of `market_spec` say it of the check, number by number.
+-- call gives which. `given-40` to `given-47` of `market_spec` say it of the check, number by
+-- number.
 use Prim.Native.Nat.{ℕ, _<_, _≤_}
 use mathlib.Core.Path.{_≡_, refl}
 use mathlib.Core.Logic.{_⊎_, inl, inr, ⊎-elim, _↔_}

@@ -1,5 +1,6 @@
--- CR 12, a session, for every row of calls from a new session on, refused ones among them, and for every session that a call is
--- given: each sentence over the promises of the code. Then, as for the other functions of the host, that each answer is a number of the table.
+-- CR 12, a session, for every row of calls from a new session on, refused ones among them, and for
+-- every session that a call is given: each sentence over the promises of the code. Then, as for the
+-- other functions of the host, that each answer is a number of the table.
 use Prim.Native.Nat.{ℕ, _+_, _*_, _≤_}
 use mathlib.Core.Path.{_≡_, refl, sym, ap, subst, _∙_}
 use mathlib.Core.Bool.{Bool, true, false, _||_}
@@ -71,7 +72,8 @@ use Rattle.promises.specs.Calls.{Promises}
 use Rattle.promises.specs.Demand1.{inTable, Numbered, done, refused}
 use Rattle.promises.specs.HostNumbers.{tells-numbered}
 
--- "FOR EVERY SEQUENCE OF TIMES AND RECEIVED FRAMES THE MESSAGES TO SEND ARE THOSE OF THE SIMPLE TABLE OF STATES": of what the code runs
+-- "FOR EVERY SEQUENCE OF TIMES AND RECEIVED FRAMES THE MESSAGES TO SEND ARE THOSE OF THE SIMPLE
+-- TABLE OF STATES": of what the code runs
 pub as-the-table : (calls : Calls) (s : Session) (h : History) → code.Ran calls s h → code.AsTheTable calls s h
 as-the-table calls s h ran = code.as-the-table ran
 
@@ -86,8 +88,9 @@ pub host-arrival : (calls : Calls) (w : List ℕ) (time : ℕ) (s : List ℕ) �
     → arrivalTold w time s ≡ arrivalPaper (answerAfter calls (rows.at time (eventIn s))) (lengthIn s)
 host-arrival calls w time s ran = rows.host-arrival ran time s
 
--- THE OTHER SENTENCES OF CR 12, of every row of calls of the code: the host has seen the history h, and the words (stage, clock, interval, lastSent,
--- lastTaken, countSent, countTaken and so on) are told from it alone: Words.antt of `session_spec`
+-- THE OTHER SENTENCES OF CR 12, of every row of calls of the code: the host has seen the history h,
+-- and the words (stage, clock, interval, lastSent, lastTaken, countSent, countTaken and so on) are
+-- told from it alone: Words.antt of `session_spec`
 module _ {calls : Calls} {s : Session} {h : History} (ran : code.Ran calls s h) where
   abbrev of-history : (P : History → Type 0) → P (trace calls) → P h
   of-history P p = subst P (sym (code.as-the-table ran .said)) p
@@ -99,7 +102,8 @@ module _ {calls : Calls} {s : Session} {h : History} (ran : code.Ran calls s h) 
   pub numbers-in : numbersTaken h ≡ oneTo (countTaken h)
   numbers-in = of-history (λ x. numbersTaken x ≡ oneTo (countTaken x)) (simple.numbers-in calls)
 
-  -- the state that the code holds is the one that the history tells, and its rules hold: 13 is never answered
+  -- the state that the code holds is the one that the history tells, and its rules hold: 13 is
+  -- never answered
   pub stage-is : lineOf s .state ≡ stage h
   stage-is = ap (λ (l : Line). l .state) (code.as-the-table ran .stands) ∙ of-history (λ x. after calls .state ≡ stage x) (agrees calls .state-is)
 
@@ -124,7 +128,8 @@ module _ {calls : Calls} {call : Call} {next : Session} {h : History} {a : Answe
   of-call : (P : History → Answer → Type 0) → P (trace calls) (answerAfter calls call) → P h a
   of-call P p = subst (λ x. P x a) (sym (seen .0)) (subst (P (trace calls)) (sym (seen .1)) p)
 
-  -- "logon sent first, nothing else until the logon answer": what is sent is our logon under number 1, or a logon was taken before
+  -- "logon sent first, nothing else until the logon answer": what is sent is our logon under number
+  -- 1, or a logon was taken before
   pub logon-first : sends (a .kind) ≡ true → ((a .kind ≡ S001) × (a .seq ≡ 1)) ⊎ (loggedOn h ≡ true)
   logon-first = of-call (λ x b. sends (b .kind) ≡ true → ((b .kind ≡ S001) × (b .seq ≡ 1)) ⊎ (loggedOn x ≡ true)) (order.logon-first calls call)
 
@@ -171,7 +176,8 @@ module _ {calls : Calls} {call : Call} {next : Session} {h : History} {a : Answe
   pub silent-when-over : stage h ≡ over → sends (a .kind) ≡ false
   silent-when-over = of-call (λ x b. stage x ≡ over → sends (b .kind) ≡ false) (order.silent-when-over calls call)
 
-  -- "a logout in place of the logon answer ends the session with nothing sent": nor by any later call (`silent-when-over`)
+  -- "a logout in place of the logon answer ends the session with nothing sent": nor by any later
+  -- call (`silent-when-over`)
   pub ended-unsent : (n : ℕ) → call .event ≡ Logout n → stage h ≡ waiting → accepted a ≡ true → (a .kind ≡ none) × (stage (h ▸ call ⇒ a) ≡ over)
   ended-unsent n e w k =
       let out : Call = record { now = call .now; event = Logout n } in
@@ -180,7 +186,8 @@ module _ {calls : Calls} {call : Call} {next : Session} {h : History} {a : Answe
       let q = logout.ended-unsent calls (call .now) n (sym (ap stage (seen .0)) ∙ w) (sym (ap accepted same-answer) ∙ k) in
       (ap (λ (b : Answer). b .kind) same-answer ∙ q .unsent, ap stage (code.as-the-table ran .said) ∙ ap (λ (c : Call). stage (trace (calls ▸ c))) same-call ∙ q .ended)
 
--- AND OF EVERY SESSION that a program passes in, sound or not: one call of the code, by `turn` or by `received`, as its promise allows it
+-- AND OF EVERY SESSION that a program passes in, sound or not: one call of the code, by `turn` or
+-- by `received`, as its promise allows it
 pub data Called : Session → Call → Session → Answer → Type 0 where
   by-turn : (c : code.Turned) → promise.Kept _ turn-kinds.ps turn-kinds.r turn.Post c → Called (c .args .0) (code.asked c) (c .result .next) (saidOf (c .result))
   by-frame : (c : code.Received) → promise.Kept _ received-kinds.ps received-kinds.r received.Post c
@@ -208,7 +215,8 @@ module _ {s next : Session} {call : Call} {a : Answer} (called : Called s call n
   pub given-0 : (a .number ≡ 0) ↔ Given0 l t e
   given-0 = of-answer (λ b. (b .number ≡ 0) ↔ Given0 l t e) (given.given-0 l t e)
 
-  -- "Refusals: reading's own first, then 30 .., 31 .., 32 .., 33": in this order, and before all of them 13
+  -- "Refusals: reading's own first, then 30 .., 31 .., 32 .., 33": in this order, and before all of
+  -- them 13
   pub given-13 : (a .number ≡ 13) ↔ (Rules l → ⊥)
   given-13 = of-answer (λ b. (b .number ≡ 13) ↔ (Rules l → ⊥)) (given.given-13 l t e)
 
@@ -228,13 +236,15 @@ module _ {s next : Session} {call : Call} {a : Answer} (called : Called s call n
   pub given-33 : (a .number ≡ 33) ↔ Given33 l t e
   given-33 = of-answer (λ b. (b .number ≡ 33) ↔ Given33 l t e) (given.given-33 l t e)
 
-  -- ".. none of them moves the state or the counters", nor a time; nothing is sent, and the line is not called dead
+  -- ".. none of them moves the state or the counters", nor a time; nothing is sent, and the line is
+  -- not called dead
   pub refused-moves-nothing : (a .number ≡ 0 → ⊥) → (lineOf next ≡ l) × ((a .kind ≡ none) × (a .dead ≡ false))
   refused-moves-nothing p =
       let q = simple.refused-moves-nothing l t e (λ z. p (ap (λ (b : Answer). b .number) (answered-so called .0) ∙ z)) in
       (answered-so called .1 ∙ q .same, (ap (λ (b : Answer). b .kind) (answered-so called .0) ∙ q .unsent, ap (λ (b : Answer). b .dead) (answered-so called .0) ∙ q .undead))
 
-  -- FROM THE TABLE'S CELL: the number, the message and the next state, where the frame's number is right, the line not dead, and a number left
+  -- FROM THE TABLE'S CELL: the number, the message and the next state, where the frame's number is
+  -- right, the line not dead, and a number left
   pub from-cell : Rules l → (WrongNumber l e → ⊥) → (Stopped l t e → ⊥) → AsCell (Dead l t) (BeatDue l t) a (lineOf next .state) (rowOf (l .state) e)
   from-cell r right going =
       of-answer (λ b. AsCell (Dead l t) (BeatDue l t) b (lineOf next .state) (rowOf (l .state) e))
@@ -246,7 +256,8 @@ module _ {s next : Session} {call : Call} {a : Answer} (called : Called s call n
   from-stage ran right going =
       subst (λ (x : State). AsCell (Dead l t) (BeatDue l t) a (lineOf next .state) (rowOf x e)) (stage-is ran) (from-cell (rules-kept ran) right going)
 
--- "a time before the last one counts as the last one": it is answered as that one, and leaves the same session
+-- "a time before the last one counts as the last one": it is answered as that one, and leaves the
+-- same session
 pub time-back : {s x y : Session} {back on : Call} {a b : Answer} → Called s back x a → Called s on y b → back .event ≡ on .event → back .now ≤ lineOf s .last
     → on .now ≡ lineOf s .last → (a ≡ b) × (lineOf x ≡ lineOf y)
 time-back {s} {x} {y} {back} {on} p q e h z =
@@ -276,18 +287,21 @@ host-new-session-counters κs a x s p =
     let e : lineIn (now (s .0)) ≡ opened = ap lineIn (p .1) ∙ rows.words-back opened in
     (ap (λ (l : Line). l .sending) e, ap (λ (l : Line). l .expecting) e)
 
--- ".. CLEARS A PENDING RESEND REQUEST AND KEEPS ALL ELSE IN THE TICK LEDGERS": the very ledger with nothing pending, of the code
+-- ".. CLEARS A PENDING RESEND REQUEST AND KEEPS ALL ELSE IN THE TICK LEDGERS": the very ledger with
+-- nothing pending, of the code
 pub new-session : (l next : Ledger) (paper : Paper) → Words (l .map .words) → Promise l Renew next paper → StateRules (bookOf l)
     → (paper ≡ answer 0 []) × (next ≡ cleared l)
 new-session = ledgers.new-session
 
--- of the nine words that a host keeps: the ledger that they stand for is the same but for its pending request, which is nothing
+-- of the nine words that a host keeps: the ledger that they stand for is the same but for its
+-- pending request, which is nothing
 pub host-new-session : Promises _ rk-ledger-renew-kinds.ps rk-ledger-renew-kinds.r rk-ledger-renew.Post
     (λ κs a x s. StateRules (bookIn (now (a .0))) → NewSession (bookIn (now (a .0))) (answer x []) (bookIn (now (s .0))))
 host-new-session κs a x s p r = host-ledgers.renew-new-session κs a x s p r
 
--- "DEMAND 3 THEN COUNTS THAT REQUEST AS NO LONGER PENDING": `handed-out` to `counted` of Demand3.antt are over rows of calls with `Renew` among
--- them, and `pending` is told from the calls alone: granted, no reply answered 0 since, no new session since (`stillPending` of `ledger_spec`)
+-- "DEMAND 3 THEN COUNTS THAT REQUEST AS NO LONGER PENDING": `handed-out` to `counted` of
+-- Demand3.antt are over rows of calls with `Renew` among them, and `pending` is told from the calls
+-- alone: granted, no reply answered 0 since, no new session since (`stillPending` of `ledger_spec`)
 pub no-longer-pending : (channel : ℕ) → channel ≤ 9999 → (calls : ledger-trace.Calls)
     → OnlyCleared (ledger-trace.trace channel calls) (ledger-trace.trace channel (ledger-trace._▸_ calls Renew))
 no-longer-pending = answers.new-session-told

@@ -82,8 +82,8 @@ module _ (type : ℕ) (fs d : List ℕ) where
         fields-same = ap fields e ∙ fields-of-frame type fs rest (small w);
       }
 
--- "THE SCRUBBER PAINTS 49, 56, 553, 554 AND 58 WITH SPACES OF THE SAME LENGTH": what is answered of a
--- frame that reads, and what is then in its buffer
+-- "THE SCRUBBER PAINTS 49, 56, 553, 554 AND 58 WITH SPACES OF THE SAME LENGTH": what is answered of
+-- a frame that reads, and what is then in its buffer
 pub record StepScrubbed (s left : List ℕ) : Type 0 where
   pub answered : stepScrubOf s ≡ answer 0 (frameLength s ∷ [])
   pub long : length left ≡ length s

@@ -73,8 +73,8 @@ pub record SameOutside (s t : List ℕ) : Type 0 where
   pub same-request : (channel : ℕ) → answerTo (literalWalk s .ledger) (Request channel) ≡ answerTo (literalWalk t .ledger) (Request channel)
   -- the calls that a capture makes: so every ledger and every table that is fed from it
   pub same-calls : callsOf s ≡ callsOf t
-  -- the month figures of every channel; and of a page, whatever was added before, the answer, 27 and
-  -- 28 among it, and the page after it
+  -- the month figures of every channel; and of a page, whatever was added before, the answer, 27
+  -- and 28 among it, and the page after it
   pub same-figures : (channel : ℕ) → figuresOf channel s ≡ figuresOf channel t
   pub same-added : (p : Page) → month.answerTo p s ≡ month.answerTo p t
   pub same-page : (p : Page) → month.nextOf p s ≡ month.nextOf p t

@@ -1,6 +1,6 @@
--- CR 13, proved. Two frames that meet the premise are alike (`Alike` of `private`), so they are seen
--- alike and scrub to the same bytes. Records, ledger, calls, counts and listing are made of what is
--- seen, and of a capture's length, alone.
+-- CR 13, proved. Two frames that meet the premise are alike (`Alike` of `private`), so they are
+-- seen alike and scrub to the same bytes. Records, ledger, calls, counts and listing are made of
+-- what is seen, and of a capture's length, alone.
 use Prim.Native.Nat.{ℕ, _+_, _-_, _/_, _<_, _≤_}
 use mathlib.Core.Path.{_≡_, refl, sym, ap, ap₂, _∙_}
 use mathlib.Core.Logic.{_⊎_, inl, inr, ⊎-elim}

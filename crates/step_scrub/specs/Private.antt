@@ -1,6 +1,6 @@
 -- Document 02, CR 5: "paints 49, 56, 553, 554 and 58 with spaces of the same length". Which tags
--- these are, outright, so that a shorter `isPrivate` is refused; that no byte of the fields is in no
--- field; what becomes of one field; and when fields differ in private values alone.
+-- these are, outright, so that a shorter `isPrivate` is refused; that no byte of the fields is in
+-- no field; what becomes of one field; and when fields differ in private values alone.
 use Prim.Native.Nat.{ℕ, zero, suc, _+_, _<_}
 use mathlib.Core.Path.{_≡_, refl, sym, ap, _∙_}
 use mathlib.Core.Bool.{Bool, true, false, _&&_}

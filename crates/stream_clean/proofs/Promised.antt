@@ -1,5 +1,5 @@
--- What the promises that the checker makes of `clean_cut` and `clean_end` come to: such calls make a
--- `Row`, and so `cleaned-as-it-arrives` holds of what they hand back and write. Assumes nothing.
+-- What the promises that the checker makes of `clean_cut` and `clean_end` come to: such calls make
+-- a `Row`, and so `cleaned-as-it-arrives` holds of what they hand back and write. Assumes nothing.
 use borrow.Fn.Kinds.{Dens, endedOf, resT}
 use contract.Lifetimes.{Lfts}
 use denote.Ref.{now}

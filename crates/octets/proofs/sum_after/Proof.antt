@@ -1,5 +1,5 @@
--- `sum_after`. The invariant: what is left to take off, from the two sums joined, gives the sum that
--- is promised from v. The measure is what is left. Assumes nothing.
+-- `sum_after`. The invariant: what is left to take off, from the two sums joined, gives the sum
+-- that is promised from v. The measure is what is left. Assumes nothing.
 use Prim.Native.Nat.{_+_, _-_, _%_, _≤_}
 use mathlib.Core.Path.{_≡_, refl, sym, _∙_}
 use native.Mathlib.Omega.{arith}

@@ -1,5 +1,5 @@
--- `takes_all`: what is given is no longer than the kept bytes and the cut; else the pass counted it.
--- Assumes nothing.
+-- `takes_all`: what is given is no longer than the kept bytes and the cut; else the pass counted
+-- it. Assumes nothing.
 use borrow.Author.Needs.{needs}
 use native.Mathlib.Omega.{arith}
 use Rattle.stream_clean_spec.specs.CallLaws.{fits-roomy, fits-counted}

@@ -1,4 +1,5 @@
--- The next number is not held, so one alone is passed, and its place is clear again. Assumes nothing.
+-- The next number is not held, so one alone is passed, and its place is clear again. Assumes
+-- nothing.
 use mathlib.Core.Path.{_≡_, ap, ap₂, _∙_}
 use mathlib.Core.List.{[], _∷_}
 use Prim.Native.Nat.{ℕ, max}
