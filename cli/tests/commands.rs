@@ -578,8 +578,8 @@ fn changed(mut frame: Vec<u8>, at: usize, byte: u8) -> Vec<u8> {
     frame
 }
 
-/// For 6 the lowest field that breaks a rule, by name, rule and place; none of its bytes, and nothing
-/// of the private fields beside it.
+/// For 6 the lowest field that breaks a rule, by name, rule and place; none of its bytes, and
+/// nothing of the private fields beside it.
 #[test]
 fn explain_names_the_field() {
     let folder = Folder::new();

@@ -3,7 +3,8 @@
  *
  *     client [MS]     MS: by this client's clock, so many milliseconds from one arrival to the next
  *
- * A session has no clock: time is an argument of its calls. So beats can be seen without waiting. */
+ * A session has no clock: time is an argument of its calls. So beats can be seen without waiting.
+ * */
 #define _POSIX_C_SOURCE 200809L
 #include "rietknoest.h"
 #include <poll.h>

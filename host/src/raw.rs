@@ -145,7 +145,8 @@ pub struct ReadingRow {
     pub top: u64,
 }
 
-/// What a session's call tells: the MsgType to send, 0 for nothing, its number, and 1 for a dead line.
+/// What a session's call tells: the MsgType to send, 0 for nothing, its number, and 1 for a dead
+/// line.
 #[derive(Default)]
 #[repr(C)]
 pub struct TurnRow {

@@ -1,7 +1,8 @@
-/* Calls every name of the header's table of channels, as the lines on standard input ask, and prints each answer with what was told, then the
- * table. Each line is a name and its numbers. The table is lent with known numbers around it; one that changes, a told row that is written
- * beside a refusal, a table that a refusal changes (12 may change it), and a row that tells something else when it is lent as a ledger end
- * the program with status 3. */
+/* Calls every name of the header's table of channels, as the lines on standard input ask, and
+ * prints each answer with what was told, then the table. Each line is a name and its numbers. The
+ * table is lent with known numbers around it; one that changes, a told row that is written beside a
+ * refusal, a table that a refusal changes (12 may change it), and a row that tells something else
+ * when it is lent as a ledger end the program with status 3. */
 #include "rietknoest.h"
 #include <inttypes.h>
 #include <stdio.h>

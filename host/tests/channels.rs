@@ -1,5 +1,6 @@
-//! Thirty-two channels on one line: the library against oracle/, the second program, by the scripts of oracle/scripts/channels.txt and
-//! generated ones, tables that break their rules among both; and a C program that calls every name of the header.
+//! Thirty-two channels on one line: the library against oracle/, the second program, by the scripts
+//! of oracle/scripts/channels.txt and generated ones, tables that break their rules among both; and
+//! a C program that calls every name of the header.
 
 use oracle::answers::{Answer, Told};
 use oracle::cases::text::{compare, difference};

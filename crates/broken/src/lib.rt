@@ -1,5 +1,5 @@
-// Which field of a body breaks a rule: the lowest, in the order of document 01's widths. It is asked
-// where reading has answered 6.
+// Which field of a body breaks a rule: the lowest, in the order of document 01's widths. It is
+// asked where reading has answered 6.
 ghost use mathlib.Core.Path.{_≡_};
 ghost use mathlib.Core.List.{_++_};
 ghost use Prim.Native.Nat.{_+_, _-_, _≤_};
@@ -12,9 +12,9 @@ ghost use Rattle.broken.specs.Broken.{none, brokenAt, lowestFrom, typeOk
 use rules::Kind;
 
 // A field that breaks a rule: `found` is 1; where it starts in the body, how many bytes it has, and
-// its number in the order of the type's widths, counted from 0. An M201's extension is number 9. The
-// fields of an M102 entry are numbers 13 to 16: type, price, size, position; `entry` is the entry's
-// number, counted from 1, and 0 for any other field. Where every rule holds, all are 0.
+// its number in the order of the type's widths, counted from 0. An M201's extension is number 9.
+// The fields of an M102 entry are numbers 13 to 16: type, price, size, position; `entry` is the
+// entry's number, counted from 1, and 0 for any other field. Where every rule holds, all are 0.
 pub struct Broken {
     pub found: u64,
     pub place: usize,

@@ -1,5 +1,5 @@
--- An array of numbers that stands in a cell is lent as a `&` for a lifetime, and is back in its cell
--- once the lifetime is over, for a walk over plain data. Assumes `Given`.
+-- An array of numbers that stands in a cell is lent as a `&` for a lifetime, and is back in its
+-- cell once the lifetime is over, for a walk over plain data. Assumes `Given`.
 use mathlib.Core.Path.{_≡_, refl, sym, ap, subst, _∙_}
 use mathlib.Core.List.{List, [], _∷_, map}
 use Prim.Native.Nat.{ℕ}

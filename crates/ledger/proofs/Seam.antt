@@ -427,8 +427,8 @@ pub own-fine : (b : Book) (n k : ℕ) → soundOf b ≡ true → k ≡ ownNumber
 unfolding numberTo checkedOf ownNumber
 own-fine b n k t e = e ∙ rw (t, eq-eqb (b .channel) (b .channel) refl) refl
 
--- the own number of a tick, by the code's tests: above the floor received is held, and nothing beyond
--- floor + 256 is
+-- the own number of a tick, by the code's tests: above the floor received is held, and nothing
+-- beyond floor + 256 is
 module _ (l : Ledger) (h : Words (l .map .words)) (n : ℕ) where
   pub own-range : tickNumber n ≡ false → 10 ≡ ownNumber (bookOf l) (Tick 0 n)
   unfolding ownNumber

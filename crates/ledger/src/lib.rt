@@ -321,8 +321,8 @@ impl Ledger {
         }
     }
 
-    // A tick whose place is marked: the floor passes the run of held places above it, which are then
-    // free for the numbers 256 above.
+    // A tick whose place is marked: the floor passes the run of held places above it, which are
+    // then free for the numbers 256 above.
     fn passed_run(self, n: u64) -> Ticked
         requires { ⌜ (self .floor .0 < n) × (n ≤ self .floor .0 + 256) × (n ≤ largest) ⌝ }
         ensures { λ r. ⌜ (tickPaper (r .answer) ≡ answer 0 ((self .floor .0 + 1) ∷ passes (bookOf self) n ∷ []))

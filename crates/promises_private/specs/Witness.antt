@@ -98,9 +98,9 @@ witness-differs =
     (differs-at 69 refl all-told))))  -- the extension
 
 -- OUTSIDE IT. A pair that meets the premise: an order whose InvestorName is a whole heartbeat and
--- four spaces, and the same order with a blank name. With the first byte of each damaged, the search
--- finds the heartbeat in the one, and nothing in the other: so the scrubbed bytes differ, and the
--- listing, whose last line has how many frames there were (`framesOf`).
+-- four spaces, and the same order with a blank name. With the first byte of each damaged, the
+-- search finds the heartbeat in the one, and nothing in the other: so the scrubbed bytes differ,
+-- and the listing, whose last line has how many frames there were (`framesOf`).
 pub damaged-differs :
     SameButPrivate (inside.frameOf 0x4D named 0x7B) (inside.frameOf 0x4D (replicate 32 0x20) 0xDF)
     × ((cleanOf (inside.frameOf 0x4E named 0x7B) ≡ heartbeat) × (cleanOf (inside.frameOf 0x4E (replicate 32 0x20) 0xDF) ≡ []))

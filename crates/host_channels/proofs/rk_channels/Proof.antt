@@ -2,9 +2,9 @@
 -- and the index are copied out of their fields, the names are lent where they stand (Lends.antt)
 -- to `turn_to`, which names a row, which is copied out of the array that is the table's last field
 -- (`elem` of Elem.antt), and `answered` is called on them. The answer is stored beside the call. A
--- refusal but 12 ends there, with the table as it was (`served-keeps`); else index, row and the name
--- beside it are stored where they stood. The borrows are closed at the table and the exchange that
--- are left. Assumes nothing.
+-- refusal but 12 ends there, with the table as it was (`served-keeps`); else index, row and the
+-- name beside it are stored where they stood. The borrows are closed at the table and the exchange
+-- that are left. Assumes nothing.
 use mathlib.Core.Path.{_≡_, refl, sym, ap, subst, _∙_}
 use mathlib.Core.Bool.{_&&_, not}
 use Prim.Native.Nat.{ℕ, _<_, _≤_, _^_, _*_, _+_}
@@ -332,11 +332,13 @@ module _ {M : Type 1} (𝓤 : URA M) (H : Heap 𝓤) (A : Atoms 𝓤) (W : Given
         lft-new ! tt (λ α. move ! (1 ∷ []) $ use1 W (‵ (fat fullShare (tyArray (tyInt w64) 33) b (o + 0 + 0) (laid ns)) ⊛ raw (all 𝓤 Back)) names-out $ split ! $
         use1 W (later (some (λ (γn : GName). ‵ (Lent α γn) ⊛ ‵ (flent (α ∷ []) (partAt (Numbers 33) fullShare ns b (o + 0 + 0)))))) (lends 𝓤 H A W 33 ns ns-is b (o + 0 + 0) (named 0) (α ∷ [])) $ await ! tt $ pick ! (λ γn. split ! $
         move ! (0 ∷ 3 ∷ []) $ use2 W (raw (TurnsTo 𝓤 H A at-mem run .pre (to-turn α γn))) (turn-goes α γn k-is (parts .1 .0)) $
-        -- [what the call asks; the lender's part; the names' way back; what a table owns; …]: two more than before
+        -- [what the call asks; the lender's part; the names' way back; what a table owns; …]: two
+        -- more than before
         calls-at ! fm (TurnsTo 𝓤 H A at-mem run) turns (to-turn α γn) (and-then ! (load ! (from ! (stop !)) (look ! 46 refl)) (and-then ! (load ! (from ! (stop !)) (look ! 34 refl)) (and-then ! (load ! (from ! (stop !)) (look ! 48 refl)) (no-more !)))) (λ u.
         use1 W (later (some (λ (n : Turn). ((‵ (flft (α ∷ []) fullShare) ⊛ ‵ ftrue) ⊛ ‵ (U.the-row .own n (u ∷ []))) ⊛ raw (ensured 𝓤 H A turn.ended (turn.clauses 𝓤 H A at-mem run) (α ∷ [], tt) (h .index, (to-names γn, (k, tt))) tt n)))) (id⊢ 𝓤 _) $ await ! tt $ pick ! (λ n.
         split ! $ move ! (1 ∷ []) $ use1 W (raw (fact 𝓤 (Turned n))) (turn-said α γn n) $ heard ! (Turned n) (λ e. split ! $ split ! $
-        -- [the token; nothing; what the turn owns; the lender's part; the way back; what a table owns; …]
+        -- [the token; nothing; what the turn owns; the lender's part; the way back; what a table
+        -- owns; …]
         move ! (0 ∷ 3 ∷ 4 ∷ []) $ use3 W (later (‵ (fat fullShare T′.mir b o (cell h)))) (names-in α ns-is) $ await ! tt $ move ! (1 ∷ []) $ drop ! $ move ! (1 ∷ []) $
         peeks ! U.the-row (Is U.the-row) (shows 𝓤 H A U.the-row) n (u ∷ []) (λ n-is. drop ! $
         let ni = subst (λ (vs : List Val). Is U.the-row n vs) (LL.tells U.the-type U′.the-laws n _ n-is) n-is in

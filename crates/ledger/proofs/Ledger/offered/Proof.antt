@@ -1,5 +1,5 @@
--- Each return has the tick's own number, and that is the call's: the ledger is sound, and the channel
--- is its own. Assumes nothing.
+-- Each return has the tick's own number, and that is the call's: the ledger is sound, and the
+-- channel is its own. Assumes nothing.
 use mathlib.Core.Path.{_≡_, sym, _∙_}
 use mathlib.Core.Bool.{true}
 use Prim.Native.Nat.{ℕ, _+_, _≤_, _<_}

@@ -1,5 +1,5 @@
--- The verdict of the outer checks has the call's number where it is a refusal; where it is none, the
--- ledger is sound and the channel its own. Assumes nothing.
+-- The verdict of the outer checks has the call's number where it is a refusal; where it is none,
+-- the ledger is sound and the channel its own. Assumes nothing.
 use mathlib.Core.Path.{_≡_, sym, ap, ap₂, _∙_}
 use mathlib.Core.Bool.{true}
 use Prim.Native.Nat.{ℕ, max}

@@ -1,5 +1,5 @@
--- A broken session is refused; an ordinary frame that is taken sends nothing; else the verdict on the
--- table's cell decides. Assumes nothing.
+-- A broken session is refused; an ordinary frame that is taken sends nothing; else the verdict on
+-- the table's cell decides. Assumes nothing.
 use mathlib.Core.Path.{sym, ap, _∙_}
 use borrow.Author.Tests.{not-true, not-false}
 use Rattle.terms.specs.Refusals.{refusal-pos}

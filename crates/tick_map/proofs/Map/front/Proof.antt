@@ -1,5 +1,5 @@
--- The words before the end are whole, the one that it is in has the places below it, and those behind
--- have none; where it comes round to the first word, that has both parts. Assumes nothing.
+-- The words before the end are whole, the one that it is in has the places below it, and those
+-- behind have none; where it comes round to the first word, that has both parts. Assumes nothing.
 use Rattle.tick_map.specs.Bits.{Words}
 use Rattle.tick_map.proofs.Turned.{ends-first, ends-second, ends-third, ends-fourth, ends-round}
 use borrow.Author.Needs.{needs}
