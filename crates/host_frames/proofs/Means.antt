@@ -42,10 +42,12 @@ use Rattle.entries.specs.Reader.{stepOf}
 use Rattle.private.specs.Laws.{scrub-number, answer-refused}
 use Rattle.private.specs.Private.{privateOf, spanAt}
 use Rattle.private.specs.Cover.{Covers, spans-cover}
+use Rattle.private.specs.Parts.{SpanGiven}
+use Rattle.private.specs.PartsLaws.{span-number, span-told, span-given}
 use Rattle.private.specs.Scrub.{scrubAnswer}
 use Rattle.walk_spec.specs.Literal.{typeIn}
 use Rattle.host_words.specs.Told.{toldBy, Tells, seen}
-use Rattle.host_frames.specs.Frames.{viewNumbers, readTold, searchTold, privateTold, brokenTold, entriesTold, entryNumbers, entryTold}
+use Rattle.host_frames.specs.Frames.{viewNumbers, readTold, searchTold, brokenTold, entriesTold, entryNumbers, entryTold}
 use Rattle.host_frames.specs.Means.{bodyNumbers, HostRead, HostWrote, HostFound, HostScrubbed, HostBroken, HostOpened, HostStepped}
 use Rattle.host_frames.proofs.rk_read.Reads as read
 use Rattle.host_frames.proofs.rk_read.Kinds as read-kinds
@@ -225,8 +227,14 @@ rk-search-finds κs a x s p = host-found (now (a .0)) (a .1 .0) p
 pub rk-private-span : (κs : Lfts 2) (a : Dens κs private-kinds.ps) (x : resT private-kinds.r κs .Denot) (s : AtExit (endedOf 2 private-kinds.ps private-kinds.r) κs) → private.Post κs a x s
     → let span = spanAt (a .1 .1 .0) (privateOf (kindOf (a .0)) (now (a .1 .0))) in
     (x ≡ measureOf (kindOf (a .0)) (length (now (a .1 .0)))) × (x ≡ 0 → now (s .1 .1 .1 .0) ≡ span .place ∷ span .len ∷ span .fill ∷ [])
-unfolding privateTold toldBy
-rk-private-span κs a x s p = (p .answered, λ (z : x ≡ 0). p .told ∙ rw (sym (p .answered) ∙ z))
+rk-private-span κs a x s p =
+    let e : x ≡ measureOf (kindOf (a .0)) (length (now (a .1 .0))) = p .answered ∙ span-number (a .0) (now (a .1 .0)) (a .1 .1 .0) in
+    (e, λ (z : x ≡ 0). told-0 p z ∙ ap (λ (q : Paper). q .values) (span-told (a .0) (now (a .1 .0)) (a .1 .1 .0) (sym e ∙ z)))
+
+-- each number exactly when document 01's checks of type and length give it
+pub rk-private-given : (κs : Lfts 2) (a : Dens κs private-kinds.ps) (x : resT private-kinds.r κs .Denot) (s : AtExit (endedOf 2 private-kinds.ps private-kinds.r) κs) → private.Post κs a x s
+    → (n : ℕ) → (x ≡ n) ↔ SpanGiven n (a .0) (length (now (a .1 .0)))
+rk-private-given κs a x s p = given-as p (λ (n : ℕ). span-given n (a .0) (now (a .1 .0)) (a .1 .1 .0))
 
 -- so each span that is told lies within the body
 pub rk-private-within : (κs : Lfts 2) (a : Dens κs private-kinds.ps) (x : resT private-kinds.r κs .Denot) (s : AtExit (endedOf 2 private-kinds.ps private-kinds.r) κs) → private.Post κs a x s

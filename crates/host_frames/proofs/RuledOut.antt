@@ -20,10 +20,11 @@ use Rattle.frame_spec.specs.Search.{firstOf, searchOf}
 use Rattle.frame_spec.specs.Examples.{startOfA, frameA, frameB, A, resend}
 use Rattle.frame_view.specs.View.{viewOf}
 use Rattle.entries.specs.Reader.{openOf, placed, stands, entryAt, stepOf, placeAfter}
+use Rattle.private.specs.Parts.{spanAnswer}
 use Rattle.private.specs.Private.{tailOf}
 use Rattle.private.specs.Scrub.{painted, summed, scrubAnswer, scrubbed}
 use Rattle.host_words.specs.Told.{toldBy, Tells}
-use Rattle.host_frames.specs.Frames.{readTold, searchTold, privateTold, tailNumber, tailTold, brokenTold, entriesTold, entryNumbers, entryTold}
+use Rattle.host_frames.specs.Frames.{readTold, searchTold, tailNumber, tailTold, brokenTold, entriesTold, entryNumbers, entryTold}
 use Rattle.host_frames.proofs.rk_read.Reads as rk-read
 use Rattle.host_frames.proofs.rk_read.Kinds as rk-read-kinds
 use Rattle.host_frames.proofs.rk_write.Reads as rk-write
@@ -95,8 +96,8 @@ rk-private-wrong =
     ∷ []
 
 pub rk-private-rules-out : RulesOut (Kept _ rk-private-kinds.ps rk-private-kinds.r rk-private.Post) (λ c. (c .args .0, (now (c .args .1 .0), (c .args .1 .1 .0, now (c .args .1 .1 .1 .0))))) (λ c. told (c .result) (now (c .exit .1 .1 .1 .0))) rk-private-wrong
-unfolding numeral digitsOf kindOf suits measureOf layoutOf suitsTail tailOk tailOf toldBy privateTold
-rk-private-rules-out = ruled (beside numbers lists) (λ (i : ℕ × (List ℕ × (ℕ × List ℕ))). tells (privateTold (i .0) (i .1 .0) (i .1 .1 .0)) (i .1 .1 .1)) (λ c p. said p) _ refl
+unfolding numeral digitsOf kindOf suits measureOf layoutOf suitsTail tailOk tailOf toldBy spanAnswer
+rk-private-rules-out = ruled (beside numbers lists) (λ (i : ℕ × (List ℕ × (ℕ × List ℕ))). tells (spanAnswer (i .0) (i .1 .0) (i .1 .1 .0)) (i .1 .1 .1)) (λ c p. said p) _ refl
 
 -- RK_TAIL_FIELD: a body, the number of a field, and the told row before
 abbrev pub rk-tail-field-wrong : List (Row (List ℕ × (ℕ × List ℕ)) Answer)

@@ -20,8 +20,6 @@ use Rattle.entries.specs.declared.Entry.{Entry}
 use Rattle.entries.specs.declared.Entry.the-variants.{Short, Long}
 use Rattle.entries.specs.Papers.{entryPaper}
 use Rattle.entries.specs.Reader.{openOf, stepOf, placeAfter}
-use Rattle.private.specs.declared.Span.{Span}
-use Rattle.private.specs.Private.{privateOf, spanAt}
 use Rattle.host_words.specs.Told.{perhaps, retold}
 
 -- channel, tick number, first and last resend number, resend status
@@ -34,14 +32,6 @@ readTold s = retold (λ (vs : List ℕ). vs ++ viewNumbers (viewOf (kindOf (msgT
 
 unfoldable pub searchTold : List ℕ → ℕ → Paper
 searchTold s from = retold perhaps (searchOf s from)
-
--- where the span starts in the body, its length, the byte that replaces each
-abbrev pub spanNumbers : Span → List ℕ
-spanNumbers p = p .place ∷ p .len ∷ p .fill ∷ []
-
--- reading's checks 2, 3 and 4 of the type and the length
-unfoldable pub privateTold : ℕ → List ℕ → ℕ → Paper
-privateTold type body i = answer (measureOf (kindOf type) (length body)) (spanNumbers (spanAt i (privateOf (kindOf type) body)))
 
 -- a field of an M201's extension; 6 where the body's length does not suit the layout that it names
 abbrev pub fieldNumbers : TailField → List ℕ

@@ -6,12 +6,14 @@ ghost use mathlib.Core.List.{[], _∷_, _++_};
 ghost use lib.ListN.{length, drop};
 ghost use Rattle.frame_spec.specs.Write.{message, writeOf, leftOf};
 ghost use Rattle.private.specs.Scrub.{scrubAnswer, scrubbed};
+ghost use Rattle.private.specs.Parts.{spanAnswer};
 ghost use Rattle.entries.specs.Papers.{entryPaper};
 ghost use Rattle.host_words.specs.Told.{Tells};
-ghost use Rattle.host_frames.specs.Frames.{readTold, searchTold, privateTold, tailTold, brokenTold, entriesTold, entryNumbers, entryTold};
+ghost use Rattle.host_frames.specs.Frames.{readTold, searchTold, tailTold, brokenTold, entriesTold, entryNumbers, entryTold};
 use entries::Entry;
 use frame::Found;
 use frame::Read;
+use private::Told;
 use rules::Kind;
 use terms::SessionNumber;
 use terms::Verdict;
@@ -101,16 +103,15 @@ pub extern "C" fn rk_scrub(frame: &mut [u8], told: &mut u64) -> u32
 }
 
 // Private span number i of a body of that type, counted from 0. Results: where it starts in the
-// body, how many bytes it has, and the byte that replaces each; from the last on, an empty one.
+// body, how many bytes it has, and the byte that replaces each; from the last on, an empty one. Or
+// 2, 3 or 4 where no frame of that type has a body of this length.
 #[no_mangle]
 pub extern "C" fn rk_private(msg_type: u32, body: &[u8], i: usize, told: &mut [u64; 3]) -> u32
-    ensures { λ r. ⌜ Tells (privateTold «msg_type» (now (body .entry)) i) (now (told .entry)) r (now (told .exit)) ⌝ }
+    ensures { λ r. ⌜ Tells (spanAnswer «msg_type» (now (body .entry)) i) (now (told .entry)) r (now (told .exit)) ⌝ }
 {
-    let kind = rules::kind_of(msg_type);
-    match rules::measure(kind, body.len()) {
-        Verdict::Refused(why) => why.number(),
-        Verdict::Fine => {
-            let s = private::private_span(kind, body, i);
+    match private::private_span(msg_type, body, i) {
+        Told::Refused(why) => why.number(),
+        Told::Part(s) => {
             *told = [s.place as u64, s.len as u64, s.fill as u64];
             0
         }

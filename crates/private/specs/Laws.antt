@@ -7,7 +7,7 @@ use mathlib.Core.Path.{_≡_, refl, sym, ap, _∙_}
 use mathlib.Core.Logic.{_⊎_, inl, inr, ⊎-elim}
 use mathlib.Core.List.{List, [], _∷_, _++_}
 use native.Mathlib.Omega.{arith}
-use lib.ListN.{length, getD, take, drop}
+use lib.ListN.{length, getD, take, drop, length-drop}
 use lib.Seq.{take-add, length-take-le, drop-at, getD-take, getD-drop}
 use borrow.Author.Tests.{eq-eqb, ne-eqb}
 use Rattle.terms.specs.Paper.{answer, one-number}
@@ -15,8 +15,8 @@ use Rattle.terms.specs.Cases.{less, same}
 use Rattle.terms.specs.Refusals.{refusal-pos}
 use Rattle.octets.specs.declared.Written.{Written}
 use Rattle.octets.specs.Papers.{writtenPaper, Refuses}
-use Rattle.octets.specs.Octets.{be, bytesOf, sum8, laid}
-use Rattle.octets.specs.Numerals.{length-digits, numeral-append, numeral-take, last-byte}
+use Rattle.octets.specs.Octets.{numeral, be, bytesOf, sum8, laid}
+use Rattle.octets.specs.Numerals.{length-digits, numeral-append, numeral-drop, numeral-take, last-byte}
 use Rattle.octets.specs.Sums.{sum8-below}
 use Rattle.octets.specs.Places.{laid-before, laid-in, laid-after}
 use Rattle.octets.specs.Overlays.{length-laid, laid-again, laid-same, take-laid, mid-laid, be-laid}
@@ -33,7 +33,7 @@ use Rattle.rules.specs.declared.Kind.{Kind}
 use Rattle.private.specs.Private.{privateOf}
 use Rattle.private.specs.Scrub.{painted, spansOf, cleanBody, summed, scrubbed, scrubAnswer}
 use Rattle.private.specs.Paint.{Inside, Within, Agree, length-painted, painted-outside, painted-inside, painted-agrees, painted-same}
-use Rattle.private.specs.Within.{scrubbedAs}
+use Rattle.private.specs.Within.{scrubbedAs, SmallSum}
 use Rattle.frame_view.specs.View.{viewOf}
 use Rattle.private.specs.PrivateLaws.{view-same, private-few, private-within, private-filled, private-same, judged-same}
 
@@ -289,6 +289,18 @@ scrub-alike s t y z a =
     let plains : take 24 s ++ cleanBody s ≡ take 24 t ++ cleanBody t = rw (a .header, alike-body s t a y) in
     scrub-bytes s y ∙ ap (λ (p : List ℕ). p ++ bytesOf 4 (sum8 p)) plains ∙ sym (scrub-bytes t z)
 
+-- four bytes that hold less than 256
+three-zeros : (s : List ℕ) → 3 ≤ length s → be 4 0 s < 256 → take 3 s ≡ 0 ∷ 0 ∷ 0 ∷ []
+unfolding numeral
+three-zeros [] h l = absurd (omega arith)
+three-zeros (a ∷ []) h l = absurd (omega arith)
+three-zeros (a ∷ b ∷ []) h l = absurd (omega arith)
+three-zeros (a ∷ b ∷ c ∷ t) h l =
+    let x : a ≡ 0 = omega arith in
+    let y : b ≡ 0 = omega arith in
+    let w : c ≡ 0 = omega arith in
+    rw (x, y, w)
+
 -- WHAT THE CODE LEAVES AND ANSWERS, in its own numbers
 module _ (d : List ℕ) (z : readOf d .number ≡ 0) where
   pub answer-as : (n : ℕ) → n ≡ bodyLength d → answer 0 ((28 + n) ∷ []) ≡ scrubAnswer d
@@ -308,6 +320,13 @@ module _ (d : List ℕ) (z : readOf d .number ≡ 0) where
     read-sum =
         let at : 27 + bodyLength d ≡ 24 + bodyLength d + 3 = omega arith in
         rw (q, at) (last-byte 3 (24 + bodyLength d) (sum8 (plain d)) d (good d z .sum) (sum8-below (plain d)))
+
+    -- the three bytes before it are 0
+    pub read-small : SmallSum (24 + n) d
+    read-small =
+        let at : 24 + bodyLength d + 0 ≡ 24 + bodyLength d = omega arith in
+        let small : be 4 0 (drop (24 + bodyLength d) d) < 256 = rw (numeral-drop 256 4 (24 + bodyLength d) 0 d, at, good d z .sum) (sum8-below (plain d)) in
+        rw q (three-zeros (drop (24 + bodyLength d) d) (rw (length-drop (24 + bodyLength d) d) (omega (arith, good d z .whole .there))) small)
 
     pub read-scrubs : scrubbedAs k n d ≡ scrubbed d
     read-scrubs = rw (p, q) (sym (scrubs d z))

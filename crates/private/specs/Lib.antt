@@ -3,8 +3,11 @@ pub mod Scrub
 pub mod Within
 pub mod Paint
 pub mod PrivateLaws
+pub mod Parts
+pub mod PartsLaws
 pub mod Cover
 pub mod Spans
 pub mod Laws
 pub mod Into
 pub mod IntoLaws
+pub mod Moved

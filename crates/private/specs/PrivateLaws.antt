@@ -127,22 +127,6 @@ private-few M102 b = refl
 private-few M201 b = tail-few (tailOf b) (length b)
 private-few Unknown b = refl
 
-tail-three : (l : Layout) (n : ℕ) → take 3 (tailSpans l n) ≡ tailSpans l n
-tail-three Order n = refl
-tail-three Trade n = refl
-tail-three Other n = refl
-
-pub private-three : (k : Kind) (b : List ℕ) → take 3 (privateOf k b) ≡ privateOf k b
-private-three S001 b = refl
-private-three S002 b = refl
-private-three S003 b = refl
-private-three P001 b = refl
-private-three P002 b = refl
-private-three M101 b = refl
-private-three M102 b = refl
-private-three M201 b = tail-three (tailOf b) (length b)
-private-three Unknown b = refl
-
 tail-within : (l : Layout) (n : ℕ) → TailRule l n → 45 ≤ n → Within n (tailSpans l n)
 tail-within Order n e h = (omega arith, (omega arith, (omega arith, refl)))
 tail-within Trade n e h = refl

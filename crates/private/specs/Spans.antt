@@ -1,44 +1,58 @@
--- Span number i of short rows, and all spans painted within a buffer.
-use Prim.Native.Nat.{ℕ, zero, suc, _+_, _-_, _≤_}
+-- Span number i of short rows, a small sum stored, and all spans painted within a buffer.
+use Prim.Native.Nat.{ℕ, zero, suc, _+_, _/_, _%_, _<_, _≤_}
 use mathlib.Core.Path.{_≡_, refl, sym, ap, _∙_}
 use mathlib.Core.Bool.{true}
-use mathlib.Core.List.{List, _∷_}
+use mathlib.Core.List.{List, [], _∷_, _++_}
 use native.Mathlib.Omega.{arith}
 use lib.ListN.{length, take, drop, replicate, length-replicate, length-drop, List·getD-eq-default}
 use lib.Seq.{length-take-le}
-use Rattle.octets.specs.Octets.{laid, bytesOf, sum8}
+use Rattle.octets.specs.Octets.{digitsOf, laid, bytesOf, sum8}
 use Rattle.octets.specs.Numerals.{length-digits}
-use Rattle.octets.specs.Overlays.{laid-nil, laid-same, mid-laid, length-laid}
+use Rattle.octets.specs.Sums.{sum8-below}
+use Rattle.octets.specs.Overlays.{laid-append, laid-same, mid-laid, drop-laid, length-laid}
 use Rattle.rules.specs.declared.Kind.{Kind}
 use Rattle.rules.specs.Table.{suits}
 use Rattle.private.specs.declared.Span.{Span}
 use Rattle.private.specs.Private.{spaces, privateOf, spanAt}
 use Rattle.private.specs.Scrub.{painted, summed}
-use Rattle.private.specs.Within.{bodyIn, spanIn, spanPainted, scrubbedAs}
+use Rattle.private.specs.Within.{bodyIn, spanIn, spanPainted, scrubbedAs, SmallSum}
 use Rattle.private.specs.Paint.{Within, length-painted, painted-more, painted-agrees, within-take, within-at}
-use Rattle.private.specs.PrivateLaws.{private-few, private-three, private-within, private-same}
-use Rattle.private.specs.Cover.{spans-cover}
+use Rattle.private.specs.PrivateLaws.{private-few, private-within, private-same}
 use Rattle.octets.specs.Places.{laid-inner}
 
 -- behind the last span stands an empty one
 pub span-past : (i : ℕ) (ps : List Span) → length ps ≤ i → spaces 0 0 ≡ spanAt i ps
 span-past i ps h = sym (List·getD-eq-default ps (spaces 0 0) h)
 
-pub span-first : (i : ℕ) (p : Span) (ps : List Span) → i ≡ 0 → p ≡ spanAt i (p ∷ ps)
-span-first i p ps e = rw e
+-- so do empty ones in place of those that lack
+pub one-padded : (i : ℕ) (p n : Span) → n ≡ spaces 0 0 → spanAt i (p ∷ n ∷ n ∷ []) ≡ spanAt i (p ∷ [])
+one-padded zero p n e = refl
+one-padded (suc zero) p n e = e
+one-padded (suc (suc zero)) p n e = e
+one-padded (suc (suc (suc i))) p n e = refl
 
--- behind the first two
-pub span-third : (i : ℕ) (p q : Span) (ps : List Span) → 2 ≤ i → spanAt (i - 2) ps ≡ spanAt i (p ∷ q ∷ ps)
-span-third zero p q ps h = absurd (omega arith)
-span-third (suc zero) p q ps h = absurd (omega arith)
-span-third (suc (suc i)) p q ps h = let e : suc (suc i) - 2 ≡ i = omega arith in rw e
+pub two-padded : (i : ℕ) (p q n : Span) → n ≡ spaces 0 0 → spanAt i (p ∷ q ∷ n ∷ []) ≡ spanAt i (p ∷ q ∷ [])
+two-padded zero p q n e = refl
+two-padded (suc zero) p q n e = refl
+two-padded (suc (suc zero)) p q n e = e
+two-padded (suc (suc (suc i))) p q n e = refl
 
-pub span-second : (i : ℕ) (p q : Span) (ps : List Span) → i ≡ 1 → q ≡ spanAt i (p ∷ q ∷ ps)
-span-second i p q ps e = rw e
+-- A SUM IN FOUR BYTES, the first three of which are 0: only the last is stored
+bytes-small : (v : ℕ) → v < 256 → bytesOf 4 v ≡ (0 ∷ 0 ∷ 0 ∷ []) ++ (v ∷ [])
+unfolding digitsOf
+bytes-small v h =
+    let q : v / 256 ≡ 0 = omega arith in
+    let r : v % 256 ≡ v = omega arith in
+    rw (q, r)
 
--- an empty span painted
-pub empty-painted : (p : Span) (e : List ℕ) → p .len ≡ 0 → spanPainted p e ≡ e
-empty-painted p e z = rw z (laid-nil (24 + p .place) e)
+pub summed-last : (m v : ℕ) (d : List ℕ) → m + 4 ≤ length d → v ≡ sum8 (take m d) → SmallSum m d → laid (m + 3) (v ∷ []) d ≡ summed m d
+unfolding summed
+summed-last m v d h e s =
+    let zeros : List ℕ = 0 ∷ 0 ∷ 0 ∷ [] in
+    let still : laid m zeros d ≡ d = ap (λ (x : List ℕ). laid m x d) (sym s) ∙ laid-same m 3 d (omega arith) in
+    ap (laid (m + 3) (v ∷ [])) (sym still)
+    ∙ sym (laid-append m zeros (v ∷ []) d (omega arith))
+    ∙ ap (λ (x : List ℕ). laid m x d) (sym (bytes-small v (omega (arith, e, sum8-below (take m d)))) ∙ ap (bytesOf 4) e)
 
 -- THE LOOP OVER THE SPANS, of a body of n bytes within d: after i of them, d is what it was with
 -- the body so far painted
@@ -99,27 +113,16 @@ module _ (k : Kind) (n : ℕ) (d : List ℕ) (h : 24 + n ≤ length d) (m : suit
     pub fits-of : (p : Span) → p ≡ spanAt i (privateOf k (bodyIn n d)) → p .place + p .len ≤ n
     fits-of p r = rw r fits
 
-    -- an empty one changes nothing
-    empty-more : spanAt i (privateOf k (bodyIn n d)) .len ≡ 0 → e ≡ laid 24 (soFar (i + 1)) d
-    empty-more z = sym (empty-painted (spanAt i (privateOf k (bodyIn n d))) e z) ∙ one-more-of (spanAt i (privateOf k (bodyIn n d))) refl
-
-  -- three spans are all there are
-  pub three-spans : laid 24 (soFar 3) d ≡ laid 24 (painted (privateOf k (bodyIn n d)) (bodyIn n d)) d
-  three-spans = ap (λ (ps : List Span). laid 24 (painted ps (bodyIn n d)) d) (private-three k (bodyIn n d))
-
-  -- where the first is empty, so are all
-  pub none-private : (p : Span) → p ≡ spanAt 0 (privateOf k (bodyIn n d)) → p .len ≡ 0 → d ≡ laid 24 (painted (privateOf k (bodyIn n d)) (bodyIn n d)) d
-  none-private p r z =
-      let z0 : spanAt 0 (privateOf k (bodyIn n d)) .len ≡ 0 = rw r at z in
-      let ends = spans-cover k (bodyIn n d) (rw long m) .ends-there in
-      let e1 = empty-more 0 d (sym start) z0 in
-      let e2 = empty-more 1 d e1 (ends 0 1 (omega arith) z0) in
-      let e3 = empty-more 2 d e2 (ends 0 2 (omega arith) z0) in
-      e3 ∙ three-spans
-
   -- four spans are more than there are
   pub all-spans : laid 24 (soFar 4) d ≡ laid 24 (painted (privateOf k (bodyIn n d)) (bodyIn n d)) d
   all-spans = ap (λ (ps : List Span). laid 24 (painted ps (bodyIn n d)) d) (private-few k (bodyIn n d))
+
+  -- painting leaves the bytes behind the body
+  pub small-kept : SmallSum (24 + n) d → SmallSum (24 + n) (laid 24 (painted (privateOf k (bodyIn n d)) (bodyIn n d)) d)
+  small-kept s =
+      let e = so-long 4 in
+      let kept : drop (24 + n) (laid 24 (soFar 4) d) ≡ drop (24 + n) d = rw e at (drop-laid 24 (soFar 4) d (room 4)) in
+      ap (λ (x : List ℕ). take 3 (drop (24 + n) x)) (sym all-spans) ∙ ap (take 3) kept ∙ s
 
   -- scrubbed there, d has as many bytes
   pub as-long : 28 + n ≤ length d → length (scrubbedAs k n d) ≡ length d

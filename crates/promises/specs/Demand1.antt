@@ -187,6 +187,7 @@ entries-answers =
 -- private
 private-answers : Named
 private-answers =
+    let parts-in-one-answer = private.parts-in-one-answer in
     let private-span-one-answer = private.private-span-one-answer in
     named
 

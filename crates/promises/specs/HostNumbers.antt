@@ -27,6 +27,8 @@ use Rattle.frame_spec.specs.Write.{Message, writeOf}
 use Rattle.frame_spec.specs.Search.{searchOf}
 use Rattle.frame_spec.specs.Lowest.{search-given-9, search-given-0}
 use Rattle.entries.specs.Reader.{openOf, stands, entryAt, stepOf}
+use Rattle.private.specs.Parts.{spanAnswer}
+use Rattle.private.specs.PartsLaws.{span-number}
 use Rattle.private.specs.Scrub.{scrubAnswer}
 use Rattle.ledger_spec.specs.State.{Book, largest, has, soundOf}
 use Rattle.ledger_spec.specs.Calls.{Call, Tick, Announce, Request, Reply, Ask, Missing, Held, Between, Renew, tickNumber, replyStatus, isPending, startsAt, elsewhere, ownNumber, checkedOf, numberTo, answerTo, nextOf, openNumber}
@@ -44,7 +46,7 @@ use Rattle.stream_spec.specs.Calls as stream-calls
 use Rattle.stream_spec.specs.Calls.{givenOf, numberFor, answerFor}
 use Rattle.host_words.specs.Told.{Tells}
 use Rattle.host_stream_spec.specs.Lent.{lent, streamIn}
-use Rattle.host_frames.specs.Frames.{readTold, searchTold, privateTold, tailNumber, tailTold, brokenTold, entriesTold, entryTold}
+use Rattle.host_frames.specs.Frames.{readTold, searchTold, tailNumber, tailTold, brokenTold, entriesTold, entryTold}
 use Rattle.host_words.specs.Words.{bookIn}
 use Rattle.host_words.specs.Calls.{callTold}
 use Rattle.host_ledger.specs.Words.{ledgerTold}
@@ -220,7 +222,7 @@ pub record HostNumbered : Type 0 where
   pub writing : (m : Message) (len : ℕ) → Numbered (writeOf m len .number)
   pub searching : (s : List ℕ) (from : ℕ) → Numbered (searchTold s from .number)
   pub scrubbing : (s : List ℕ) → Numbered (scrubAnswer s .number)
-  pub spans : (type : ℕ) (body : List ℕ) (i : ℕ) → Numbered (privateTold type body i .number)
+  pub spans : (type : ℕ) (body : List ℕ) (i : ℕ) → Numbered (spanAnswer type body i .number)
   pub fields : (body : List ℕ) (i : ℕ) → Numbered (tailTold body i .number)
   pub broken : (type : ℕ) (body : List ℕ) → Numbered (brokenTold type body .number)
   pub opening-entries : (body : List ℕ) → Numbered (entriesTold body .number)
@@ -236,14 +238,14 @@ pub record HostNumbered : Type 0 where
   pub checking : (s : List ℕ) → Numbered (cleanTold s .number)
 
 pub host-numbered : HostNumbered
-unfolding readTold searchTold privateTold tailNumber tailTold brokenTold recordTold entriesTold entryTold ledgerTold listingTold cleanTold walk.walkAnswer clean.cleanAnswer clean.checkOf inTable
+unfolding readTold searchTold tailNumber tailTold brokenTold recordTold entriesTold entryTold ledgerTold listingTold cleanTold walk.walkAnswer clean.cleanAnswer clean.checkOf inTable
 host-numbered =
     record {
       reading = reading;
       writing = writing;
       searching = searching;
       scrubbing = scrubbing;
-      spans = λ type body i. measured (kindOf type) (length body);
+      spans = λ type body i. rw (span-number type body i) (measured (kindOf type) (length body));
       fields = λ body i. picked (eqb (measureOf M201 (length body)) 0) (pick (tailOk body) 0 6) (measureOf M201 (length body)) (picked (tailOk body) 0 6 (done refl) (refused refl)) (measured M201 (length body));
       broken = λ type body. measured (kindOf type) (length body);
       opening-entries = opening-entries;

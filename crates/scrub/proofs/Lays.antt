@@ -21,8 +21,8 @@ use Rattle.rules.specs.declared.Kind.{Kind}
 use Rattle.rules.specs.Table.{kindOf, suits}
 use Rattle.frame_spec.specs.Frame.{msgType, bodyLength, readOf}
 use Rattle.private.specs.Scrub.{scrubbed}
-use Rattle.private.specs.Within.{scrubbedAs}
-use Rattle.private.specs.Laws.{read-there, read-suits, read-sum, read-scrubs}
+use Rattle.private.specs.Within.{scrubbedAs, SmallSum}
+use Rattle.private.specs.Laws.{read-there, read-suits, read-sum, read-small, read-scrubs}
 use Rattle.private.specs.Into.{frameIn, intoAnswer, intoLeaves}
 use Rattle.private.specs.IntoLaws.{own-long, own-reads, own-type, own-length, into-long, into-room, into-laid, into-refused-keeps}
 
@@ -54,6 +54,16 @@ module _ (bytes : List ℕ) (at : ℕ) (k : Kind) (n : ℕ) (z : readOf (drop at
       ∙ sym (numeral-drop 256 1 at (27 + n) bytes)
       ∙ read-sum (drop at bytes) z k n p q
       ∙ ap sum8 (sym (take-take (24 + n) (28 + bodyLength (drop at bytes)) (drop at bytes) (omega (arith, q))))
+
+  own-kind : k ≡ kindOf (msgType (frameIn (drop at bytes)))
+  own-kind = p ∙ ap kindOf (sym (own-type (drop at bytes) z))
+
+  own-len : n ≡ bodyLength (frameIn (drop at bytes))
+  own-len = q ∙ sym (own-length (drop at bytes) z)
+
+  -- and the three before it are 0
+  pub small-is : SmallSum (24 + n) (frameIn (drop at bytes))
+  small-is = read-small (frameIn (drop at bytes)) own-done k n own-kind own-len
 
   module _ (d : List ℕ) (to : ℕ) (part d₁ : List ℕ) (t : part ≡ frameIn (drop at bytes)) (g : d₁ ≡ laidIfRoom to part d) where
     long : length part ≡ 28 + bodyLength (drop at bytes)
@@ -97,8 +107,7 @@ module _ (bytes : List ℕ) (at : ℕ) (k : Kind) (n : ℕ) (z : readOf (drop at
 
       -- and scrubbed there it is what is promised
       scrubs : scrubbedAs k n (frameIn (drop at bytes)) ≡ scrubbed (frameIn (drop at bytes))
-      scrubs =
-          read-scrubs (frameIn (drop at bytes)) own-done k n (p ∙ ap kindOf (sym (own-type (drop at bytes) z))) (q ∙ sym (own-length (drop at bytes) z))
+      scrubs = read-scrubs (frameIn (drop at bytes)) own-done k n own-kind own-len
 
       pub lays : (d₂ : List ℕ) (m : ℕ) → m ≡ size → d₂ ≡ laid to (scrubbedAs k n (take m (drop to d₁))) d₁
           → (answer 0 (size ∷ []) ≡ intoAnswer (drop at bytes) to (length d)) × (d₂ ≡ intoLeaves (drop at bytes) to d)

@@ -4,18 +4,25 @@ use mathlib.Core.Path.{_≡_, sym, ap, _∙_}
 use mathlib.Core.Bool.{true}
 use mathlib.Core.List.{List}
 use native.Mathlib.Omega.{arith}
-use lib.ListN.{length, take, drop, replicate}
+use lib.ListN.{length, take, drop, replicate, length-drop}
+use lib.Seq.{length-take-le, take-all}
 use Rattle.octets.specs.Octets.{laid, sum8, sumAfter}
 use Rattle.octets.specs.Sums.{sum-after-part}
 use Rattle.rules.specs.declared.Kind.{Kind}
 use Rattle.rules.specs.Table.{suits}
 use Rattle.private.specs.declared.Span.{Span}
 use Rattle.private.specs.Private.{privateOf, spanAt}
+use Rattle.private.specs.Parts.{suitedSpans}
+use Rattle.private.specs.PartsLaws.{suited-is}
 use Rattle.private.specs.Scrub.{painted}
 use Rattle.private.specs.Within.{bodyIn, spanPainted}
 use Rattle.private.specs.Spans.{start, now-long, one-more-of, fits-of}
 
 module _ (k : Kind) (n : ℕ) (d : List ℕ) (h : 24 + n ≤ length d) (m : suits k n ≡ true) where
+  -- what is told of the body is all of its private spans
+  pub told-all : (ps : List Span) → ps ≡ suitedSpans k (bodyIn n d) → ps ≡ privateOf k (bodyIn n d)
+  told-all ps e = e ∙ suited-is k (bodyIn n d) (rw (length-take-le n (drop 24 d) (rw (length-drop 24 d) (omega arith))) m)
+
   -- the buffer after i spans, and its sum
   abbrev pub Painted : ℕ → List ℕ → ℕ → Type 0
   Painted i e w = (e ≡ laid 24 (painted (take i (privateOf k (bodyIn n d))) (bodyIn n d)) d) × (w ≡ sum8 (take (24 + n) e))
@@ -34,3 +41,10 @@ module _ (k : Kind) (n : ℕ) (d : List ℕ) (h : 24 + n ≤ length d) (m : suit
           x ∙ one-more-of k n d h m i e (so .0) p r,
           y ∙ sum-after-part e (24 + n) (24 + p .place) (p .len) (p .fill) w (omega (arith, f)) (omega (arith, l)) (so .1) ∙ ap (λ (z : List ℕ). sum8 (take (24 + n) z)) (sym x),
         )
+
+  -- after as many as there are, all are painted
+  pub painted-all : (i : ℕ) (e : List ℕ) (w : ℕ) (ps : List Span) → ps ≡ privateOf k (bodyIn n d) → length ps ≤ i → Painted i e w
+      → (e ≡ laid 24 (painted (privateOf k (bodyIn n d)) (bodyIn n d)) d) × (w ≡ sum8 (take (24 + n) e))
+  painted-all i e w ps r l so =
+      let all : take i (privateOf k (bodyIn n d)) ≡ privateOf k (bodyIn n d) = take-all i (privateOf k (bodyIn n d)) (rw (← r) l) in
+      (so .0 ∙ ap (λ (qs : List Span). laid 24 (painted qs (bodyIn n d)) d) all, so .1)

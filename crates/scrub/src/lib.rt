@@ -8,12 +8,13 @@ ghost use Rattle.octets.specs.Octets.{laid, sum8, sumAfter};
 ghost use Rattle.octets.specs.Papers.{writtenPaper};
 ghost use Rattle.private.specs.Private.{privateOf};
 ghost use Rattle.private.specs.Scrub.{painted, summed, scrubAnswer, scrubbed};
-ghost use Rattle.private.specs.Within.{bodyIn, spanPainted, scrubbedAs};
+ghost use Rattle.private.specs.Within.{bodyIn, spanPainted, scrubbedAs, SmallSum};
 ghost use Rattle.private.specs.Into.{frameIn, intoAnswer, intoLeaves};
 ghost use Rattle.rules.specs.Table.{suits, kindOf};
 ghost use Rattle.frame_spec.specs.Frame.{msgType, bodyLength, readOf};
 use frame::Read;
 use octets::Written;
+use private::Parts;
 use private::Span;
 use rules::Kind;
 
@@ -27,49 +28,54 @@ fn paint(buf: &mut [u8], a: usize, e: usize, fill: u8)
 
 // Paints a span of the body that lies after the 24 header bytes of buf. v is a sum that counts its
 // bytes; the answer is that sum then. It is worked out before the span is filled, from its bytes
-// alone.
+// alone. They are lent alone: of a span whose length is a constant the compiler then makes no loop.
 fn paint_span(buf: &mut [u8], s: Span, v: u8) -> u8
     requires { ⌜ 24 + (s .place + s .len) ≤ length (now buf) ⌝ }
     ensures { λ r. ⌜ (now (buf .exit) ≡ spanPainted s (now (buf .entry))) × (r ≡ sumAfter v (take (s .len) (drop (24 + s .place) (now (buf .entry)))) (s .fill)) ⌝ }
 {
     let a = 24 + s.place;
     let e = a + s.len;
-    let w = octets::sum_after(v, buf, a, s.len, s.fill);
+    let w = octets::sum_after(v, &buf[a..e], 0, s.len, s.fill);
     paint(buf, a, e, s.fill);
     w
 }
 
-// Paints the private spans of the body of n bytes, whatever its type: no type has more than three.
-// All are asked for before the first is painted, and where the first is empty nothing is done. v is
-// the sum of header and body; the answer is their sum then.
+// Paints the private spans of the body of n bytes, whatever its type. All are told before the first
+// is painted, and where there is none nothing is done. v is the sum of header and body; the answer
+// is their sum then.
 fn paint_all(buf: &mut [u8], kind: Kind, n: usize, v: u8) -> u8
     requires { ⌜ (24 + n ≤ length (now buf)) × ((suits kind n ≡ true) × (v ≡ sum8 (take (24 + n) (now buf)))) ⌝ }
     ensures { λ r. ⌜ (now (buf .exit) ≡ laid 24 (painted (privateOf kind (bodyIn n (now (buf .entry)))) (bodyIn n (now (buf .entry)))) (now (buf .entry))) × (r ≡ sum8 (take (24 + n) (now (buf .exit)))) ⌝ }
 {
     let end = 24 + n;
-    let first = private::private_span(kind, &buf[24..end], 0);
-    if first.len == 0 {
-        return v;
+    match private::parts_in(kind, &buf[24..end]) {
+        Parts::Nothing => v,
+        Parts::One(first) => paint_span(buf, first, v),
+        Parts::Two(first, second) => {
+            let w = paint_span(buf, first, v);
+            paint_span(buf, second, w)
+        }
+        Parts::Three(first, second, third) => {
+            let w = paint_span(buf, first, v);
+            let x = paint_span(buf, second, w);
+            paint_span(buf, third, x)
+        }
     }
-    let second = private::private_span(kind, &buf[24..end], 1);
-    let third = private::private_span(kind, &buf[24..end], 2);
-    let w = paint_span(buf, first, v);
-    let x = paint_span(buf, second, w);
-    paint_span(buf, third, x)
 }
 
-// Stores v, the sum of the first n bytes, in the four after them.
+// Stores v, the sum of the first n bytes, in the last of the four after them; the three before it
+// are 0.
 fn store_sum(buf: &mut [u8], n: usize, v: u8)
-    requires { ⌜ (n + 4 ≤ length (now buf)) × (v ≡ sum8 (take n (now buf))) ⌝ }
+    requires { ⌜ (n + 4 ≤ length (now buf)) × ((v ≡ sum8 (take n (now buf))) × SmallSum n (now buf)) ⌝ }
     ensures { λ _. ⌜ now (buf .exit) ≡ summed n (now (buf .entry)) ⌝ }
 {
-    octets::put(buf, n, 4, v as u64);
+    buf[n + 3] = v;
 }
 
 // Paints the body of n bytes after the header as one of that type and sets the sum anew, from v,
-// the sum before.
+// the sum before. Of CheckSum only the last byte can change.
 fn repaint(buf: &mut [u8], kind: Kind, n: usize, v: u8)
-    requires { ⌜ (28 + n ≤ length (now buf)) × ((suits kind n ≡ true) × (v ≡ sum8 (take (24 + n) (now buf)))) ⌝ }
+    requires { ⌜ (28 + n ≤ length (now buf)) × ((suits kind n ≡ true) × ((v ≡ sum8 (take (24 + n) (now buf))) × SmallSum (24 + n) (now buf))) ⌝ }
     ensures { λ _. ⌜ now (buf .exit) ≡ scrubbedAs kind n (now (buf .entry)) ⌝ }
 {
     let w = paint_all(buf, kind, n, v);
@@ -79,7 +85,7 @@ fn repaint(buf: &mut [u8], kind: Kind, n: usize, v: u8)
 // Scrubs the frame at the front of buf where it stands, and returns how many bytes it has. A
 // refusal of reading is passed on, and the buffer keeps its bytes; so do the bytes after the frame.
 // Reading has found CheckSum right, so the new one is worked out of its last byte: after reading
-// only that byte and the private ones are loaded.
+// only that byte and the private ones are loaded, and only these are stored.
 pub fn scrub(buf: &mut [u8]) -> Written
     ensures { λ r. ⌜ (writtenPaper r ≡ scrubAnswer (now (buf .entry))) × (now (buf .exit) ≡ scrubbed (now (buf .entry))) ⌝ }
 {
@@ -102,7 +108,7 @@ pub fn scrub(buf: &mut [u8]) -> Written
 // Paints the frame that lies from a up to e, as `repaint` does: that part of the lent buffer
 // is passed on.
 fn repaint_part(out: &mut [u8], a: usize, e: usize, kind: Kind, n: usize, v: u8)
-    requires { ⌜ (a ≤ e) × ((e ≤ length (now out)) × ((28 + n ≤ e - a) × ((suits kind n ≡ true) × (v ≡ sum8 (take (24 + n) (take (e - a) (drop a (now out)))))))) ⌝ }
+    requires { ⌜ (a ≤ e) × ((e ≤ length (now out)) × ((28 + n ≤ e - a) × ((suits kind n ≡ true) × ((v ≡ sum8 (take (24 + n) (take (e - a) (drop a (now out))))) × SmallSum (24 + n) (take (e - a) (drop a (now out))))))) ⌝ }
     ensures { λ _. ⌜ now (out .exit) ≡ laid a (scrubbedAs kind n (take (e - a) (drop a (now (out .entry))))) (now (out .entry)) ⌝ }
 {
     repaint(&mut out[a..e], kind, n, v);

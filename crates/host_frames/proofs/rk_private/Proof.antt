@@ -1,32 +1,14 @@
--- `rk_private`: a refusal of reading's checks of type and length, or the span's three numbers.
--- Assumes nothing.
-use Prim.Native.Nat.{ℕ}
-use mathlib.Core.Path.{_≡_, sym, ap, ap₂, _∙_}
-use lib.ListN.{length}
-use Rattle.terms.specs.Paper.{answer}
-use Rattle.rules.specs.declared.Kind.{Kind}
-use Rattle.rules.specs.Table.{kindOf, kind-is, measureOf}
-use Rattle.terms.specs.Verdicts.{verdictNumber}
-use Rattle.private.specs.Private.{privateOf, spanAt}
-use Rattle.private.specs.declared.Span.{Span}
+-- `rk_private`: the refusal or the three numbers that `private_span` answers. Assumes nothing.
+use mathlib.Core.Path.{sym, ap, _∙_}
+use Rattle.terms.specs.Paper.{one-number}
+use Rattle.private.specs.Parts.{toldPaper}
 use Rattle.host_words.specs.Told.{tells-done, tells-why}
-use Rattle.host_frames.specs.Frames.{spanNumbers, privateTold}
 use borrow.Author.Needs.{needs}
 use Rattle.host_frames.proofs.rk_private.Statement.{statement}
 use Rattle.host_frames.proofs.rk_private.Tie as tie
 
--- the type, and the number of the two checks on it
-kind : (c : tie.After-measure) → c .before .kind-of .result ≡ kindOf (c .before .before .before .args .msg-type)
-kind c = kind-is _ _ (c .before .kind-of .ensures)
-
-measured : (c : tie.After-measure) → verdictNumber (c .measure .result) ≡ measureOf (kindOf (c .before .before .before .args .msg-type)) (length (c .before .before .before .args .body .now))
-measured c = c .measure .ensures ∙ ap (λ (k : Kind). measureOf k (length (c .before .before .before .args .body .now))) (kind c)
-
-kind-of-requires : tie.Need-kind-of-requires
-kind-of-requires c κs = search needs
-
-measure-requires : tie.Need-measure-requires
-measure-requires c κs = search needs
+private-span-requires : tie.Need-private-span-requires
+private-span-requires c κs = search needs
 
 enum-known-why : tie.Need-enum-known-why
 enum-known-why c = search needs
@@ -34,38 +16,28 @@ enum-known-why c = search needs
 number-requires : tie.Need-number-requires
 number-requires c κs = search needs
 
-enum-told : tie.Need-enum-told
-enum-told c = search needs
+enum-known-s : tie.Need-enum-known-s
+enum-known-s c = search needs
 
-private-span-requires : tie.Need-private-span-requires
-private-span-requires c κs = search needs
-
-cast-t13 : tie.Need-cast-t13
-cast-t13 c = search needs
+cast-t11 : tie.Need-cast-t11
+cast-t11 c = search needs
 
 returns : tie.Need-returns
-unfolding privateTold
-returns c = tells-why _ _ (c .before .before .why .given .0 .0) _ (c .number .ensures) (sym (ap verdictNumber (c .before .before .why .given .1)) ∙ measured (c .before .before .before .before))
+returns c =
+    let w = c .before .before in
+    tells-why _ _ (w .why .given .0 .0) _ (c .number .ensures) (one-number (sym (ap toldPaper (w .why .given .1)) ∙ w .before .before .private-span .ensures))
 
 returns-2 : tie.Need-returns-2
-unfolding privateTold
-returns-2 c =
-    let m = c .before .before .before .before .before in
-    let a = m .before .before .before .args in
-    let fine : 0 ≡ measureOf (kindOf (a .msg-type)) (length (a .body .now)) = sym (ap verdictNumber (c .before .before .before .enum-told .given .1)) ∙ measured m in
-    let span : c .before .before .private-span .result ≡ spanAt (a .i) (privateOf (kindOf (a .msg-type)) (a .body .now)) = c .before .before .private-span .ensures ∙ ap (λ (k : Kind). spanAt (a .i) (privateOf k (a .body .now))) (kind m) in
-    tells-done _ _ _ (ap₂ (λ (n : ℕ) (p : Span). answer n (spanNumbers p)) fine span)
+returns-2 c = let p = c .before .before .before in tells-done _ _ _ (sym (ap toldPaper (p .s .given .1)) ∙ p .before .before .private-span .ensures)
 
 pub rk-private-spec : {M : Type 1} → statement M
 rk-private-spec =
     tie.close
     (tie.spec
-    kind-of-requires
-    measure-requires
+    private-span-requires
     enum-known-why
     number-requires
-    enum-told
-    private-span-requires
-    cast-t13
+    enum-known-s
+    cast-t11
     returns
     returns-2)

@@ -1,117 +1,76 @@
--- `private_span`: each arm knows its type, and its spans are the callee's. Assumes nothing.
+-- `private_span`: a refusal of reading's checks of type and length, or the span. Assumes nothing.
+use Prim.Native.Nat.{ℕ}
+use mathlib.Core.Path.{_≡_, sym, ap, _∙_}
+use mathlib.Core.List.{List}
+use lib.ListN.{length}
+use Rattle.terms.specs.Paper.{answer, refusal}
+use Rattle.terms.specs.Refusals.{numberOf, refusal-pos}
+use Rattle.terms.specs.Verdicts.{verdictNumber}
+use Rattle.rules.specs.declared.Kind.{Kind}
+use Rattle.rules.specs.Table.{kindOf, kind-is, measureOf}
+use Rattle.frame_spec.specs.Measures.{fits}
+use Rattle.private.specs.declared.Span.{Span}
+use Rattle.private.specs.Private.{privateOf, spanAt}
+use Rattle.private.specs.Parts.{spanNumbers, partsSpans, suitedSpans, spanAnswer}
+use Rattle.private.specs.PartsLaws.{suited-is, span-told, span-refused}
 use borrow.Author.Needs.{needs}
 use Rattle.private.proofs.private_span.Statement.{statement}
 use Rattle.private.proofs.private_span.Tie as tie
 
+-- the type, and the number of the checks on it
+kind : (c : tie.After-measure) → c .before .kind-of .result ≡ kindOf (c .before .before .before .args .msg-type)
+kind c = kind-is _ _ (c .before .kind-of .ensures)
+
+checked : (c : tie.After-measure) → verdictNumber (c .measure .result) ≡ measureOf (kindOf (c .before .before .before .args .msg-type)) (length (c .before .before .before .args .body .now))
+checked c = c .measure .ensures ∙ ap (λ (k : Kind). measureOf k (length (c .before .before .before .args .body .now))) (kind c)
+
+refused : (c : tie.After-why) → refusal (numberOf (c .why .given .0 .0)) ≡ spanAnswer (c .before .before .before .before .before .args .msg-type) (c .before .before .before .before .before .args .body .now) (c .before .before .before .before .before .args .i)
+refused c =
+    let e = sym (ap verdictNumber (c .why .given .1)) ∙ checked (c .before .before) in
+    ap refusal e ∙ sym (span-refused _ _ _ (λ (z : _ ≡ 0). refusal-pos (c .why .given .0 .0) (e ∙ z)))
+
+spanned : (c : tie.After-span-at) → let a = c .before .before .before .before .before .before .before .args in answer 0 (spanNumbers (c .span-at .result)) ≡ spanAnswer (a .msg-type) (a .body .now) (a .i)
+spanned c =
+    let m = c .before .before .before .before in
+    let a = m .before .before .before .args in
+    let k = kindOf (a .msg-type) in
+    let fine : measureOf k (length (a .body .now)) ≡ 0 = sym (checked m) ∙ ap verdictNumber (c .before .before .enum-told .given .1) in
+    let all : partsSpans (c .before .parts-in .result) ≡ privateOf k (a .body .now) = c .before .parts-in .ensures ∙ ap (λ (x : Kind). suitedSpans x (a .body .now)) (kind m) ∙ suited-is k (a .body .now) (fits k (length (a .body .now)) fine .suit) in
+    ap (λ (p : Span). answer 0 (spanNumbers p)) (c .span-at .ensures ∙ ap (λ (ps : List Span). spanAt (a .i) ps) all) ∙ sym (span-told (a .msg-type) (a .body .now) (a .i) fine)
+
+kind-of-requires : tie.Need-kind-of-requires
+kind-of-requires c κs = search needs
+
+measure-requires : tie.Need-measure-requires
+measure-requires c κs = search needs
+
+enum-known-why : tie.Need-enum-known-why
+enum-known-why c = search needs
+
 enum-told : tie.Need-enum-told
 enum-told c = search needs
 
-comp-id-requires : tie.Need-comp-id-requires
-comp-id-requires c κs = search needs
+parts-in-requires : tie.Need-parts-in-requires
+parts-in-requires c κs = search needs
 
-enum-told-2 : tie.Need-enum-told-2
-enum-told-2 c = search needs
-
-only-requires : tie.Need-only-requires
-only-requires c κs = search needs
-
-enum-told-3 : tie.Need-enum-told-3
-enum-told-3 c = search needs
-
-spaces-at-requires : tie.Need-spaces-at-requires
-spaces-at-requires c κs = search needs
-
-enum-told-4 : tie.Need-enum-told-4
-enum-told-4 c = search needs
-
-spaces-at-requires-2 : tie.Need-spaces-at-requires-2
-spaces-at-requires-2 c κs = search needs
-
-enum-told-5 : tie.Need-enum-told-5
-enum-told-5 c = search needs
-
-only-requires-2 : tie.Need-only-requires-2
-only-requires-2 c κs = search needs
-
-enum-told-6 : tie.Need-enum-told-6
-enum-told-6 c = search needs
-
-spaces-at-requires-3 : tie.Need-spaces-at-requires-3
-spaces-at-requires-3 c κs = search needs
-
-enum-told-7 : tie.Need-enum-told-7
-enum-told-7 c = search needs
-
-spaces-at-requires-4 : tie.Need-spaces-at-requires-4
-spaces-at-requires-4 c κs = search needs
-
-enum-told-8 : tie.Need-enum-told-8
-enum-told-8 c = search needs
-
-tail-requires : tie.Need-tail-requires
-tail-requires c κs = search needs
-
-enum-told-9 : tie.Need-enum-told-9
-enum-told-9 c = search needs
-
-spaces-at-requires-5 : tie.Need-spaces-at-requires-5
-spaces-at-requires-5 c κs = search needs
+span-at-requires : tie.Need-span-at-requires
+span-at-requires c κs = search needs
 
 returns : tie.Need-returns
-returns c = rw (c .before .enum-told .given .1) (c .comp-id .ensures)
+returns c = refused (c .before)
 
 returns-2 : tie.Need-returns-2
-returns-2 c = rw (c .before .enum-told2 .given .1) (c .only .ensures)
-
-returns-3 : tie.Need-returns-3
-returns-3 c = rw (c .before .enum-told3 .given .1) (c .spaces-at .ensures)
-
-returns-4 : tie.Need-returns-4
-returns-4 c = rw (c .before .enum-told4 .given .1) (c .spaces-at2 .ensures)
-
-returns-5 : tie.Need-returns-5
-returns-5 c = rw (c .before .enum-told5 .given .1) (c .only2 .ensures)
-
-returns-6 : tie.Need-returns-6
-returns-6 c = rw (c .before .enum-told6 .given .1) (c .spaces-at3 .ensures)
-
-returns-7 : tie.Need-returns-7
-returns-7 c = rw (c .before .enum-told7 .given .1) (c .spaces-at4 .ensures)
-
-returns-8 : tie.Need-returns-8
-returns-8 c = rw (c .before .enum-told8 .given .1) (c .tail .ensures)
-
-returns-9 : tie.Need-returns-9
-returns-9 c = rw (c .before .enum-told9 .given .1) (c .spaces-at5 .ensures)
+returns-2 c = spanned c
 
 pub private-span-spec : {M : Type 1} → statement M
 private-span-spec =
     tie.close
     (tie.spec
+    kind-of-requires
+    measure-requires
+    enum-known-why
     enum-told
-    comp-id-requires
-    enum-told-2
-    only-requires
-    enum-told-3
-    spaces-at-requires
-    enum-told-4
-    spaces-at-requires-2
-    enum-told-5
-    only-requires-2
-    enum-told-6
-    spaces-at-requires-3
-    enum-told-7
-    spaces-at-requires-4
-    enum-told-8
-    tail-requires
-    enum-told-9
-    spaces-at-requires-5
+    parts-in-requires
+    span-at-requires
     returns
-    returns-2
-    returns-3
-    returns-4
-    returns-5
-    returns-6
-    returns-7
-    returns-8
-    returns-9)
+    returns-2)

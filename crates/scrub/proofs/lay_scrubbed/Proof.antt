@@ -88,7 +88,10 @@ repaint-part-requires c κs =
           omega (arith, sized m),
           (
             lays.suits-there (s .args .bytes .now) (s .args .at) (s .args .kind) (s .args .n) (s .pre .0) (s .pre .1 .0) (s .pre .1 .1),
-            c .before .u8-at .ensures ∙ lays.last-is (s .args .bytes .now) (s .args .at) (s .args .kind) (s .args .n) (s .pre .0) (s .pre .1 .0) (s .pre .1 .1) ∙ ap (λ (x : List ℕ). sum8 (take (24 + a .n) x)) (sym there),
+            (
+              c .before .u8-at .ensures ∙ lays.last-is (s .args .bytes .now) (s .args .at) (s .args .kind) (s .args .n) (s .pre .0) (s .pre .1 .0) (s .pre .1 .1) ∙ ap (λ (x : List ℕ). sum8 (take (24 + a .n) x)) (sym there),
+              ap (λ (x : List ℕ). take 3 (drop (24 + a .n) x)) there ∙ lays.small-is (s .args .bytes .now) (s .args .at) (s .args .kind) (s .args .n) (s .pre .0) (s .pre .1 .0) (s .pre .1 .1),
+            ),
           ),
         ),
       ),

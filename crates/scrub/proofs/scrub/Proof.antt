@@ -1,6 +1,6 @@
 -- `scrub`: reading's refusal is passed on; of a frame that reads, its paper tells the type and the
 -- length that it is scrubbed by, and CheckSum's last byte the sum. Assumes nothing.
-use Rattle.private.specs.Laws.{answer-as, read-there, read-suits, read-sum, read-scrubs, answer-refused, refused-same}
+use Rattle.private.specs.Laws.{answer-as, read-there, read-suits, read-sum, read-small, read-scrubs, answer-refused, refused-same}
 use Rattle.frame_spec.specs.Outcomes.{read-done, read-values, read-length}
 use Rattle.frame.specs.Papers.{readPaper}
 use Rattle.frame_spec.specs.Frame.{msgType, bodyLength, readOf}
@@ -69,8 +69,13 @@ u8-at-requires c κs = search needs
 repaint-requires : tie.Need-repaint-requires
 repaint-requires c κs =
     let k = c .before .before .before in
-    let m = k .before .before in
-    (there k, (read-suits _ (done m) _ _ (kind k) (is-len m), c .before .u8-at .ensures ∙ read-sum _ (done m) _ _ (kind k) (is-len m)))
+    let m = k .before .before in (
+      there k,
+      (
+        read-suits _ (done m) _ _ (kind k) (is-len m),
+        (c .before .u8-at .ensures ∙ read-sum _ (done m) _ _ (kind k) (is-len m), read-small _ (done m) _ _ (kind k) (is-len m)),
+      ),
+    )
 
 add-t13 : tie.Need-add-t13
 add-t13 c = omega (arith, there (c .before .before .before .before .before .before))
