@@ -204,7 +204,9 @@ pub fn reason(refusal: Refusal) -> &'static str {
 #[cfg(test)]
 mod tests {
     use super::*;
-    use rietknoest_host::{entries, private_spans};
+    use oracle::made::{any_body, Dice};
+    use rietknoest_host::{broken_field, entries, private_spans};
+    use std::collections::BTreeSet;
 
     /// The library finds the first entry where the fields end, and the fields are in that order.
     #[test]
@@ -227,6 +229,27 @@ mod tests {
         body.extend([0; 19]);
         assert_eq!(entries(&body).map(|entries| entries.place()), Ok(73));
         assert_eq!(entries(&body).map(|entries| entries.count()), Ok(1));
+    }
+
+    /// A field that the library tells of has a name and a rule; so has each that a rule is for.
+    #[test]
+    fn every_broken_field_has_a_name() {
+        let mut named = BTreeSet::new();
+        for case in 0..40_000 {
+            let (letters, body) = any_body(&mut Dice::new(29, case));
+            let told = broken_field(u32::from_be_bytes(letters), &body);
+            if let Some(field) = told.unwrap_or_default() {
+                let (name, _) = rule(&letters, field.index);
+                assert_ne!(name, "a field", "{letters:?} {field:?}");
+                named.insert((letters, field.index));
+            }
+        }
+        let all: BTreeSet<_> = types::ALL
+            .iter()
+            .flat_map(|kind| (0..20).map(|index| (kind.to_be_bytes(), index)))
+            .filter(|(letters, index)| rule(letters, *index).0 != "a field")
+            .collect();
+        assert_eq!(named, all);
     }
 
     /// The bodies' lengths are the table's; the last M201 is an order of MD211.

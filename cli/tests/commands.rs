@@ -624,6 +624,10 @@ fn explain_names_the_field() {
             .starts_with("it stands after damage"));
     }
 
+    // two frames that differ in private bytes alone are explained alike
+    let of = |sender: &str| explained(&changed(logon(sender, "B"), 65, 0), "0");
+    assert_eq!(of("SECRET"), of("HIDDEN"));
+
     let sample = sample();
     let snapshot = sample[416..416 + 130 + 28].to_vec();
     assert_eq!(

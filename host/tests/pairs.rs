@@ -5,9 +5,9 @@
 use oracle::alike::{captures_alike, pair, pair_of_captures};
 use oracle::made::Dice;
 use rietknoest_host::{
-    clean, entries, entry, listing, private_spans, read, scrub, search, tail_fields, walk,
-    ChannelNumber, Cleaned, Figures, Ledger, Month, Refusal, Request, Scrubber, Session, Stream,
-    Walked, HEADER, RECORD,
+    broken_field, clean, entries, entry, listing, private_spans, read, scrub, search, tail_fields,
+    walk, ChannelNumber, Cleaned, Figures, Ledger, Month, Refusal, Request, Scrubber, Session, Span,
+    Stream, Walked, HEADER, RECORD,
 };
 
 /// All that a walk, its listing, a request on its ledger and a cleaning give, with buffers of
@@ -113,6 +113,32 @@ fn paired_frames_scrub_to_the_same_bytes() {
             assert!(a == b, "case {case}: scrubbed frames differ");
         }
     }
+}
+
+/// Which field breaks a rule is told of both alike, where the same public byte was changed in both.
+#[test]
+fn the_same_field_is_told_of_paired_bodies() {
+    let mut found = 0;
+    for case in 0..300 {
+        let mut d = Dice::new(16, case);
+        let (ones, others) = pair(&mut d, 4_000, 600);
+        for (one, other) in ones.into_iter().zip(others) {
+            let at = read(&one, 0).unwrap();
+            let (msg_type, len) = (at.msg_type as u32, at.body_len as usize);
+            let [mut a, mut b] = [one, other].map(|frame| frame[HEADER..][..len].to_vec());
+            let place = d.len(90);
+            let spans = private_spans(msg_type, &a).unwrap();
+            let is_in = |s: &Span| (s.place..s.place + s.len).contains(&(place as u64));
+            if place < len && !spans.iter().any(is_in) {
+                let byte = d.of(&[0, 9, b'X', 0xFF]);
+                (a[place], b[place]) = (byte, byte);
+            }
+            let field = broken_field(msg_type, &a);
+            assert_eq!(field, broken_field(msg_type, &b), "case {case}");
+            found += usize::from(field.unwrap().is_some());
+        }
+    }
+    assert!(found > 200, "a rule was broken {found} times");
 }
 
 /// Two captures and the ends of the cuts in which both arrive.
