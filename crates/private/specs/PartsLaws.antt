@@ -1,5 +1,5 @@
--- What is told of private spans lies within the body, whatever is lent; each number is given exactly
--- when; and the answers can be told from their papers.
+-- What is told of private spans lies within the body, whatever is lent; each number is given
+-- exactly when; and the answers can be told from their papers.
 use Prim.Native.Nat.{ℕ, zero, suc, _+_, _<_, _≤_}
 use mathlib.Core.Path.{_≡_, refl, sym, ap, _∙_}
 use mathlib.Core.Bool.{true, false}
