@@ -6,8 +6,8 @@ use oracle::alike::{captures_alike, pair, pair_of_captures};
 use oracle::made::Dice;
 use rietknoest_host::{
     broken_field, clean, entries, entry, listing, private_spans, read, scrub, search, tail_fields,
-    walk, ChannelNumber, Cleaned, Figures, Ledger, Month, Refusal, Request, Scrubber, Session, Span,
-    Stream, Walked, HEADER, RECORD,
+    walk, ChannelNumber, Cleaned, Figures, Ledger, Month, Refusal, Request, Scrubber, Session,
+    Span, Stream, Walked, HEADER, RECORD,
 };
 
 /// All that a walk, its listing, a request on its ledger and a cleaning give, with buffers of
