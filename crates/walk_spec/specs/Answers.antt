@@ -22,8 +22,8 @@ module _ (s : List ℕ) (d : List ℕ) where
   unfolding walkAnswer
   answer-done f = rw f
 
--- An answer that is a refusal; and that it leaves the buffer d as it was, of any call that answers 0
--- where its bytes fit and leaves d where they do not.
+-- An answer that is a refusal; and that it leaves the buffer d as it was, of any call that answers
+-- 0 where its bytes fit and leaves d where they do not.
 abbrev pub Refusing : Answer → Type 0
 Refusing a = (w : Refusal) × (a ≡ Refused w)
 
