@@ -27,7 +27,7 @@ use Rattle.clean_spec.specs.Clean.{framesIn, cleanIn, cleanOf, foundBy, foundIn
 use Rattle.clean.specs.Passes.{passedOf, keptOf}
 use Rattle.clean_spec.specs.Steps.{Steps}
 use Rattle.clean_spec.specs.Differ.{differ-end, differ-more}
-use Rattle.walk_spec.specs.Onward.{onwardOf}
+use Rattle.walk_spec.specs.Onward.{onwardOf, frames-next}
 use Rattle.clean_spec.specs.Turns.{size-inside, size-small, steps-onward, frame-length, adds}
 
 -- whatever has room, the buffer keeps its length
@@ -45,10 +45,6 @@ leftOf p s = cleanIn s (fromOf seenOf saysOf p s)
 module _ (s : List ℕ) (p r : ℕ) (x : Seen) (e : x ≡ seenOf (drop p s)) (g : Steps s p (x .size) r) where
   left-next : leftOf p s ≡ scrubbed (take (x .size) (drop p s)) ++ leftOf r s
   left-next = ap (cleanIn s) (g .goes .rest) ∙ adds s p x e (fromOf seenOf saysOf r s)
-
-  frames-next : framesOf (fromOf seenOf saysOf p s) ≡ accepts (seenNumber x) + framesOf (fromOf seenOf saysOf r s)
-  unfolding framesOf
-  frames-next = rw (g .goes .rest, e)
 
   found-next : (before : ℕ) → foundIn before (fromOf seenOf saysOf p s) ≡ foundBy before (seenNumber x) + foundIn (seenNumber x) (fromOf seenOf saysOf r s)
   unfolding foundIn
@@ -98,7 +94,7 @@ step {s} {out₀} {out} {out′} {p} {r} {bytes} {frames} {found} {before} {k} {
       found-few = omega (arith, w .found-few, g .goes .further, je .1);
       room = ap length o ∙ laid-length bytes frame out ∙ w .room;
       counted = omega (arith, w .counted, all);
-      read = omega (arith, ke, w .read, frames-next s p r x e g);
+      read = omega (arith, ke, w .read, frames-next s p r x e (g .goes));
       searched = omega (arith, je .0, w .searched, found-next s p r x e g before);
       written = λ (f : length (cleanOf s) ≤ length out₀).
           let fits : bytes + length frame ≤ length out = omega (arith, long, all, f, w .counted, w .room) in

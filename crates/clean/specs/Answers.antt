@@ -2,21 +2,17 @@
 -- from its paper.
 use Prim.Native.Nat.{ℕ, _≤_}
 use mathlib.Core.Path.{_≡_, refl, sym, ap, _∙_}
-use mathlib.Core.Bool.{true, false}
-use mathlib.Core.Logic.{⊎-elim}
+use mathlib.Core.Bool.{true}
 use mathlib.Core.List.{List, [], _∷_}
 use lib.Dec.{leb}
 use lib.ListN.{length}
 use Rattle.terms.specs.Paper.{Paper, answer, one-number}
-use Rattle.terms.specs.Cases.{two}
-use Rattle.terms.specs.Refusals.{refusal-pos}
-use Rattle.terms.specs.declared.Refusal.{Refusal}
 use Rattle.octets.specs.Octets.{laid}
 use Rattle.ledger_spec.specs.Words.{valueAt}
 use Rattle.ledger.specs.declared.Answer.{Answer}
-use Rattle.ledger.specs.declared.Answer.the-variants.{Refused}
-use Rattle.ledger.specs.Papers.{paperOf, count-paper-one}
+use Rattle.ledger.specs.Papers.{count-paper-one}
 use Rattle.walk_spec.specs.Walk.{sights, framesOf}
+use Rattle.walk_spec.specs.Answers.{Refusing, refusing-leaves}
 use Rattle.clean.specs.declared.Cleaned.{Cleaned}
 use Rattle.clean.specs.declared.Check.{Check}
 use Rattle.clean.specs.declared.Check.the-variants.{Clean, Changed}
@@ -74,11 +70,8 @@ check-one x y e = sym (check-told x) ∙ ap (λ (p : Paper). checkTold (p .value
 -- A REFUSAL LEAVES THE BUFFER AS IT WAS
 
 abbrev pub Refuses : Cleaned → Type 0
-Refuses x = (w : Refusal) × (x .answer ≡ Refused w)
+Refuses x = Refusing (x .answer)
 
 module _ (s d : List ℕ) where
   pub refused-leaves : (e : List ℕ) (x : Cleaned) → Refuses x → cleanPaper x ≡ cleanAnswer s (length d) → e ≡ cleanLeaves s d → e ≡ d
-  refused-leaves e x w p q =
-      ⊎-elim (λ (f : fitsIn s (length d) ≡ true). absurd (refusal-pos (w .0) (ap (λ (a : Answer). paperOf a .number) (sym (w .1)) ∙ one-number p ∙ answer-done s d f)))
-      (λ (f : fitsIn s (length d) ≡ false). q ∙ left-kept s d f)
-      (two (fitsIn s (length d)))
+  refused-leaves e x w p q = refusing-leaves (x .answer) w _ (one-number p) (fitsIn s (length d)) (answer-done s d) d e (λ f. q ∙ left-kept s d f)

@@ -5,6 +5,7 @@ use mathlib.Core.Bool.{Bool, true, false, _&&_, _||_}
 use mathlib.Core.List.{List}
 use lib.ListN.{length}
 use lib.Dec.{ltb, leb, eqb}
+use Rattle.terms.specs.Letters.{spelled}
 use Rattle.terms.specs.Paper.{pick}
 use Rattle.octets.specs.Octets.{be}
 use Rattle.calendar.specs.Calendar.{realTime}
@@ -24,7 +25,7 @@ unfoldable pub s002Ok : List ℕ → Bool
 s002Ok b = leb (be 4 0 b) 9999
 
 unfoldable pub p001Ok : List ℕ → Bool
-p001Ok b = ((eqb (be 1 0 b) 13 && digits 4 (be 2 1 b)) && digits 18 (be 8 3 b)) && (eqb (be 1 11 b) 0x59 || eqb (be 1 11 b) 0x4E)
+p001Ok b = ((eqb (be 1 0 b) 13 && digits 4 (be 2 1 b)) && digits 18 (be 8 3 b)) && (eqb (be 1 11 b) (spelled "Y") || eqb (be 1 11 b) (spelled "N"))
 
 unfoldable pub p002Ok : List ℕ → Bool
 p002Ok b =
@@ -34,10 +35,10 @@ p002Ok b =
 
 -- the layout of an M201's extension, by its stream and its ExecType
 abbrev pub ordersOk : ℕ → ℕ → Bool
-ordersOk s e = (leb 0x4D44323131 s && leb s 0x4D44323136) && (eqb e 0x30 || eqb e 0x34)
+ordersOk s e = (leb (spelled "MD211") s && leb s (spelled "MD216")) && (eqb e (spelled "0") || eqb e (spelled "4"))
 
 abbrev pub tradesOk : ℕ → ℕ → Bool
-tradesOk s e = eqb s 0x4D44323137 && eqb e 0x46
+tradesOk s e = eqb s (spelled "MD217") && eqb e (spelled "F")
 
 unfoldable pub layoutOf : ℕ → ℕ → Layout
 layoutOf s e = pick (ordersOk s e) Order (pick (tradesOk s e) Trade Other)
@@ -58,7 +59,7 @@ tailOk b = suitsTail (namedIn b) (length b)
 unfoldable pub m201Ok : List ℕ → Bool
 m201Ok b =
     (((((((eqb (be 1 0 b) 13 && digits 4 (be 2 1 b)) && ltb 0 (be 8 3 b)) && digits 18 (be 8 3 b)) && digits 9 (be 4 24 b))
-    && ((eqb (be 1 28 b) 0x30 || eqb (be 1 28 b) 0x34) || eqb (be 1 28 b) 0x46))
+    && ((eqb (be 1 28 b) (spelled "0") || eqb (be 1 28 b) (spelled "4")) || eqb (be 1 28 b) (spelled "F")))
     && digits 13 (be 8 29 b))
     && digits 15 (be 8 37 b))
     && tailOk b
@@ -66,12 +67,12 @@ m201Ok b =
 -- a security type and a stream
 abbrev pub pairOk : ℕ → ℕ → Bool
 pairOk t s =
-    (((((eqb t 1 && leb 0x4D44303031 s) && leb s 0x4D44303034)
-    || (eqb t 2 && eqb s 0x4D44333031))
-    || (eqb t 3 && (eqb s 0x4D44313031 || eqb s 0x4D44313032)))
-    || (eqb t 12 && eqb s 0x4D44323031))
-    || (eqb t 13 && eqb s 0x4D44323130)
-    || (eqb t 14 && eqb s 0x4D44453031)
+    (((((eqb t 1 && leb (spelled "MD001") s) && leb s (spelled "MD004"))
+    || (eqb t 2 && eqb s (spelled "MD301")))
+    || (eqb t 3 && (eqb s (spelled "MD101") || eqb s (spelled "MD102"))))
+    || (eqb t 12 && eqb s (spelled "MD201")))
+    || (eqb t 13 && eqb s (spelled "MD210"))
+    || (eqb t 14 && eqb s (spelled "MDE01"))
 
 unfoldable pub m102ValuesOk : List ℕ → Bool
 m102ValuesOk b =
@@ -82,7 +83,7 @@ m102ValuesOk b =
 
 -- the bytes of an entry of a stream: 10 for MD001, else 19
 unfoldable pub entrySize : ℕ → ℕ
-entrySize s = pick (eqb s 0x4D44303031) 10 19
+entrySize s = pick (eqb s (spelled "MD001")) 10 19
 
 -- the entry of w bytes at a place
 unfoldable pub entryOk : ℕ → ℕ → List ℕ → Bool

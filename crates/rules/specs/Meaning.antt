@@ -11,6 +11,7 @@ use lib.Dec.{eqb}
 use lib.ListN.{length}
 use borrow.Author.Tests.{eq-eqb, ne-eqb, eqb-true}
 use Rattle.octets.specs.Octets.{be}
+use Rattle.terms.specs.Letters.{spelled}
 use Rattle.terms.specs.Paper.{pick}
 use Rattle.terms.specs.Cases.{two, same, clash}
 use Rattle.rules.specs.declared.Kind.{Kind}
@@ -60,7 +61,7 @@ p001-says b =
     says-as
     (says-and
     (says-and (says-and (says-eq (be 1 0 b) 13) (says-lt (be 2 1 b) (10 ^ 4))) (says-lt (be 8 3 b) (10 ^ 18)))
-    (says-or (says-eq (be 1 11 b) 0x59) (says-eq (be 1 11 b) 0x4E)))
+    (says-or (says-eq (be 1 11 b) (spelled "Y")) (says-eq (be 1 11 b) (spelled "N"))))
     (λ h. record { security-type = h .0 .0 .0; channel-no = h .0 .0 .1; appl-last-seq-num = h .0 .1; end-of-channel = h .1 })
     (λ r. (((r .security-type, r .channel-no), r .appl-last-seq-num), r .end-of-channel))
 
@@ -105,18 +106,18 @@ p002-says b =
 
 orders-say : (s e : ℕ) → Says (ordersOk s e) (Orders s e)
 orders-say s e =
-    says-as (says-and (says-and (says-le 0x4D44323131 s) (says-le s 0x4D44323136)) (says-or (says-eq e 0x30) (says-eq e 0x34)))
-    (λ h. ⊎-elim (λ (q : e ≡ 0x30). order-0 (h .0 .0) (h .0 .1) q) (λ (q : e ≡ 0x34). order-4 (h .0 .0) (h .0 .1) q) (h .1))
+    says-as (says-and (says-and (says-le (spelled "MD211") s) (says-le s (spelled "MD216"))) (says-or (says-eq e (spelled "0")) (says-eq e (spelled "4"))))
+    (λ h. ⊎-elim (λ (q : e ≡ spelled "0"). order-0 (h .0 .0) (h .0 .1) q) (λ (q : e ≡ spelled "4"). order-4 (h .0 .0) (h .0 .1) q) (h .1))
     (orders-from s e)
   where
-    orders-from : (s e : ℕ) → Orders s e → ((0x4D44323131 ≤ s) × (s ≤ 0x4D44323136)) × ((e ≡ 0x30) ⊎ (e ≡ 0x34))
+    orders-from : (s e : ℕ) → Orders s e → ((spelled "MD211" ≤ s) × (s ≤ spelled "MD216")) × ((e ≡ spelled "0") ⊎ (e ≡ spelled "4"))
     orders-from s e (order-0 a z q) = ((a, z), inl q)
     orders-from s e (order-4 a z q) = ((a, z), inr q)
 
 trades-say : (s e : ℕ) → Says (tradesOk s e) (Trades s e)
-trades-say s e = says-as (says-and (says-eq s 0x4D44323137) (says-eq e 0x46)) (λ h. trade-F (h .0) (h .1)) (trades-from s e)
+trades-say s e = says-as (says-and (says-eq s (spelled "MD217")) (says-eq e (spelled "F"))) (λ h. trade-F (h .0) (h .1)) (trades-from s e)
   where
-    trades-from : (s e : ℕ) → Trades s e → (s ≡ 0x4D44323137) × (e ≡ 0x46)
+    trades-from : (s e : ℕ) → Trades s e → (s ≡ spelled "MD217") × (e ≡ spelled "F")
     trades-from s e (trade-F a q) = (a, q)
 
 -- each stream and ExecType have their layout, and only one
@@ -170,7 +171,7 @@ m201-says b =
     (says-and
     (says-and (says-and (says-and (says-eq (be 1 0 b) 13) (says-lt (be 2 1 b) (10 ^ 4))) (says-lt 0 (be 8 3 b))) (says-lt (be 8 3 b) (10 ^ 18)))
     (says-lt (be 4 24 b) (10 ^ 9)))
-    (says-or (says-or (says-eq (be 1 28 b) 0x30) (says-eq (be 1 28 b) 0x34)) (says-eq (be 1 28 b) 0x46)))
+    (says-or (says-or (says-eq (be 1 28 b) (spelled "0")) (says-eq (be 1 28 b) (spelled "4"))) (says-eq (be 1 28 b) (spelled "F"))))
     (says-lt (be 8 29 b) (10 ^ 13)))
     (says-lt (be 8 37 b) (10 ^ 15)))
     (tail-says b))
@@ -193,14 +194,14 @@ m201-says b =
 
 abbrev Streams : ℕ → ℕ → Type 0
 Streams t s =
-    ((((((((t ≡ 1) × (0x4D44303031 ≤ s)) × (s ≤ 0x4D44303034))
-    ⊎ ((t ≡ 2) × (s ≡ 0x4D44333031)))
-    ⊎ ((t ≡ 3) × ((s ≡ 0x4D44313031) ⊎ (s ≡ 0x4D44313032))))
-    ⊎ ((t ≡ 12) × (s ≡ 0x4D44323031)))
-    ⊎ ((t ≡ 13) × (s ≡ 0x4D44323130)))
-    ⊎ ((t ≡ 14) × (s ≡ 0x4D44453031)))
+    ((((((((t ≡ 1) × (spelled "MD001" ≤ s)) × (s ≤ spelled "MD004"))
+    ⊎ ((t ≡ 2) × (s ≡ spelled "MD301")))
+    ⊎ ((t ≡ 3) × ((s ≡ spelled "MD101") ⊎ (s ≡ spelled "MD102"))))
+    ⊎ ((t ≡ 12) × (s ≡ spelled "MD201")))
+    ⊎ ((t ≡ 13) × (s ≡ spelled "MD210")))
+    ⊎ ((t ≡ 14) × (s ≡ spelled "MDE01")))
 
-pair-3 : (t s : ℕ) → t ≡ 3 → (s ≡ 0x4D44313031) ⊎ (s ≡ 0x4D44313032) → Pair t s
+pair-3 : (t s : ℕ) → t ≡ 3 → (s ≡ spelled "MD101") ⊎ (s ≡ spelled "MD102") → Pair t s
 pair-3 t s h (inl e) = pair-3-MD101 h e
 pair-3 t s h (inr e) = pair-3-MD102 h e
 
@@ -229,12 +230,12 @@ pair-says t s =
     (says-or
     (says-or
     (says-or
-    (says-and (says-and (says-eq t 1) (says-le 0x4D44303031 s)) (says-le s 0x4D44303034))
-    (says-and (says-eq t 2) (says-eq s 0x4D44333031)))
-    (says-and (says-eq t 3) (says-or (says-eq s 0x4D44313031) (says-eq s 0x4D44313032))))
-    (says-and (says-eq t 12) (says-eq s 0x4D44323031)))
-    (says-and (says-eq t 13) (says-eq s 0x4D44323130)))
-    (says-and (says-eq t 14) (says-eq s 0x4D44453031)))
+    (says-and (says-and (says-eq t 1) (says-le (spelled "MD001") s)) (says-le s (spelled "MD004")))
+    (says-and (says-eq t 2) (says-eq s (spelled "MD301"))))
+    (says-and (says-eq t 3) (says-or (says-eq s (spelled "MD101")) (says-eq s (spelled "MD102")))))
+    (says-and (says-eq t 12) (says-eq s (spelled "MD201"))))
+    (says-and (says-eq t 13) (says-eq s (spelled "MD210"))))
+    (says-and (says-eq t 14) (says-eq s (spelled "MDE01"))))
     (pair-to t s)
     (pair-from t s)
 
@@ -242,9 +243,9 @@ pair-says t s =
 pub size-is : (s : ℕ) → EntrySize s (entrySize s)
 unfolding entrySize
 size-is s =
-    ⊎-elim (λ (e : s ≡ 0x4D44303031). short e (simp (eq-eqb s 0x4D44303031 e)))
-    (λ (ne : s ≡ 0x4D44303031 → ⊥). long ne (simp (ne-eqb s 0x4D44303031 ne)))
-    (same s 0x4D44303031)
+    ⊎-elim (λ (e : s ≡ spelled "MD001"). short e (simp (eq-eqb s (spelled "MD001") e)))
+    (λ (ne : s ≡ spelled "MD001" → ⊥). long ne (simp (ne-eqb s (spelled "MD001") ne)))
+    (same s (spelled "MD001"))
 
 pub size-one : (s v w : ℕ) → EntrySize s v → EntrySize s w → v ≡ w
 size-one s v w (short a x) (short c y) = x ∙ sym y
@@ -253,12 +254,12 @@ size-one s v w (long a x) (short c y) = absurd (a c)
 size-one s v w (long a x) (long c y) = x ∙ sym y
 
 -- an entry is short exactly for MD001
-short-to : (s w : ℕ) (P : Type 0) → EntrySize s w → (w ≡ 10) ⊎ P → (s ≡ 0x4D44303031 → ⊥) → P
+short-to : (s w : ℕ) (P : Type 0) → EntrySize s w → (w ≡ 10) ⊎ P → (s ≡ spelled "MD001" → ⊥) → P
 short-to s w P z (inr p) ne = p
 short-to s w P (short e x) (inl q) ne = absurd (ne e)
 short-to s w P (long e x) (inl q) ne = absurd (omega arith)
 
-short-from : (s w : ℕ) (P : Type 0) → EntrySize s w → ((s ≡ 0x4D44303031 → ⊥) → P) → (w ≡ 10) ⊎ P
+short-from : (s w : ℕ) (P : Type 0) → EntrySize s w → ((s ≡ spelled "MD001" → ⊥) → P) → (w ≡ 10) ⊎ P
 short-from s w P (short e x) f = inl x
 short-from s w P (long e x) f = inr (f e)
 
@@ -381,14 +382,14 @@ Rowed t k = known k ≡ true → TypeRule k t
 pub rowed : (t : ℕ) → Rowed t (kindOf t)
 unfolding kindOf
 rowed t =
-    row-or (Rowed t) t 0x53303031 S001 _ (λ e h. e)
-    (row-or (Rowed t) t 0x53303032 S002 _ (λ e h. e)
-    (row-or (Rowed t) t 0x53303033 S003 _ (λ e h. e)
-    (row-or (Rowed t) t 0x50303031 P001 _ (λ e h. e)
-    (row-or (Rowed t) t 0x50303032 P002 _ (λ e h. e)
-    (row-or (Rowed t) t 0x4D313031 M101 _ (λ e h. e)
-    (row-or (Rowed t) t 0x4D313032 M102 _ (λ e h. e)
-    (row-or (Rowed t) t 0x4D323031 M201 _ (λ e h. e)
+    row-or (Rowed t) t (spelled "S001") S001 _ (λ e h. e)
+    (row-or (Rowed t) t (spelled "S002") S002 _ (λ e h. e)
+    (row-or (Rowed t) t (spelled "S003") S003 _ (λ e h. e)
+    (row-or (Rowed t) t (spelled "P001") P001 _ (λ e h. e)
+    (row-or (Rowed t) t (spelled "P002") P002 _ (λ e h. e)
+    (row-or (Rowed t) t (spelled "M101") M101 _ (λ e h. e)
+    (row-or (Rowed t) t (spelled "M102") M102 _ (λ e h. e)
+    (row-or (Rowed t) t (spelled "M201") M201 _ (λ e h. e)
     (λ h. let z : _≡_ {A = ℕ} 0 1 = cc in absurd (omega arith)))))))))
 
 -- a type is in the table exactly where some row has it

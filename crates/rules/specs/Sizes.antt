@@ -10,6 +10,7 @@ use native.Mathlib.Omega.{arith}
 use lib.Dec.{eqb}
 use borrow.Author.Tests.{ne-eqb}
 use lib.ListN.{length, take, drop}
+use Rattle.terms.specs.Letters.{spelled}
 use Rattle.terms.specs.Paper.{pick}
 use Rattle.terms.specs.Cases.{less}
 use Rattle.octets.specs.Octets.{be}
@@ -26,7 +27,7 @@ size-either false = omega arith
 
 pub size-small : (s : ℕ) → entrySize s ≤ 19
 unfolding entrySize
-size-small s = size-either (eqb s 0x4D44303031)
+size-small s = size-either (eqb s (spelled "MD001"))
 
 -- n entries of w bytes, of at most 65,535 and 19
 pub entries-small : (n w : ℕ) → n ≤ 65535 → w ≤ 19 → n * w ≤ 65535 * 19
@@ -51,7 +52,7 @@ wide-either false = inr refl
 
 pub size-wide : (s : ℕ) → Wide (entrySize s)
 unfolding entrySize
-size-wide s = wide-either (eqb s 0x4D44303031)
+size-wide s = wide-either (eqb s (spelled "MD001"))
 
 pub wide-other : (w : ℕ) → Wide w → (w ≡ 10 → ⊥) → w ≡ 19
 wide-other w (inl x) h = absurd (h x)

@@ -6,33 +6,34 @@ use mathlib.Core.List.{[], _∷_}
 use lib.Dec.{ltb, leb, eqb}
 use borrow.Author.Tests.{ne-eqb}
 use lib.ListN.{getD}
+use Rattle.terms.specs.Letters.{spelled}
 use Rattle.terms.specs.Paper.{Paper, answer, refusal, pick}
 use Rattle.rules.specs.declared.Kind.{Kind}
 use Rattle.rules.specs.declared.Kind.the-variants.{S001, S002, S003, P001, P002, M101, M102, M201, Unknown}
 
 -- the four letters of each type, as a number; a MsgType not in the table is 2
 abbrev pub kindPaper : Kind → Paper
-kindPaper S001 = answer 0 (0x53303031 ∷ [])
-kindPaper S002 = answer 0 (0x53303032 ∷ [])
-kindPaper S003 = answer 0 (0x53303033 ∷ [])
-kindPaper P001 = answer 0 (0x50303031 ∷ [])
-kindPaper P002 = answer 0 (0x50303032 ∷ [])
-kindPaper M101 = answer 0 (0x4D313031 ∷ [])
-kindPaper M102 = answer 0 (0x4D313032 ∷ [])
-kindPaper M201 = answer 0 (0x4D323031 ∷ [])
+kindPaper S001 = answer 0 (spelled "S001" ∷ [])
+kindPaper S002 = answer 0 (spelled "S002" ∷ [])
+kindPaper S003 = answer 0 (spelled "S003" ∷ [])
+kindPaper P001 = answer 0 (spelled "P001" ∷ [])
+kindPaper P002 = answer 0 (spelled "P002" ∷ [])
+kindPaper M101 = answer 0 (spelled "M101" ∷ [])
+kindPaper M102 = answer 0 (spelled "M102" ∷ [])
+kindPaper M201 = answer 0 (spelled "M201" ∷ [])
 kindPaper Unknown = refusal 2
 
 -- the type with these letters
 unfoldable pub kindOf : ℕ → Kind
 kindOf t =
-    pick (eqb t 0x53303031) S001
-    (pick (eqb t 0x53303032) S002
-    (pick (eqb t 0x53303033) S003
-    (pick (eqb t 0x50303031) P001
-    (pick (eqb t 0x50303032) P002
-    (pick (eqb t 0x4D313031) M101
-    (pick (eqb t 0x4D313032) M102
-    (pick (eqb t 0x4D323031) M201
+    pick (eqb t (spelled "S001")) S001
+    (pick (eqb t (spelled "S002")) S002
+    (pick (eqb t (spelled "S003")) S003
+    (pick (eqb t (spelled "P001")) P001
+    (pick (eqb t (spelled "P002")) P002
+    (pick (eqb t (spelled "M101")) M101
+    (pick (eqb t (spelled "M102")) M102
+    (pick (eqb t (spelled "M201")) M201
     Unknown)))))))
 
 -- the MsgType t as the table has it
@@ -92,19 +93,19 @@ unfolding typeOf
 kind-is k t e = kind-one k (kindOf t) e
 
 -- the third letter of each name is 0: a word with another one is no type of the table
-other-word : (t k : ℕ) → (t / 256 % 256 ≡ 0x30 → ⊥) → k / 256 % 256 ≡ 0x30 → eqb t k ≡ false
+other-word : (t k : ℕ) → (t / 256 % 256 ≡ spelled "0" → ⊥) → k / 256 % 256 ≡ spelled "0" → eqb t k ≡ false
 other-word t k h is = ne-eqb t k (λ (e : t ≡ k). h (ap (λ (x : ℕ). x / 256 % 256) e ∙ is))
 
-pub kind-none : (t : ℕ) → (t / 256 % 256 ≡ 0x30 → ⊥) → kindOf t ≡ Unknown
+pub kind-none : (t : ℕ) → (t / 256 % 256 ≡ spelled "0" → ⊥) → kindOf t ≡ Unknown
 unfolding kindOf
 kind-none t h =
     simp (
-      other-word t 0x53303031 h refl,
-      other-word t 0x53303032 h refl,
-      other-word t 0x53303033 h refl,
-      other-word t 0x50303031 h refl,
-      other-word t 0x50303032 h refl,
-      other-word t 0x4D313031 h refl,
-      other-word t 0x4D313032 h refl,
-      other-word t 0x4D323031 h refl,
+      other-word t (spelled "S001") h refl,
+      other-word t (spelled "S002") h refl,
+      other-word t (spelled "S003") h refl,
+      other-word t (spelled "P001") h refl,
+      other-word t (spelled "P002") h refl,
+      other-word t (spelled "M101") h refl,
+      other-word t (spelled "M102") h refl,
+      other-word t (spelled "M201") h refl,
     )

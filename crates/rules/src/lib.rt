@@ -100,14 +100,15 @@ pub fn measure(kind: Kind, n: usize) -> Verdict
     Verdict::Fine
 }
 
-// The layout of an M201's extension, by its stream, the five letters as a number, and its ExecType.
+// The layout of an M201's extension, by its stream, the five letters as a number, and its ExecType:
+// an order's in MD211 to MD216 where that is 0 or 4, a trade's in MD217 where it is F.
 pub fn layout_of(stream: u64, exec: u8) -> Layout
     ensures { λ r. ⌜ r ≡ layoutOf stream exec ⌝ }
 {
-    if (0x4D44323131 <= stream) & (stream <= 0x4D44323136) & ((exec == 0x30) | (exec == 0x34)) {
+    if (0x4D44323131 <= stream) & (stream <= 0x4D44323136) & ((exec == b'0') | (exec == b'4')) {
         return Layout::Order;
     }
-    if (stream == 0x4D44323137) & (exec == 0x46) {
+    if (stream == 0x4D44323137) & (exec == b'F') {
         return Layout::Trade;
     }
     Layout::Other
@@ -149,7 +150,7 @@ fn p001_ok(b: &[u8]) -> bool
     (security_type == 13)
         & (channel_no < 10000)
         & (appl_last_seq_num < 1000000000000000000)
-        & ((end_of_channel == 0x59) | (end_of_channel == 0x4E))
+        & ((end_of_channel == b'Y') | (end_of_channel == b'N'))
 }
 
 // The same. A body that holds all fields takes a way of its own: there the compiler knows that no
@@ -213,7 +214,7 @@ fn m201_ok(b: &[u8]) -> bool
         & (0 < appl_seq_num)
         & (appl_seq_num < 1000000000000000000)
         & (transact_time < 1000000000)
-        & ((exec_type == 0x30) | (exec_type == 0x34) | (exec_type == 0x46))
+        & ((exec_type == b'0') | (exec_type == b'4') | (exec_type == b'F'))
         & (price < 10000000000000)
         & (order_qty < 1000000000000000)
         & tail
@@ -228,7 +229,8 @@ fn m201_kept(b: &[u8]) -> bool
     m201_ok(b)
 }
 
-// Whether a security type and a stream, its five letters as a number, go together in an M102.
+// Whether a security type and a stream, its five letters as a number, go together in an M102: 1 and
+// MD001 to MD004, 2 and MD301, 3 and MD101 or MD102, 12 and MD201, 13 and MD210, 14 and MDE01.
 fn pair_ok(t: u8, s: u64) -> bool
     ensures { λ r. ⌜ r ≡ pairOk t s ⌝ }
 {
@@ -260,7 +262,7 @@ fn m102_values_ok(b: &[u8]) -> bool
         & (total_value_traded < 10000000000000000)
 }
 
-// How many bytes an M102 entry has whose stream's five letters are this number.
+// How many bytes an M102 entry has whose stream's five letters are this number: 10 for MD001.
 pub fn entry_size(s: u64) -> usize
     ensures { λ r. ⌜ r ≡ entrySize s ⌝ }
 {

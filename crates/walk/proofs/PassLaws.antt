@@ -29,7 +29,7 @@ use Rattle.walk.specs.declared.Passed.{Passed}
 use Rattle.reading.specs.Seen.{seenOf, seenNumber, saysOf}
 use Rattle.walk_spec.specs.Offers.{callsFor, callsBy, offering, offerOf}
 use Rattle.walk_spec.specs.CallLaws.{book-added}
-use Rattle.walk_spec.specs.Onward.{Goes}
+use Rattle.walk_spec.specs.Onward.{Goes, frames-next}
 use Rattle.walk_spec.specs.Walk.{madeOf, recordBy, bookBy, walkOf, sights, added, accepts, framesOf}
 use Rattle.walk_spec.specs.Tables.{notedAt, writtenFrom, noted-length}
 use Rattle.walk_spec.specs.Counts.{accepts-one}
@@ -159,17 +159,13 @@ module _ (s : List ℕ) (p r : ℕ) (calls : Calls) (l : Ledger) (x : Seen) (o :
   unfolding accountOf bookBy
   left-next = rw (g .rest, ← made-is, ← xe, next-book)
 
-  frames-next : framesOf (fromOf seenOf saysOf p s) ≡ accepts (seenNumber x) + framesOf (fromOf seenOf saysOf r s)
-  unfolding framesOf
-  frames-next = rw (g .rest, xe)
-
 pub left-step : {s out₀ out out′ : List ℕ} {p r records frames k : ℕ} {l l′ : Ledger} {x : Seen} {o : Offered} {m : Record} (w : Left s out₀ out p records frames l)
     → l′ ≡ l → x ≡ seenOf (drop p s) → (o .answer ≡ offerOf (bookOf l′) x .number) × (o .ledger ≡ ledgerOf (offerOf (bookOf l′) x .book))
     → m ≡ madeOf p x (o .answer) (o .ledger .floor) (o .ledger .top) → out′ ≡ notedAt records m out → Goes s p r → k ≡ accepts (seenNumber x)
     → Left s out₀ out′ r (records + 1) (frames + k) (carriedOf (o .ledger .floor) (o .ledger .top) (o .ledger .map))
 unfolding writtenFrom
 left-step {s} {out₀} {out} {out′} {p} {r} {records} {frames} {k} {l} {l′} {x} {o} {m} w le xe oe me n g ke =
-    let read = frames-next s p r (w .calls) l′ x o m (le ∙ w .ledger-is) xe (oe .0) (oe .1) me g in
+    let read = frames-next s p r x xe g in
     let next = left-next s p r (w .calls) l′ x o m (le ∙ w .ledger-is) xe (oe .0) (oe .1) me g in
     let whole = ledger-next s p r (w .calls) l′ x o m (le ∙ w .ledger-is) xe (oe .0) (oe .1) me g in
     let book = next-book s p r (w .calls) l′ x o m (le ∙ w .ledger-is) xe (oe .0) (oe .1) me g in

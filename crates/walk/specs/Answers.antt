@@ -1,22 +1,16 @@
 -- The walk's answer told from its paper, and what a refusal leaves.
 use Prim.Native.Nat.{ℕ}
-use mathlib.Core.Path.{_≡_, sym, ap, _∙_}
-use mathlib.Core.Bool.{true, false}
-use mathlib.Core.Logic.{⊎-elim}
+use mathlib.Core.Path.{_≡_, ap, _∙_}
 use mathlib.Core.List.{List, [], _∷_}
 use lib.ListN.{length}
 use Rattle.terms.specs.Paper.{Paper, answer, one-number}
-use Rattle.terms.specs.Cases.{two}
-use Rattle.terms.specs.Refusals.{refusal-pos}
-use Rattle.terms.specs.declared.Refusal.{Refusal}
 use Rattle.ledger.specs.declared.Answer.{Answer}
-use Rattle.ledger.specs.declared.Answer.the-variants.{Refused}
 use Rattle.ledger.specs.declared.Ledger.{Ledger}
-use Rattle.ledger.specs.Papers.{paperOf, count-paper-one}
+use Rattle.ledger.specs.Papers.{count-paper-one}
 use Rattle.ledger_spec.specs.Words.{valueAt}
 use Rattle.walk.specs.declared.Walked.{Walked}
 use Rattle.walk_spec.specs.Walk.{fitsIn, walkAnswer, walkLeaves}
-use Rattle.walk_spec.specs.Answers.{left-kept, answer-done}
+use Rattle.walk_spec.specs.Answers.{left-kept, answer-done, Refusing, refusing-leaves}
 use Rattle.walk.specs.Papers.{walkPaper}
 
 same : (a b : Answer) (i j k m n o : ℕ) (x y : Ledger) → a ≡ b → i ≡ j → k ≡ m → n ≡ o → x ≡ y
@@ -31,12 +25,9 @@ walked-one x y e l =
 
 -- an answer that is a refusal
 abbrev pub Refuses : Walked → Type 0
-Refuses x = (w : Refusal) × (x .answer ≡ Refused w)
+Refuses x = Refusing (x .answer)
 
 module _ (s : List ℕ) (d : List ℕ) where
   -- a refusal leaves the buffer as it was
   pub refused-leaves : (e : List ℕ) (x : Walked) → Refuses x → walkPaper x ≡ walkAnswer s (length d) → e ≡ walkLeaves s d → e ≡ d
-  refused-leaves e x w p q =
-      ⊎-elim (λ (f : fitsIn s (length d) ≡ true). absurd (refusal-pos (w .0) (ap (λ (a : Answer). paperOf a .number) (sym (w .1)) ∙ one-number p ∙ answer-done s d f)))
-      (λ (f : fitsIn s (length d) ≡ false). q ∙ left-kept s d f)
-      (two (fitsIn s (length d)))
+  refused-leaves e x w p q = refusing-leaves (x .answer) w _ (one-number p) (fitsIn s (length d)) (answer-done s d) d e (λ f. q ∙ left-kept s d f)

@@ -19,6 +19,7 @@ use Rattle.walk_laws.specs.Walk.{frame}
 use Rattle.walk_laws.specs.Literal.{isFrame, fromOf, soughtOf, sightAt, from-end, from-frame, from-bad, sought-lowest, sought-none}
 use Rattle.reading.specs.declared.Seen.{Seen}
 use Rattle.reading.specs.Seen.{seenOf, seenNumber, saysOf}
+use Rattle.walk_spec.specs.Walk.{accepts, framesOf}
 use Rattle.reading.specs.SeenLaws.{says-frame, says-not, seen-answer, seen-blank, seen-fits}
 
 -- Where the walk goes on behind the reading at p, whose frame has size bytes, none if it was
@@ -124,3 +125,8 @@ module _ (s : List ℕ) (p : ℕ) (x : Seen) (e : x ≡ seenOf (drop p s)) where
     goes-onward r o =
         rw o
         (⊎-elim past-frame (λ (ne : seenNumber x ≡ 0 → ⊥). past-refusal ne _ (lowest s (p + 1) (omega arith)) refl) (same (seenNumber x) 0))
+
+-- the frames from a place on: whether the reading there is one, and those from the next place on
+pub frames-next : (s : List ℕ) (p r : ℕ) (x : Seen) → x ≡ seenOf (drop p s) → Goes s p r → framesOf (fromOf seenOf saysOf p s) ≡ accepts (seenNumber x) + framesOf (fromOf seenOf saysOf r s)
+unfolding framesOf
+frames-next s p r x e g = rw (g .rest, e)
