@@ -7,7 +7,10 @@ use mathlib.Core.List.{List, [], _∷_, _++_, append-assoc, append-nil}
 use native.Mathlib.Omega.{arith}
 use lib.ListN.{length, getD, set, drop, length-set, length-append}
 use lib.Seq.{getD-set-same, getD-set-other}
+use lib.Dec.{eqb}
+use borrow.Author.Tests.{eq-eqb, ne-eqb}
 use Rattle.terms.specs.Cases.{less, same}
+use Rattle.channels_spec.proofs.Least.{least-at}
 use Rattle.walk_laws.specs.Walk.{Sight}
 use Rattle.walk_laws.specs.Frames.{readsOf}
 use Rattle.walk_laws.specs.Literal.{fromOf, sightAt, from-end}
@@ -50,6 +53,13 @@ module _ (channels : List ℕ) (named : ℕ) where
   opened-end j rows o h = record { all-places = o .size; row-is = λ i d l. o .each i d (omega arith) }
 
 -- ---- the pass
+
+-- a place that has the channel is its place: no other named one has it
+pub hint-holds : (channels : List ℕ) (named : ℕ) → Naming channels named → (i channel : ℕ) → i < named → getD channels i 0 ≡ channel → i ≡ placeIn channels named channel
+hint-holds channels named n i channel h e =
+    sym
+    (least-at (λ k. eqb (getD channels k 0) channel) named i h (eq-eqb _ _ e)
+    (λ j l. ne-eqb _ _ (λ f. let q = n .apart j i (omega arith) h (f ∙ sym e) in omega arith)))
 
 -- done: the accepted frames so far. They and what is left are all that the capture has.
 pub record Left (s channels : List ℕ) (named : ℕ) (rows : List Row) (p : ℕ) : Type 0 where

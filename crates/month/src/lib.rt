@@ -71,6 +71,19 @@ fn place_of(channels: [u16; 32], n: usize, channel: u16) -> usize
     n
 }
 
+// The place of this channel, looked for at the hint first.
+fn row_of(channels: [u16; 32], named: usize, hint: usize, channel: u16) -> usize
+    requires { ⌜ Naming channels named ⌝ }
+    ensures { λ r. ⌜ r ≡ placeIn channels named channel ⌝ }
+{
+    if hint < named {
+        if channels[hint] == channel {
+            return hint;
+        }
+    }
+    place_of(channels, named, channel)
+}
+
 // Whether the named channels keep the rules, and the other places are 0.
 fn channels_right(channels: [u16; 32], named: usize) -> bool
     requires { ⌜ named ≤ 32 ⌝ }
@@ -265,6 +278,22 @@ fn fresh_rows(channels: [u16; 32], named: usize) -> [Row; 32]
     rows
 }
 
+// For each low byte of a channel a place where it may be named: hints, of which nothing is promised.
+// A search through 32 names at each frame would end at another place each time, which no processor
+// foresees.
+fn hints(channels: [u16; 32], named: usize) -> [u8; 256]
+    requires { ⌜ named ≤ 32 ⌝ }
+{
+    let mut places: [u8; 256] = [0; 256];
+    let mut j: usize = 0;
+    while j < named {
+        let low = (channels[j] % 256) as usize;
+        places[low] = j as u8;
+        j += 1;
+    }
+    places
+}
+
 // The rows after all frames of a capture: each frame is read once, and turns the row of its
 // channel alone.
 fn pass(capture: &[u8], channels: [u16; 32], named: usize) -> [Row; 32]
@@ -272,6 +301,7 @@ fn pass(capture: &[u8], channels: [u16; 32], named: usize) -> [Row; 32]
     ensures { λ r. ⌜ Kept channels named (readsIn (now (capture .entry))) r ⌝ }
 {
     let mut rows: [Row; 32] = fresh_rows(channels, named);
+    let places = hints(channels, named);
     let mut p: usize = 0;
     while p < capture.len() {
         let seen = reading::see(capture, p);
@@ -281,7 +311,9 @@ fn pass(capture: &[u8], channels: [u16; 32], named: usize) -> [Row; 32]
             continue;
         }
         let channel = seen.channel;
-        let i = place_of(channels, named, channel.value());
+        let number = channel.value();
+        let hint = places[(number % 256) as usize] as usize;
+        let i = row_of(channels, named, hint, number);
         if i >= named {
             continue;
         }

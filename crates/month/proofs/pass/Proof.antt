@@ -22,16 +22,19 @@ none-at : (channels : List ℕ) (n : ℕ) {i v x : ℕ} → i ≡ placeIn channe
 none-at channels n e f h = omega (arith, e ∙ ap (placeIn channels n) f)
 
 abbrev Inv-loop : tie.InvT-loop
-Inv-loop capture channels named rows₀ p₀ rows p = Left capture channels named rows p
+Inv-loop capture channels named rows₀ places₀ p₀ rows p = Left capture channels named rows p
 
 abbrev μ-loop : tie.MeasureT-loop
-μ-loop capture channels named rows₀ p₀ rows p = length capture - p
+μ-loop capture channels named rows₀ places₀ p₀ rows p = length capture - p
 
 fresh-rows-requires : tie.Need-fresh-rows-requires Inv-loop μ-loop
 fresh-rows-requires c κs = c .before .pre
 
+hints-requires : tie.Need-hints-requires Inv-loop μ-loop
+hints-requires c κs = c .before .before .pre .few
+
 loop-holds : tie.Need-loop-holds Inv-loop μ-loop
-loop-holds c = left-start _ _ _ _ (c .fresh-rows .ensures)
+loop-holds c = left-start _ _ _ _ (c .before .fresh-rows .ensures)
 
 see-requires : tie.Need-see-requires Inv-loop μ-loop
 see-requires c κs = search needs
@@ -40,7 +43,7 @@ onward-requires : tie.Need-onward-requires Inv-loop μ-loop
 onward-requires c κs = search needs
 
 -- where it leads is the place of the next reading
-goes : (c : tie.After-onward Inv-loop μ-loop) → Goes (c .before .before .before .before .before .before .args .capture .now) (c .before .before .before .loop .p) (c .onward .result)
+goes : (c : tie.After-onward Inv-loop μ-loop) → Goes (c .before .before .before .before .before .before .before .args .capture .now) (c .before .before .before .loop .p) (c .onward .result)
 goes c = goes-onward _ _ _ (c .before .see .ensures) (c .before .before .loop-test .taken) _ (c .onward .ensures)
 
 -- what its answer is
@@ -62,15 +65,24 @@ loop-again c = left-refused _ _ _ _ _ _ (c .before .before .before .before .befo
 value-requires : tie.Need-value-requires Inv-loop μ-loop
 value-requires c κs = search needs
 
-place-of-requires : tie.Need-place-of-requires Inv-loop μ-loop
-place-of-requires c κs = c .before .before .before .before .before .before .before .before .before .before .pre .few
+cast-hint : tie.Need-cast-hint Inv-loop μ-loop
+cast-hint c = search needs
+
+array-read-hint : tie.Need-array-read-hint Inv-loop μ-loop
+array-read-hint c = search needs
+
+cast-hint-2 : tie.Need-cast-hint-2 Inv-loop μ-loop
+cast-hint-2 c = search needs
+
+row-of-requires : tie.Need-row-of-requires Inv-loop μ-loop
+row-of-requires c κs = c .before .before .before .before .before .before .before .before .before .before .before .pre
 
 loop-less-2 : tie.Need-loop-less-2 Inv-loop μ-loop
 loop-less-2 c = let g = goes (c .before .before .before .before .before .before) in omega (arith, g .further, g .inside)
 
 loop-again-2 : tie.Need-loop-again-2 Inv-loop μ-loop
-loop-again-2 c = left-none _ _ _ _ _ _ (c .before .before .before .before .before .before .before .before .before .loop .inv) _ (c .before .before .before .before .before .before .before .see .ensures) (goes (c .before .before .before .before .before .before)) (accepted (c .before .before .before .before)) (c .before .before .before .before .before .before .before .before .before .before .before .before .pre)
-    (none-at (c .before .before .before .before .before .before .before .before .before .before .before .before .args .channels) (c .before .before .before .before .before .before .before .before .before .before .before .before .args .named) (c .before .place-of .ensures) (c .before .before .value .ensures) (c .if2 .taken))
+loop-again-2 c = left-none _ _ _ _ _ _ (c .before .before .before .before .before .before .before .before .before .loop .inv) _ (c .before .before .before .before .before .before .before .see .ensures) (goes (c .before .before .before .before .before .before)) (accepted (c .before .before .before .before)) (c .before .before .before .before .before .before .before .before .before .before .before .before .before .pre)
+    (none-at (c .before .before .before .before .before .before .before .before .before .before .before .before .before .args .channels) (c .before .before .before .before .before .before .before .before .before .before .before .before .before .args .named) (c .before .row-of .ensures) (c .before .before .value .ensures) (c .if2 .taken))
 
 mul-row : tie.Need-mul-row Inv-loop μ-loop
 mul-row c = search needs
@@ -79,21 +91,21 @@ array-copy-out-row : tie.Need-array-copy-out-row Inv-loop μ-loop
 array-copy-out-row c = search needs
 
 turned-requires : tie.Need-turned-requires Inv-loop μ-loop
-turned-requires c κs = row-roomy _ _ _ _ _ _ (c .before .before .before .before .before .before .before .before .before .before .loop .inv) _ (c .before .before .before .before .before .before .before .before .see .ensures) (goes (c .before .before .before .before .before .before .before)) (accepted (c .before .before .before .before .before)) (c .before .before .before .before .before .before .before .before .before .before .before .before .before .pre) _
-    (found-here (c .before .before .before .before .before .before .before .before .before .before .before .before .before .args .channels) (c .before .before .before .before .before .before .before .before .before .before .before .before .before .args .named) (c .before .before .place-of .ensures) (c .before .before .before .value .ensures)) (search needs) _ (search needs)
+turned-requires c κs = row-roomy _ _ _ _ _ _ (c .before .before .before .before .before .before .before .before .before .before .loop .inv) _ (c .before .before .before .before .before .before .before .before .see .ensures) (goes (c .before .before .before .before .before .before .before)) (accepted (c .before .before .before .before .before)) (c .before .before .before .before .before .before .before .before .before .before .before .before .before .before .pre) _
+    (found-here (c .before .before .before .before .before .before .before .before .before .before .before .before .before .before .args .channels) (c .before .before .before .before .before .before .before .before .before .before .before .before .before .before .args .named) (c .before .before .row-of .ensures) (c .before .before .before .value .ensures)) (search needs) _ (search needs)
 
 mul-rows : tie.Need-mul-rows Inv-loop μ-loop
-mul-rows c = omega (arith, c .before .before .if2 .left, c .before .before .before .before .before .before .before .before .before .before .before .before .before .before .pre .few)
+mul-rows c = omega (arith, c .before .before .if2 .left, c .before .before .before .before .before .before .before .before .before .before .before .before .before .before .before .pre .few)
 
 array-set-from-rows : tie.Need-array-set-from-rows Inv-loop μ-loop
-array-set-from-rows c = omega (arith, c .before .before .if2 .left, c .before .before .before .before .before .before .before .before .before .before .before .before .before .before .pre .few)
+array-set-from-rows c = omega (arith, c .before .before .if2 .left, c .before .before .before .before .before .before .before .before .before .before .before .before .before .before .before .pre .few)
 
 loop-less-3 : tie.Need-loop-less-3 Inv-loop μ-loop
 loop-less-3 c = let g = goes (c .before .before .before .before .before .before .before .before) in omega (arith, g .further, g .inside)
 
 loop-again-3 : tie.Need-loop-again-3 Inv-loop μ-loop
-loop-again-3 c = left-own _ _ _ _ _ _ (c .before .before .before .before .before .before .before .before .before .before .before .loop .inv) _ (c .before .before .before .before .before .before .before .before .before .see .ensures) (goes (c .before .before .before .before .before .before .before .before)) (accepted (c .before .before .before .before .before .before)) (c .before .before .before .before .before .before .before .before .before .before .before .before .before .before .pre) _
-    (found-here (c .before .before .before .before .before .before .before .before .before .before .before .before .before .before .args .channels) (c .before .before .before .before .before .before .before .before .before .before .before .before .before .before .args .named) (c .before .before .before .place-of .ensures) (c .before .before .before .before .value .ensures)) (search needs) _ _ (c .turned .ensures)
+loop-again-3 c = left-own _ _ _ _ _ _ (c .before .before .before .before .before .before .before .before .before .before .before .loop .inv) _ (c .before .before .before .before .before .before .before .before .before .see .ensures) (goes (c .before .before .before .before .before .before .before .before)) (accepted (c .before .before .before .before .before .before)) (c .before .before .before .before .before .before .before .before .before .before .before .before .before .before .before .pre) _
+    (found-here (c .before .before .before .before .before .before .before .before .before .before .before .before .before .before .before .args .channels) (c .before .before .before .before .before .before .before .before .before .before .before .before .before .before .before .args .named) (c .before .before .before .row-of .ensures) (c .before .before .before .before .value .ensures)) (search needs) _ _ (c .turned .ensures)
 
 returns : tie.Need-returns Inv-loop μ-loop
 returns c = left-end _ _ _ _ _ (c .before .loop .inv) (c .loop-test .left)
@@ -105,6 +117,7 @@ pass-spec =
     Inv-loop
     μ-loop
     fresh-rows-requires
+    hints-requires
     loop-holds
     see-requires
     onward-requires
@@ -112,7 +125,10 @@ pass-spec =
     loop-less
     loop-again
     value-requires
-    place-of-requires
+    cast-hint
+    array-read-hint
+    cast-hint-2
+    row-of-requires
     loop-less-2
     loop-again-2
     mul-row
