@@ -321,6 +321,15 @@ fn ledgers() {
         &late,
         Some(0.8),
     );
+    // each hundred in an order of its own
+    let d = &mut Dice(9);
+    let mut mixed: Vec<u64> = (1..=20_000).collect();
+    for hundred in mixed.chunks_exact_mut(100) {
+        for i in (1..100).rev() {
+            hundred.swap(i, d.below(i as u64 + 1) as usize);
+        }
+    }
+    ledger("shuffled by hundreds", &[], &mixed, Some(1.0));
     // the first of each 64 comes last
     let runs: Vec<u64> = (0..312)
         .flat_map(|i| (2..=64).chain([1]).map(move |n| 64 * i + n))
@@ -445,6 +454,50 @@ fn spans() {
             );
         }
     }
+}
+
+/// Spans within the map's 256 numbers, none like the one before: what a branch costs that is not foreseen.
+fn spans_at_random() {
+    let channel = host::ChannelNumber::new(100);
+    let mut state = plain::Ledger::open(100);
+    done(state.announce(100, 1_000_000));
+    for i in 0..100 {
+        done(state.tick(100, 3 + 2 * i));
+    }
+    let ours = host::Ledger::from_words(state.words());
+    let d = &mut Dice(9);
+    let spans: Vec<[u64; 2]> = (0..20_000)
+        .map(|_| {
+            let from = 1 + d.below(250);
+            [from, from + d.below(250)]
+        })
+        .collect();
+    for [a, b] in &spans {
+        let [from, to] = [*a, *b].map(host::TickNumber::new);
+        let count = number(ours.missing_between(channel, from, to));
+        assert_eq!(count, state.missing_between(100, *a, *b));
+    }
+    let job = Job {
+        name: "missing between",
+        input: "100 held, spans at random",
+        bytes: 50 * spans.len(),
+        goal: Some(1.3),
+    };
+    job.race(
+        "question",
+        50,
+        || {
+            for span in black_box(&spans) {
+                let [from, to] = span.map(host::TickNumber::new);
+                done(ours.missing_between(channel, from, to));
+            }
+        },
+        || {
+            for [a, b] in black_box(&spans) {
+                done(state.missing_between(100, *a, *b));
+            }
+        },
+    );
 }
 
 // CAPTURES
@@ -665,6 +718,7 @@ fn main() {
     if std::env::args().any(|a| a == "ledger") {
         replies();
         spans();
+        spans_at_random();
         println!();
         ledgers();
         return;
@@ -673,6 +727,7 @@ fn main() {
     times::row();
     replies();
     spans();
+    spans_at_random();
     step::rows();
     session::rows();
     channels::rows();
