@@ -456,7 +456,8 @@ fn spans() {
     }
 }
 
-/// Spans within the map's 256 numbers, none like the one before: what a branch costs that is not foreseen.
+/// Spans within the map's 256 numbers, none like the one before: what a branch costs that is not
+/// foreseen.
 fn spans_at_random() {
     let channel = host::ChannelNumber::new(100);
     let mut state = plain::Ledger::open(100);

@@ -278,9 +278,9 @@ fn fresh_rows(channels: [u16; 32], named: usize) -> [Row; 32]
     rows
 }
 
-// For each low byte of a channel a place where it may be named: hints, of which nothing is promised.
-// A search through 32 names at each frame would end at another place each time, which no processor
-// foresees.
+// For each low byte of a channel a place where it may be named: hints, of which nothing is
+// promised. A search through 32 names at each frame would end at another place each time, which no
+// processor foresees.
 fn hints(channels: [u16; 32], named: usize) -> [u8; 256]
     requires { ⌜ named ≤ 32 ⌝ }
 {
