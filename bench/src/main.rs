@@ -632,13 +632,13 @@ fn in_cuts(capture: &[u8], size: usize, records: &mut [u8]) -> (host::Stream, ho
     (stream, fed)
 }
 
-fn cuts(input: &str, bytes: usize, sizes: &[usize]) {
-    let capture = made::capture(bytes);
+fn cuts(input: &str, capture: &[u8], sizes: &[usize]) {
+    let bytes = capture.len();
     let room = host::records_room(bytes);
     let (mut a, mut b) = (vec![0; room], vec![0; room]);
-    let walked = host::walk(&capture, &mut b).expect("room");
+    let walked = host::walk(capture, &mut b).expect("room");
     for size in sizes {
-        let (stream, fed) = in_cuts(&capture, *size, &mut a);
+        let (stream, fed) = in_cuts(capture, *size, &mut a);
         assert_eq!((fed.frames, fed.refused), (walked.frames, walked.refused));
         assert_eq!(stream.ledger, walked.ledger);
         assert!(a == b);
@@ -652,8 +652,8 @@ fn cuts(input: &str, bytes: usize, sizes: &[usize]) {
             turns,
             bytes,
             [
-                &mut || done(in_cuts(black_box(&capture), *size, &mut a)),
-                &mut || done(host::walk(black_box(&capture), &mut b)),
+                &mut || done(in_cuts(black_box(capture), *size, &mut a)),
+                &mut || done(host::walk(black_box(capture), &mut b)),
             ],
         );
         let ratio = x / y;
@@ -716,6 +716,10 @@ fn main() {
         month::rows();
         return;
     }
+    if std::env::args().any(|a| a == "cuts") {
+        arriving(small);
+        return;
+    }
     if std::env::args().any(|a| a == "ledger") {
         replies();
         spans();
@@ -743,11 +747,19 @@ fn main() {
     println!();
     growth(if small { &sizes[..2] } else { &sizes });
     println!();
+    arriving(small);
+}
+
+fn arriving(small: bool) {
     println!("| Cuts of | Input | stream | closed walk | ratio |");
     println!("|---|---|---|---|---|");
-    cuts("64 KiB", KIB_64, &[1, 64, 1_460, 65_536]);
+    cuts("64 KiB", &made::capture(KIB_64), &[1, 64, 1_460, 65_536]);
+    let noise = Dice(6).bytes(KIB_64);
+    cuts("64 KiB of noise", &noise, &[64, 1_460]);
+    let false_headers = made::false_headers(KIB_64, plain::M101, 8_164);
+    cuts("64 KiB of false headers", &false_headers, &[64, 1_460]);
     if !small {
-        cuts("10 MB", 10 * MB, &[64, 1_460, 65_536]);
+        cuts("10 MB", &made::capture(10 * MB), &[64, 1_460, 65_536]);
     }
     println!();
     one_by_one();

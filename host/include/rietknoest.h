@@ -547,14 +547,14 @@ uint32_t rk_stream_open(uint64_t words[6], rk_ledger *ledger, uint8_t kept[8191]
 
 /* One more cut: a record of 64 bytes for each reading that it decides.
  * RK_RECORDS_ROOM(waiting + cut_len) bytes are always room enough. After 8 you may pass the same
- * cut again, with more room. It takes up to 135 KB of stack.
+ * cut again, with more room. It takes up to 26 KB of stack.
  * Returns 0, 8, 13, 19, 29. 0 writes the first 64 * told->records bytes of records, and words,
  * *ledger, kept and *told. */
 uint32_t rk_stream_feed(uint64_t words[6], rk_ledger *ledger, uint8_t kept[8191], const uint8_t *cut, size_t cut_len, uint8_t *records,
                         size_t records_len, rk_fed *told);
 
 /* Ends the stream: what waits is walked as the end of a capture. RK_RECORDS_ROOM(waiting) bytes are
- * always room enough. After 8 the stream is still open. It takes up to 135 KB of stack.
+ * always room enough. After 8 the stream is still open. It takes up to 10 KB of stack.
  * Returns 0, 8, 13, 19. 0 writes the first 64 * told->records bytes of records, and words, *ledger,
  * kept and *told. */
 uint32_t rk_stream_close(uint64_t words[6], rk_ledger *ledger, uint8_t kept[8191], uint8_t *records, size_t records_len, rk_fed *told);

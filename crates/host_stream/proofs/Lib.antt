@@ -1,3 +1,4 @@
+pub mod Settled
 pub mod Promised
 pub mod OneAnswer
 pub mod RuledOut

@@ -2,19 +2,23 @@
 // calls that clean, to scrubbed frames. Between two calls the host keeps it as six numbers, the
 // nine words of its ledger, and the bytes that wait. Each call returns a code, 0 where all is well.
 // A refusal writes nothing.
+ghost use Prim.Native.Nat.{ℕ};
 ghost use mathlib.Core.Path.{_≡_};
+ghost use mathlib.Core.List.{List};
 ghost use lib.ListN.{length};
 ghost use Rattle.stream_spec.specs.State.{opened};
 ghost use Rattle.stream_spec.specs.Calls.{Feed, Close, leaves, fedPaper};
 ghost use Rattle.terms.specs.Verdicts.{verdictNumber};
+ghost use Rattle.stream.specs.Standing.{whole, fedOf};
 ghost use Rattle.host_words.specs.Told.{Tells};
 ghost use Rattle.host_stream_spec.specs.Lent.{waitingIn, wordOf, lent, lentOf, streamIn};
 ghost use Rattle.host_stream_spec.specs.Calls.{toldWith, keptBeside, callTold, lentAfter};
 ghost use Rattle.stream_clean_spec.specs.Calls as Clean;
 ghost use Rattle.stream_clean_spec.specs.Calls.{washedPaper};
 ghost use Rattle.host_stream_spec.specs.Washes.{washWith, washTold, washAfter};
+use stream::Answered;
+use stream::Standing;
 use stream_clean_spec::Washed;
-use stream_spec::Fed;
 use stream_spec::Stream;
 use stream_spec::Tally;
 
@@ -80,32 +84,63 @@ fn keep(state: &mut [u64; 6], ledger: &mut [u64; 9], kept: &mut [u8; 8191], next
     *kept = held;
 }
 
-// What a call returns: its number; beside 0 the stream after it is kept, and its numbers are
-// the results.
-fn settle(
-    state: &mut [u64; 6],
-    ledger: &mut [u64; 9],
-    kept: &mut [u8; 8191],
-    told: &mut [u64; 5],
-    fed: Fed,
-) -> u32
-    ensures { λ r. ⌜ Tells (toldWith (fedPaper fed) (fed .stream)) (now (told .entry)) r (now (told .exit))
-        × (lent (now (state .exit)) (now (ledger .exit)) (now (kept .exit))
-        ≡ keptBeside (verdictNumber (fed .answer)) (fed .stream) (lent (now (state .entry)) (now (ledger .entry)) (now (kept .entry)))) ⌝ }
+// How the stream stands that they stand for, sound or not.
+fn standing_in(state: &[u64; 6], ledger: &[u64; 9]) -> Standing
+    ensures { λ r. ⌜ ((kept : List ℕ) → whole r kept ≡ streamIn (lent (now (state .entry)) (now (ledger .entry)) kept)) ⌝ }
 {
-    let given = fed.answer;
+    let seeking = state[1];
+    let closed = state[2];
+    let tally = Tally {
+        frames: state[4],
+        refused: state[5],
+        ledger: host_words::ledger_in(ledger),
+    };
+    Standing {
+        place: state[0],
+        seeking: seeking == 1,
+        closed: closed == 1,
+        len: waiting_in(seeking, closed, state[3]),
+        tally,
+    }
+}
+
+// Keeps how a stream stands as its words.
+fn keep_words(state: &mut [u64; 6], ledger: &mut [u64; 9], next: Standing)
+    ensures { λ _. ⌜ ((kept : List ℕ) → lent (now (state .exit)) (now (ledger .exit)) kept ≡ lentOf (whole next kept)) ⌝ }
+{
+    let tally = next.tally;
+    let book = tally.ledger;
+    *state = [
+        next.place,
+        word_of(next.seeking),
+        word_of(next.closed),
+        next.len as u64,
+        tally.frames,
+        tally.refused,
+    ];
+    *ledger = host_words::state_of(book);
+}
+
+// What a call returns: its number; beside 0 the words of the stream after it are kept, and its
+// numbers are the results.
+fn settle(state: &mut [u64; 6], ledger: &mut [u64; 9], told: &mut [u64; 5], done: Answered) -> u32
+    ensures { λ r. ⌜ ((kept : List ℕ) → Tells (toldWith (fedPaper (fedOf done kept)) (whole (done .next) kept)) (now (told .entry)) r (now (told .exit))
+        × (lent (now (state .exit)) (now (ledger .exit)) kept
+        ≡ keptBeside (verdictNumber (done .answer)) (whole (done .next) kept) (lent (now (state .entry)) (now (ledger .entry)) kept))) ⌝ }
+{
+    let given = done.answer;
     let answer = given.number();
-    let next = fed.stream;
+    let next = done.next;
     if answer == 0 {
         let tally = next.tally;
         *told = [
-            fed.records as u64,
+            done.records as u64,
             tally.frames,
             tally.refused,
             next.place,
             next.len as u64,
         ];
-        keep(state, ledger, kept, next);
+        keep_words(state, ledger, next);
     }
     answer
 }
@@ -139,8 +174,8 @@ pub extern "C" fn rk_stream_feed(
         × ((lent (now (state .exit)) (now (ledger .exit)) (now (kept .exit)) ≡ lentAfter (lent (now (state .entry)) (now (ledger .entry)) (now (kept .entry))) (Feed (now (cut .entry))) (length (now (records .entry))))
         × (now (records .exit) ≡ leaves (streamIn (lent (now (state .entry)) (now (ledger .entry)) (now (kept .entry)))) (Feed (now (cut .entry))) (now (records .entry)))) ⌝ }
 {
-    let fed = stream::feed(stream_in(state, ledger, kept), cut, records);
-    settle(state, ledger, kept, told, fed)
+    let done = stream::feed(standing_in(state, ledger), kept, cut, records);
+    settle(state, ledger, told, done)
 }
 
 // No more bytes come: what remains is walked as the end of a closed capture is. Results as for a
@@ -157,8 +192,8 @@ pub extern "C" fn rk_stream_close(
         × ((lent (now (state .exit)) (now (ledger .exit)) (now (kept .exit)) ≡ lentAfter (lent (now (state .entry)) (now (ledger .entry)) (now (kept .entry))) Close (length (now (records .entry))))
         × (now (records .exit) ≡ leaves (streamIn (lent (now (state .entry)) (now (ledger .entry)) (now (kept .entry)))) Close (now (records .entry)))) ⌝ }
 {
-    let fed = stream::close(stream_in(state, ledger, kept), records);
-    settle(state, ledger, kept, told, fed)
+    let done = stream::close(standing_in(state, ledger), kept, records);
+    settle(state, ledger, told, done)
 }
 
 // What a call that cleans returns: its number; beside 0 the stream after it is kept, and its

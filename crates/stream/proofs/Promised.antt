@@ -27,6 +27,7 @@ use Rattle.stream_spec.specs.Trace.{Calls, _▸_, after, given, taken, ended, R
 use Rattle.stream_spec.specs.Words.{decided, answered, Closed}
 use Rattle.stream_spec.proofs.Rules.{rules-facts}
 use Rattle.stream_spec.proofs.Cuttings.{every-cutting, closing-call, ran-is}
+use Rattle.stream.specs.Standing.{whole, fedOf}
 use Rattle.stream.proofs.feed.Reads as feed
 use Rattle.stream.proofs.feed.Kinds as feed-kinds
 use Rattle.stream.proofs.close.Reads as close
@@ -35,13 +36,13 @@ use Rattle.stream.proofs.close.Kinds as close-kinds
 -- ---- the code's calls make a row: it begins with `Stream::opened` (`opened-is-opening` of
 -- `stream_spec`), and goes on with `feed` and `close`
 
-pub feed-goes-on : {calls : Calls} (κs : Lfts 2) (a : Dens κs feed-kinds.ps) (x : resT feed-kinds.r κs .Denot) (s : AtExit (endedOf 2 feed-kinds.ps feed-kinds.r) κs) → Row calls (a .0) → feed.Post κs a x s
-    → Row (calls ▸ record { call = Feed (now (a .1 .0)); room = length (now (a .1 .1 .0)) }) (x .stream)
-feed-goes-on κs a x s row p = one-more (Feed (now (a .1 .0))) (now (a .1 .1 .0)) (now (s .1 .1 .0)) x row p
+pub feed-goes-on : {calls : Calls} (κs : Lfts 3) (a : Dens κs feed-kinds.ps) (x : resT feed-kinds.r κs .Denot) (s : AtExit (endedOf 3 feed-kinds.ps feed-kinds.r) κs) → Row calls (whole (a .0) (now (a .1 .0))) → feed.Post κs a x s
+    → Row (calls ▸ record { call = Feed (now (a .1 .1 .0)); room = length (now (a .1 .1 .1 .0)) }) (whole (x .next) (now (s .1 .0)))
+feed-goes-on κs a x s row p = one-more (Feed (now (a .1 .1 .0))) (now (a .1 .1 .1 .0)) (now (s .1 .1 .1 .0)) (fedOf x (now (s .1 .0))) row p
 
-pub close-goes-on : {calls : Calls} (κs : Lfts 1) (a : Dens κs close-kinds.ps) (x : resT close-kinds.r κs .Denot) (s : AtExit (endedOf 1 close-kinds.ps close-kinds.r) κs) → Row calls (a .0) → close.Post κs a x s
-    → Row (calls ▸ record { call = Close; room = length (now (a .1 .0)) }) (x .stream)
-close-goes-on κs a x s row p = one-more Close (now (a .1 .0)) (now (s .1 .0)) x row p
+pub close-goes-on : {calls : Calls} (κs : Lfts 2) (a : Dens κs close-kinds.ps) (x : resT close-kinds.r κs .Denot) (s : AtExit (endedOf 2 close-kinds.ps close-kinds.r) κs) → Row calls (whole (a .0) (now (a .1 .0))) → close.Post κs a x s
+    → Row (calls ▸ record { call = Close; room = length (now (a .1 .1 .0)) }) (whole (x .next) (now (s .1 .0)))
+close-goes-on κs a x s row p = one-more Close (now (a .1 .1 .0)) (now (s .1 .1 .0)) (fedOf x (now (s .1 .0))) row p
 
 -- ---- what a call says it wrote, and what stands in its buffer
 

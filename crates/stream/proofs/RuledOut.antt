@@ -41,6 +41,7 @@ use Rattle.stream_spec.specs.Tally as Tally
 use Rattle.stream_spec.specs.Calls as Calls
 use Rattle.stream_spec.specs.Calls.{Feed, Close, fedPaper, answerTo, nextOf, leaves}
 use Rattle.terms.specs.Verdicts.{verdictNumber}
+use Rattle.stream.specs.Standing.{whole, fedOf}
 use Rattle.stream.proofs.may_take.Reads as may-take
 use Rattle.stream.proofs.may_take.Kinds as may-take-kinds
 use Rattle.stream.proofs.feed.Reads as feed
@@ -106,8 +107,8 @@ may-take-wrong =
     ∷ (moved 18446744073709551600 8192, 16) only answer 13 []  -- 29 before 13
     ∷ []
 
-pub may-take-rules-out : RulesOut (Kept _ may-take-kinds.ps may-take-kinds.r may-take.Post) (λ c. (c .args .0, c .args .1 .0)) (λ c. answer (verdictNumber (c .result)) []) may-take-wrong
-unfolding frameA startOfA frameB checked readOf bodyRead numeral digitsOf laid sum8 sumOf kindOf suits measureOf p001Ok fieldsOk realTime realParts daysIn leap judgeOf viewOf Bits.valueOf Bits.mapOf rotated rangeRules mapRules soundOf Book.ownNumber Book.checkedOf Book.numberTo Book.raised Book.done Book.nextOf Book.fresh bookOf ledgerOf after next found noted joined eachOf Account.accountOf firstHalf secondHalf recordOf blankOf refusalOf seenOf saysOf callsBy offering offerOf madeOf recordBy bookBy accepts refuses
+pub may-take-rules-out : RulesOut (Kept _ may-take-kinds.ps may-take-kinds.r may-take.Post) (λ c. (whole (c .args .0) (now (c .args .1 .0)), c .args .1 .1 .0)) (λ c. answer (verdictNumber (c .result)) []) may-take-wrong
+unfolding frameA startOfA frameB checked readOf bodyRead numeral digitsOf laid sum8 sumOf kindOf suits measureOf p001Ok fieldsOk realTime realParts daysIn leap judgeOf refusalOf viewOf Bits.valueOf Bits.mapOf rotated rangeRules mapRules soundOf Book.ownNumber Book.checkedOf Book.numberTo Book.raised Book.done Book.nextOf Book.fresh bookOf ledgerOf after next found noted joined eachOf Account.accountOf firstHalf secondHalf recordOf blankOf seenOf saysOf callsBy offering offerOf madeOf recordBy bookBy accepts refuses
     opened State.headOf State.isSeeking State.meantBy State.valueOf State.allZero State.waitsRight State.soundOf Tally.tallyWith Tally.recordAt Tally.tallyAfter Tally.ledgerRight Tally.tallyRight Calls.mayTake Calls.givenOf Calls.behindOf Calls.numberFor Calls.answerFor Calls.nextFor Calls.leavesFor Cuts.feedOf Waits.waits Waits.ranOf
 may-take-rules-out = ruled papers (λ (i : Stream × ℕ). answer (Calls.mayTake (i .0) (i .1)) []) (λ c p. ap (λ (n : ℕ). answer n []) p) _ refl
 
@@ -123,13 +124,14 @@ feed-wrong =
     ∷ (opened, (longest ++ A, replicate 128 7)) never (answer 0 (2 ∷ []), (8220 ∷ 0 ∷ 2 ∷ 0 ∷ store [], recordOf behindLongest ++ replicate 64 7))  -- the records of a later piece of a cut laid over the first
     ∷ (opened, (longest ++ A, replicate 128 7)) only (answer 0 (2 ∷ []), (8220 ∷ 0 ∷ 2 ∷ 0 ∷ store [], recordOf longRecord ++ recordOf behindLongest))
     ∷ (opened, (A, replicate 63 7)) only (answer 8 (0 ∷ []), (0 ∷ 0 ∷ 0 ∷ 0 ∷ store [], replicate 63 7))  -- nothing changes beside 8, and no part of the cut is taken
+    ∷ (begun, (drop 20 A, replicate 63 7)) only (answer 8 (0 ∷ []), (0 ∷ 20 ∷ 0 ∷ 0 ∷ store (take 20 A), replicate 63 7))  -- nor laid in the store
     ∷ (closed, (A, replicate 64 7)) only (answer 19 (0 ∷ []), (48 ∷ 0 ∷ 1 ∷ 1 ∷ store [], replicate 64 7))  -- no cut taken behind the closing call
     ∷ (moved 18446744073709551600 0, (take 16 A, replicate 64 7)) only (answer 29 (0 ∷ []), (18446744073709551600 ∷ 0 ∷ 0 ∷ 0 ∷ store [], replicate 64 7))  -- a place past 64 bits
     ∷ (moved 0 8192, (A, replicate 64 7)) only (answer 13 (0 ∷ []), (0 ∷ 8192 ∷ 0 ∷ 0 ∷ store [], replicate 64 7))  -- 8,192 kept bytes pass as sound
     ∷ []
 
-pub feed-rules-out : RulesOut (Kept _ feed-kinds.ps feed-kinds.r feed.Post) (λ c. (c .args .0, (now (c .args .1 .0), now (c .args .1 .1 .0)))) (λ c. shown (fedPaper (c .result)) (c .result .stream) (now (c .exit .1 .1 .0))) feed-wrong
-unfolding frameA startOfA frameB plainOf frameOf checked readOf bodyRead numeral digitsOf laid sum8 sumOf kindOf suits measureOf p001Ok fieldsOk realTime realParts daysIn leap judgeOf viewOf Bits.valueOf Bits.mapOf rotated rangeRules mapRules soundOf Book.ownNumber Book.checkedOf Book.numberTo Book.raised Book.done Book.nextOf Book.fresh bookOf ledgerOf after next found noted joined eachOf Account.accountOf firstHalf secondHalf recordOf blankOf refusalOf seenOf saysOf callsBy offering offerOf madeOf recordBy bookBy accepts refuses
+pub feed-rules-out : RulesOut (Kept _ feed-kinds.ps feed-kinds.r feed.Post) (λ c. (whole (c .args .0) (now (c .args .1 .0)), (now (c .args .1 .1 .0), now (c .args .1 .1 .1 .0)))) (λ c. shown (fedPaper (fedOf (c .result) (now (c .exit .1 .0)))) (whole (c .result .next) (now (c .exit .1 .0))) (now (c .exit .1 .1 .1 .0))) feed-wrong
+unfolding frameA startOfA frameB plainOf frameOf checked readOf bodyRead numeral digitsOf laid sum8 sumOf kindOf suits measureOf p001Ok fieldsOk realTime realParts daysIn leap judgeOf refusalOf viewOf Bits.valueOf Bits.mapOf rotated rangeRules mapRules soundOf Book.ownNumber Book.checkedOf Book.numberTo Book.raised Book.done Book.nextOf Book.fresh bookOf ledgerOf after next found noted joined eachOf Account.accountOf firstHalf secondHalf recordOf blankOf seenOf saysOf callsBy offering offerOf madeOf recordBy bookBy accepts refuses
     opened State.headOf State.isSeeking State.meantBy State.valueOf State.allZero State.waitsRight State.soundOf Tally.tallyWith Tally.recordAt Tally.tallyAfter Tally.ledgerRight Tally.tallyRight Calls.givenOf Calls.behindOf Calls.numberFor Calls.answerFor Calls.nextFor Calls.leavesFor Cuts.feedOf Waits.waits Waits.ranOf
 feed-rules-out =
     ruled (beside papers (beside lists lists)) (λ (i : Stream × (List ℕ × List ℕ)). shown (answerTo (i .0) (Feed (i .1 .0)) (length (i .1 .1))) (nextOf (i .0) (Feed (i .1 .0)) (length (i .1 .1))) (leaves (i .0) (Feed (i .1 .0)) (i .1 .1)))
@@ -146,8 +148,8 @@ close-wrong =
     ∷ (closed, replicate 64 7) only (answer 19 (0 ∷ []), (48 ∷ 0 ∷ 1 ∷ 1 ∷ store [], replicate 64 7))  -- not closed a second time
     ∷ []
 
-pub close-rules-out : RulesOut (Kept _ close-kinds.ps close-kinds.r close.Post) (λ c. (c .args .0, now (c .args .1 .0))) (λ c. shown (fedPaper (c .result)) (c .result .stream) (now (c .exit .1 .0))) close-wrong
-unfolding frameA startOfA frameB checked readOf bodyRead numeral digitsOf laid sum8 sumOf kindOf suits measureOf p001Ok fieldsOk realTime realParts daysIn leap judgeOf viewOf Bits.valueOf Bits.mapOf rotated rangeRules mapRules soundOf Book.ownNumber Book.checkedOf Book.numberTo Book.raised Book.done Book.nextOf Book.fresh bookOf ledgerOf after next found noted joined eachOf Account.accountOf firstHalf secondHalf recordOf blankOf refusalOf seenOf saysOf callsBy offering offerOf madeOf recordBy bookBy accepts refuses
+pub close-rules-out : RulesOut (Kept _ close-kinds.ps close-kinds.r close.Post) (λ c. (whole (c .args .0) (now (c .args .1 .0)), now (c .args .1 .1 .0))) (λ c. shown (fedPaper (fedOf (c .result) (now (c .exit .1 .0)))) (whole (c .result .next) (now (c .exit .1 .0))) (now (c .exit .1 .1 .0))) close-wrong
+unfolding frameA startOfA frameB checked readOf bodyRead numeral digitsOf laid sum8 sumOf kindOf suits measureOf p001Ok fieldsOk realTime realParts daysIn leap judgeOf refusalOf viewOf Bits.valueOf Bits.mapOf rotated rangeRules mapRules soundOf Book.ownNumber Book.checkedOf Book.numberTo Book.raised Book.done Book.nextOf Book.fresh bookOf ledgerOf after next found noted joined eachOf Account.accountOf firstHalf secondHalf recordOf blankOf seenOf saysOf callsBy offering offerOf madeOf recordBy bookBy accepts refuses
     opened State.headOf State.isSeeking State.meantBy State.valueOf State.allZero State.waitsRight State.soundOf Tally.tallyWith Tally.recordAt Tally.tallyAfter Tally.ledgerRight Tally.tallyRight Calls.givenOf Calls.behindOf Calls.numberFor Calls.answerFor Calls.nextFor Calls.leavesFor Cuts.feedOf Waits.waits Waits.ranOf
 close-rules-out =
     ruled (beside papers (beside lists lists)) (λ (i : Stream × List ℕ). shown (answerTo (i .0) Close (length (i .1))) (nextOf (i .0) Close (length (i .1))) (leaves (i .0) Close (i .1)))

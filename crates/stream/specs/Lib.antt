@@ -1,3 +1,5 @@
+pub mod Standing
 pub mod Pieces
 pub mod Pushed
+pub mod StoreLaws
 pub mod PieceLaws

@@ -1,133 +1,149 @@
--- A cut of any size, piece by piece: two pushes are one push of both pieces.
+-- A cut of any size, piece by piece: two pushes are one push of both pieces; and where all that
+-- waits lies in the cut.
 use Prim.Native.Nat.{ℕ, _+_, _-_, _≤_}
 use mathlib.Core.Path.{_≡_, refl, sym, ap, _∙_}
 use mathlib.Core.Bool.{Bool, false}
-use mathlib.Core.List.{List, [], _∷_, _++_, append-nil}
+use mathlib.Core.List.{List, [], _∷_, _++_}
 use native.Mathlib.Omega.{arith}
 use native.Mathlib.Nat.{add-assoc}
-use lib.ListN.{length, take, drop, length-append, length-drop, take-append-drop, drop-of-length-le}
-use lib.Seq.{drop-drop, length-take-le}
+use lib.ListN.{length, take, drop, length-append, length-drop, take-append-drop}
+use lib.Seq.{drop-drop, length-take-le, drop-append-le, drop-at, take-add}
 use Rattle.record.specs.declared.Record.{Record}
+use Rattle.walk_laws.specs.WaitLaws.{modeOf}
+use Rattle.walk_laws.specs.Closing.{waitOf, ran-place, ran-kept}
+use Rattle.walk_laws.specs.Cuts as Cuts
+use Rattle.reading.specs.Seen.{seenOf, saysOf}
 use Rattle.walk_spec.specs.Tables.{notedAt, writtenFrom}
 use Rattle.stream_spec.specs.declared.Stream.{Stream}
+use Rattle.stream_spec.specs.declared.Tally.{Tally}
+use Rattle.stream_spec.specs.State.{headOf, meantBy, soundOf}
+use Rattle.stream_spec.specs.StateLaws.{sound-checked}
+use Rattle.stream_spec.proofs.Rules.{pushed-sound}
+use Rattle.stream_spec.specs.Run.{gotOf, accountedOf, RanIs}
 use Rattle.stream_spec.specs.Calls.{givenOf, behindOf}
+use Rattle.stream_spec.specs.Window.{length-head, given-is, given-written, behind-is}
 use Rattle.stream_spec.specs.CutLaws as Cut
-use Rattle.stream_spec.specs.CutLaws.{given-both, behind-both}
+use Rattle.stream_spec.specs.CutLaws.{given-both, behind-both, meant-fed}
+use Rattle.stream.specs.declared.Ran.{Ran}
+use Rattle.stream.specs.declared.Standing.{Standing}
 use Rattle.stream.specs.declared.Pushed.{Pushed}
-use Rattle.stream.specs.Pushed.{pushedOf}
+use Rattle.stream.specs.Standing.{whole, storeOf, standsBehind, Stored, Fits, Ready}
+use Rattle.stream.specs.Pushed.{PushedIs}
 
 -- TWO PUSHES ARE ONE
-
-pub push-push : (x : Stream) (k : ℕ) (a b : List ℕ) → pushedOf (pushedOf x false k a .stream) false (pushedOf x false k a .count) b ≡ pushedOf x false k (a ++ b)
-unfolding pushedOf
-push-push x k a b =
-    let c = ap length (given-both x a b) ∙ length-append (givenOf x false a) (givenOf (behindOf x false a) false b) in
-    rw (behind-both x a b, c, add-assoc k (length (givenOf x false a)) (length (givenOf (behindOf x false a) false b)))
 
 written-append : (k : ℕ) (a b : List Record) (d : List ℕ) → writtenFrom k (a ++ b) d ≡ writtenFrom (k + length a) b (writtenFrom k a d)
 unfolding writtenFrom
 written-append k [] b d = let e : k + 0 ≡ k = omega arith in rw e
 written-append k (r ∷ a) b d = let e : k + 1 + length a ≡ k + length (r ∷ a) = omega arith in written-append (k + 1) a b (notedAt k r d) ∙ rw e
 
-pub given-given : (x : Stream) (k : ℕ) (a b d : List ℕ) → writtenFrom (pushedOf x false k a .count) (givenOf (pushedOf x false k a .stream) false b) (writtenFrom k (givenOf x false a) d) ≡ writtenFrom k (givenOf x false (a ++ b)) d
-unfolding pushedOf
-given-given x k a b d = sym (rw (given-both x a b) (written-append k (givenOf x false a) (givenOf (behindOf x false a) false b) d))
-
--- HOW FAR A PUSH GETS
-
-pub record Bounds (x : Stream) (closing : Bool) (k : ℕ) (a : List ℕ) : Type 0 where
-  pub few : pushedOf x closing k a .stream .len ≤ 8191
-  pub place : pushedOf x closing k a .stream .place + pushedOf x closing k a .stream .len ≡ x .place + (x .len + length a)
-  pub count : pushedOf x closing k a .count + pushedOf x closing k a .stream .len ≤ k + (x .len + length a)
-  pub counts : x .tally .frames + x .tally .refused ≤ x .place → pushedOf x closing k a .stream .tally .frames + pushedOf x closing k a .stream .tally .refused ≤ pushedOf x closing k a .stream .place
-
-pub bounds : (x : Stream) (closing : Bool) (k : ℕ) (a : List ℕ) → Bounds x closing k a
-unfolding pushedOf
-bounds x closing k a =
-    let b = Cut.bounds x closing a in
-    record { few = b .few; place = b .place; count = omega (arith, b .count); counts = b .counts }
-
-pub bounds-of : (d : Pushed) (x : Stream) (k : ℕ) (a : List ℕ) → d ≡ pushedOf x false k a → (d .stream .place + d .stream .len ≡ x .place + (x .len + length a)) × (d .count + d .stream .len ≤ k + (x .len + length a))
-bounds-of d x k a e = rw e (bounds x false k a .place, bounds x false k a .count)
-
--- THE LOOP
-
-pub record Made (d : Pushed) : Type 0 where
-  pub x : Stream
-  pub k : ℕ
-  pub a : List ℕ
-  pub is : d ≡ pushedOf x false k a
-
-pub record Left (cut out₀ : List ℕ) (at₀ : ℕ) (d₀ : Pushed) (out : List ℕ) (at : ℕ) (d : Pushed) : Type 0 where
-  pub inside : at ≤ length cut
-  pub room : length out ≡ length out₀
-  pub made : Made d
-  pub few : d .stream .len ≤ 8191
-  pub counts : d .stream .tally .frames + d .stream .tally .refused ≤ d .stream .place
-  pub place : d .stream .place + (d .stream .len + (length cut - at)) ≡ d₀ .stream .place + (d₀ .stream .len + (length cut - at₀))
-  pub count : d .count + (d .stream .len + (length cut - at)) ≤ d₀ .count + (d₀ .stream .len + (length cut - at₀))
-  pub same : pushedOf (d .stream) false (d .count) (drop at cut) ≡ pushedOf (d₀ .stream) false (d₀ .count) (drop at₀ cut)
-  pub written : writtenFrom (d .count) (givenOf (d .stream) false (drop at cut)) out ≡ writtenFrom (d₀ .count) (givenOf (d₀ .stream) false (drop at₀ cut)) out₀
-
-pub left-start : (cut out : List ℕ) (at : ℕ) (d : Pushed) (x : Stream) (k : ℕ) (a : List ℕ) → at ≤ length cut → x .tally .frames + x .tally .refused ≤ x .place → d ≡ pushedOf x false k a → Left cut out at d out at d
-left-start cut out at d x k a h c e =
+pub pushed-both : (x : Stream) (k : ℕ) (a b d d₁ d₂ : List ℕ) (y z : Stream) (i j : ℕ) → PushedIs x false k a d d₁ y i → PushedIs y false i b d₁ d₂ z j → PushedIs x false k (a ++ b) d d₂ z j
+pushed-both x k a b d d₁ d₂ y z i j p q =
+    let g = given-both x a b in
+    let c = ap length g ∙ length-append (givenOf x false a) (givenOf (behindOf x false a) false b) in
     record {
-      inside = h;
-      room = refl;
-      made = record { x = x; k = k; a = a; is = e };
-      few = rw e (bounds x false k a .few);
-      counts = rw e (bounds x false k a .counts c);
-      place = refl;
-      count = omega arith;
-      same = refl;
-      written = refl;
+      stream = q .stream ∙ rw (p .stream, behind-both x a b);
+      counted = q .counted ∙ rw (p .counted, p .stream, c, add-assoc k (length (givenOf x false a)) (length (givenOf (behindOf x false a) false b)));
+      written = q .written ∙ rw (p .counted, p .stream, p .written, g, written-append k (givenOf x false a) (givenOf (behindOf x false a) false b) d);
     }
 
-part-of : (at e : ℕ) (cut : List ℕ) → at ≤ e → e ≤ length cut → take (e - at) (drop at cut) ++ drop e cut ≡ drop at cut
-part-of at e cut h k = let q : at + (e - at) ≡ e = omega arith in let r = take-append-drop (e - at) (drop at cut) in rw (drop-drop, q) at r
+-- the pieces of a cut, one behind the other
+part-of : (at e : ℕ) (cut : List ℕ) → at ≤ e → take at cut ++ take (e - at) (drop at cut) ≡ take e cut
+part-of at e cut h = let q : at + (e - at) ≡ e = omega arith in sym (take-add at (e - at) cut) ∙ rw q
 
-pub left-step : (cut out₀ : List ℕ) (at₀ : ℕ) (d₀ : Pushed) (out out′ : List ℕ) (at e : ℕ) (d d′ : Pushed) → Left cut out₀ at₀ d₀ out at d → at ≤ e → e ≤ length cut
-    → d′ ≡ pushedOf (d .stream) false (d .count) (take (e - at) (drop at cut)) → out′ ≡ writtenFrom (d .count) (givenOf (d .stream) false (take (e - at) (drop at cut))) out → length out′ ≡ length out
-    → Left cut out₀ at₀ d₀ out′ e d′
-left-step cut out₀ at₀ d₀ out out′ at e d d′ z h k p q r =
-    let b = bounds (d .stream) false (d .count) (take (e - at) (drop at cut)) in
-    let l = length-take-le (e - at) (drop at cut) (rw length-drop (omega arith)) in
+pushed-on : (x : Stream) (at e : ℕ) (cut d d₁ d₂ : List ℕ) (y z : Stream) (i j : ℕ) → at ≤ e → PushedIs x false 0 (take at cut) d d₁ y i → PushedIs y false i (take (e - at) (drop at cut)) d₁ d₂ z j → PushedIs x false 0 (take e cut) d d₂ z j
+pushed-on x at e cut d d₁ d₂ y z i j h p q = rw (part-of at e cut h) at (pushed-both x 0 (take at cut) (take (e - at) (drop at cut)) d d₁ d₂ y z i j p q)
+
+pub pushed-rest : (x : Stream) (at : ℕ) (cut d d₁ d₂ : List ℕ) (y z : Stream) (i j : ℕ) → PushedIs x false 0 (take at cut) d d₁ y i → PushedIs y false i (drop at cut) d₁ d₂ z j → PushedIs x false 0 cut d d₂ z j
+pushed-rest x at cut d d₁ d₂ y z i j p q = rw (take-append-drop at cut) at (pushed-both x 0 (take at cut) (drop at cut) d d₁ d₂ y z i j p q)
+
+-- WHERE ALL THAT WAITS LIES IN THE CUT, it and what follows are the cut from there on
+
+module _ (x : Stream) (a : List ℕ) where
+  abbrev y : Stream
+  y = behindOf x false a
+
+  abbrev w : List ℕ
+  w = headOf (x .len) (x .kept) ++ a
+
+  kept-is : headOf (y .len) (y .kept) ≡ gotOf (x .place) (x .seeking) false w .kept
+  unfolding behindOf meantBy Cuts.feedOf
+  kept-is = ap (λ (s : Cuts.Stream Tally). s .kept) (meant-fed x a)
+
+  place-is : y .place ≡ gotOf (x .place) (x .seeking) false w .place
+  unfolding behindOf meantBy Cuts.feedOf
+  place-is = ap (λ (s : Cuts.Stream Tally). s .place) (meant-fed x a)
+
+  drop-behind : (h t : List ℕ) (i : ℕ) → drop (length h + i) (h ++ t) ≡ drop i t
+  drop-behind h t i = sym (drop-drop i (length h) (h ++ t)) ∙ ap (drop i) (drop-at h t (length h) refl)
+
+  kept-rest : y .len ≤ length a → headOf (y .len) (y .kept) ≡ drop (length a - y .len) a
+  kept-rest few =
+      let b = Cut.bounds x false a in
+      let at = waitOf seenOf saysOf (modeOf (x .seeking)) (x .place) w in
+      let p : y .place ≡ at = place-is ∙ ran-place seenOf saysOf (modeOf (x .seeking)) (x .place) w in
+      let l = length-head (x .len) (x .kept) in
+      let q : at - x .place ≡ length (headOf (x .len) (x .kept)) + (length a - y .len) = omega (arith, p, b .place, l, few) in
+      kept-is ∙ ran-kept seenOf saysOf (modeOf (x .seeking)) (x .place) w ∙ ap (λ (i : ℕ). drop i w) q ∙ drop-behind (headOf (x .len) (x .kept)) a (length a - y .len)
+
+pub lies-in : (x : Stream) (n : ℕ) (cut : List ℕ) (y : Stream) → y ≡ behindOf x false (take n cut) → n ≤ length cut → y .len ≤ n → drop (n - y .len) cut ≡ headOf (y .len) (y .kept) ++ drop n cut
+lies-in x n cut y e long few =
+    let l : length (take n cut) ≡ n = length-take-le n cut long in
+    let k : headOf (y .len) (y .kept) ≡ drop (n - y .len) (take n cut) = rw e (rw l at (kept-rest x (take n cut) (omega (arith, l, few, ap (λ (s : Stream). s .len) e)))) in
+    ap (drop (n - y .len)) (sym (take-append-drop n cut))
+    ∙ drop-append-le (n - y .len) (take n cut) (drop n cut) (omega (arith, l))
+    ∙ ap (λ (s : List ℕ). s ++ drop n cut) (sym k)
+
+-- A RUN IS A PUSH
+
+-- a run over the bytes that wait and the cut, with what it leaves in front of zeros
+pub run-pushed : (st : Standing) (kept : List ℕ) (closing : Bool) (cut w : List ℕ) → w ≡ headOf (st .len) kept ++ cut → (k : ℕ) (r : Ran) (d d′ next : List ℕ) (n : ℕ)
+    → (RanIs w (st .place) (st .seeking) closing (st .tally) k (r .at) (r .seeking) (r .count) (r .tally)) × (d′ ≡ writtenFrom k (accountedOf (st .place) (st .seeking) closing (st .tally) w .records) d)
+    → next ≡ storeOf 8191 (drop (r .at) w) → n ≡ length w
+    → PushedIs (whole st kept) closing k cut d d′ (whole (standsBehind st r n closing) next) (r .count)
+run-pushed st kept closing cut w e k r d d′ next n z f g =
+    let x = whole st kept in
+    record {
+      stream = behind-is x closing cut w e k (r .at) (r .seeking) (r .count) (r .tally) next (n - r .at) (z .0) f (rw g (sym (length-drop (r .at) w)));
+      counted = z .0 .counted ∙ rw (given-is x closing cut w e);
+      written = given-written x closing cut w e k d d′ (z .1);
+    }
+
+-- WHERE A STREAM STANDS that keeps the rules
+
+pub ready-stands : (st : Standing) (kept : List ℕ) (m : ℕ) → Ready st kept m → Stored st kept × ((n : ℕ) → n ≤ st .len + m → Fits st n 0)
+ready-stands st kept m r =
+    let c = sound-checked (whole st kept) (r .sound) in
+    (record { size = r .size; few = c .few; blank = c .blank }, λ n h. record { places = omega (arith, r .fits); records = omega (arith, r .fits); counts = c .counts })
+
+-- and behind a part of a cut
+pub pushed-stands : (st : Standing) (kept cut : List ℕ) (at : ℕ) (d d′ : List ℕ) (next : Standing) (store : List ℕ) (count : ℕ) → Ready st kept (length cut) → at ≤ length cut → length store ≡ 8191
+    → PushedIs (whole st kept) false 0 (take at cut) d d′ (whole next store) count → Stored next store × ((n : ℕ) → n ≤ next .len + (length cut - at) → Fits next n count)
+pushed-stands st kept cut at d d′ next store count r h l p =
+    let x = whole st kept in
+    let a = take at cut in
+    let m : length a ≡ at = length-take-le at cut h in
+    let b = Cut.bounds x false a in
+    let place : next .place + next .len ≡ st .place + (st .len + length a) = ap (λ (y : Stream). y .place + y .len) (p .stream) ∙ b .place in
+    let counted : count + next .len ≤ st .len + length a = rw (p .counted, ap (λ (y : Stream). y .len) (p .stream)) (omega (arith, b .count)) in
+    let c = sound-checked (whole next store) (ap soundOf (p .stream) ∙ pushed-sound x false a (r .sound) (omega (arith, m, r .fits))) in
+    (record { size = l; few = c .few; blank = c .blank }, λ n k. record { places = omega (arith, place, m, r .fits); records = omega (arith, counted, m, r .fits); counts = c .counts })
+
+-- THE LOOP: whatever stream and buffer the pieces before it came of, those so far came of them too
+
+pub record Onward (cut out₀ kept₀ : List ℕ) (at₀ : ℕ) (d₀ : Pushed) (out kept : List ℕ) (at : ℕ) (d : Pushed) : Type 0 where
+  pub inside : at ≤ length cut
+  pub room : length out ≡ length out₀
+  pub size : length kept ≡ length kept₀
+  pub goes : (x : Stream) (o : List ℕ) → PushedIs x false 0 (take at₀ cut) o out₀ (whole (d₀ .next) kept₀) (d₀ .count) → PushedIs x false 0 (take at cut) o out (whole (d .next) kept) (d .count)
+
+pub onward-step : (cut out₀ kept₀ : List ℕ) (at₀ : ℕ) (d₀ : Pushed) (out kept : List ℕ) (at : ℕ) (d : Pushed) (out′ kept′ : List ℕ) (e : ℕ) (d′ : Pushed) → Onward cut out₀ kept₀ at₀ d₀ out kept at d → at ≤ e → e ≤ length cut
+    → PushedIs (whole (d .next) kept) false (d .count) (take (e - at) (drop at cut)) out out′ (whole (d′ .next) kept′) (d′ .count) → length out′ ≡ length out → length kept′ ≡ length kept
+    → Onward cut out₀ kept₀ at₀ d₀ out′ kept′ e d′
+onward-step cut out₀ kept₀ at₀ d₀ out kept at d out′ kept′ e d′ z h k p r s =
     record {
       inside = k;
       room = r ∙ z .room;
-      made = record { x = d .stream; k = d .count; a = take (e - at) (drop at cut); is = p };
-      few = rw p (b .few);
-      counts = rw p (b .counts (z .counts));
-      place = rw p (omega (arith, b .place, l, z .place));
-      count = rw p (omega (arith, b .count, l, z .count));
-      same = rw p (push-push (d .stream) (d .count) (take (e - at) (drop at cut)) (drop e cut) ∙ rw (part-of at e cut h k) (z .same));
-      written = rw (p, q) (given-given (d .stream) (d .count) (take (e - at) (drop at cut)) (drop e cut) out ∙ rw (part-of at e cut h k) (z .written));
+      size = s ∙ z .size;
+      goes = λ x o q. pushed-on x at e cut o out out′ (whole (d .next) kept) (whole (d′ .next) kept′) (d .count) (d′ .count) h (z .goes x o q) p;
     }
-
--- a push of nothing behind a push does nothing
-push-none : (d : Pushed) → Made d → pushedOf (d .stream) false (d .count) [] ≡ d
-push-none d m = rw (m .is) (push-push (m .x) (m .k) (m .a) [] ∙ rw append-nil)
-
-none-if : (l : List Record) → length l ≡ 0 → l ≡ []
-none-if [] e = refl
-none-if (x ∷ l) e = absurd (omega arith)
-
-count-of : (x : Stream) (k : ℕ) (a : List ℕ) → pushedOf x false k a .count ≡ k + length (givenOf x false a)
-unfolding pushedOf
-count-of x k a = refl
-
-given-none : (d : Pushed) → Made d → givenOf (d .stream) false [] ≡ []
-given-none d m =
-    let c = ap (λ (y : Pushed). y .count) (push-none d m) in
-    none-if _ (omega (arith, c, count-of (d .stream) (d .count) []))
-
-pub left-end : (cut out₀ : List ℕ) (at₀ : ℕ) (d₀ : Pushed) (out : List ℕ) (at : ℕ) (d : Pushed) (st : Stream) (o : List ℕ) → Left cut out₀ at₀ d₀ out at d → length cut ≤ at
-    → d₀ ≡ pushedOf st false 0 (take at₀ cut) → out₀ ≡ writtenFrom 0 (givenOf st false (take at₀ cut)) o → (d ≡ pushedOf st false 0 cut) × (out ≡ writtenFrom 0 (givenOf st false cut) o)
-unfolding writtenFrom
-left-end cut out₀ at₀ d₀ out at d st o z h p q =
-    let n = drop-of-length-le cut h in
-    let s = rw (n, push-none d (z .made)) at (z .same) in
-    let w = rw (n, given-none d (z .made)) at (z .written) in (
-      s ∙ rw (p, push-push st 0 (take at₀ cut) (drop at₀ cut), take-append-drop at₀ cut),
-      w ∙ rw (q, p, given-given st 0 (take at₀ cut) (drop at₀ cut) o, take-append-drop at₀ cut),
-    )

@@ -2,9 +2,10 @@
 // the closed walk's, however the bytes are cut.
 ghost use mathlib.Core.Path.{_≡_};
 ghost use mathlib.Core.Bool.{true, false};
-ghost use Prim.Native.Nat.{_+_, _-_, _*_, _/_, _≤_, _<_, _^_};
+ghost use mathlib.Core.List.{List, _++_};
+ghost use Prim.Native.Nat.{ℕ, _+_, _-_, _*_, _/_, _≤_, _<_, _^_};
 ghost use lib.Dec.{leb};
-ghost use lib.ListN.{length, drop};
+ghost use lib.ListN.{length, take, drop, replicate};
 ghost use Rattle.octets.specs.Octets.{laid};
 ghost use Rattle.walk_spec.specs.Tables.{writtenFrom};
 ghost use Rattle.stream_spec.specs.Tally.{tallyWith, tallyRight, ledgerRight};
@@ -13,15 +14,31 @@ ghost use Rattle.stream_spec.specs.Run.{waitsAt, passedOver, strideOf, accounte
 ghost use Rattle.stream_spec.specs.Calls.{Feed, Close, mayTake, givenOf, answerFor, nextFor, leavesFor, answerTo, nextOf, leaves, fedPaper, refusedBy};
 ghost use Rattle.terms.specs.Verdicts.{verdictNumber};
 ghost use Rattle.stream.specs.Pieces.{Piece};
-ghost use Rattle.stream.specs.Pushed.{pushedOf};
+ghost use Rattle.stream.specs.Standing.{whole, fedOf, storeOf, standsBehind, Stored, Fits, Ready};
+ghost use Rattle.stream.specs.Pushed.{PushedIs};
 use ledger::Answer;
 use ledger::Ledger;
 use reading::Seen;
-use stream_spec::Fed;
-use stream_spec::Stream;
 use stream_spec::Tally;
 use terms::Refusal;
 use terms::Verdict;
+
+// What stands between two calls but for the bytes that wait: those stand at the front of a store of
+// 8,191 bytes, which is lent to each call. The fields are those of a stream.
+pub struct Standing {
+    pub place: u64,
+    pub seeking: bool,
+    pub closed: bool,
+    pub len: usize,
+    pub tally: Tally,
+}
+
+// How many records a call gave, 0 beside a refusal; and how the stream stands after it.
+pub struct Answered {
+    pub answer: Verdict,
+    pub records: usize,
+    pub next: Standing,
+}
 
 // How far a run over a window of bytes got: the place in it where it stopped, and what it had
 // made by then.
@@ -33,7 +50,7 @@ struct Ran {
 }
 
 struct Pushed {
-    stream: Stream,
+    next: Standing,
     count: usize,
 }
 
@@ -124,82 +141,193 @@ fn run(
     }
 }
 
-// The first n kept bytes at the front of a window.
-fn hold(w: &mut [u8], kept: &[u8; 8191], n: usize)
-    requires { ⌜ (n ≤ 8191) × (8191 ≤ length (now w)) ⌝ }
-    ensures { λ _. ⌜ now (w .exit) ≡ laid 0 (headOf n (now (kept .entry))) (now (w .entry)) ⌝ }
+// How a stream stands behind a run over a window of n bytes.
+fn behind(st: Standing, ran: Ran, n: usize, closing: bool) -> Standing
+    requires { ⌜ (ran .at ≤ n) × (st .place + n < 2 ^ 64) ⌝ }
+    ensures { λ r. ⌜ r ≡ standsBehind st ran n closing ⌝ }
 {
-    let mut i: usize = 0;
-    while i < n {
-        w[i] = kept[i];
+    let tally = ran.tally;
+    Standing {
+        place: st.place + ran.at as u64,
+        seeking: ran.seeking,
+        closed: closing,
+        len: n - ran.at,
+        tally,
+    }
+}
+
+// Bytes a to e become 0.
+fn clear(w: &mut [u8], a: usize, e: usize)
+    requires { ⌜ (a ≤ e) × (e ≤ length (now w)) ⌝ }
+    ensures { λ _. ⌜ now (w .exit) ≡ laid a (replicate (e - a) 0) (now (w .entry)) ⌝ }
+{
+    let mut i = a;
+    while i < e {
+        w[i] = 0;
         i += 1;
     }
 }
 
-// One piece of a cut, through a window that holds the kept bytes and the piece.
-fn push(st: Stream, piece: &[u8], closing: bool, k: usize, out: &mut [u8]) -> Pushed
-    requires { ⌜ (st .len ≤ 8191) × ((length (now piece) ≤ 8192) × ((st .place + (st .len + length (now piece)) < 2 ^ 64) × ((k + (st .len + length (now piece)) < 2 ^ 64) × (st .tally .frames + st .tally .refused ≤ st .place)))) ⌝ }
-    ensures { λ r. ⌜ (r ≡ pushedOf st closing k (now (piece .entry))) × (now (out .exit) ≡ writtenFrom k (givenOf st closing (now (piece .entry))) (now (out .entry))) ⌝ }
+// The m bytes from a on, moved to the front.
+fn down(w: &mut [u8], a: usize, m: usize)
+    requires { ⌜ a + m ≤ length (now w) ⌝ }
+    ensures { λ _. ⌜ now (w .exit) ≡ laid 0 (take m (drop a (now (w .entry)))) (now (w .entry)) ⌝ }
 {
-    let n = st.len;
-    let held = st.kept;
-    let tally = st.tally;
-    let mut w: [u8; 16384] = [0; 16384];
-    hold(&mut w, &held, n);
-    octets::lay(&mut w, n, piece);
-    let e = n + piece.len();
-    let r = run(&w[..e], st.place, st.seeking, closing, tally, k, out);
-    let a = r.at;
-    let mut next: [u8; 8191] = [0; 8191];
-    octets::lay(&mut next, 0, &w[a..e]);
-    let t = r.tally;
-    let s = Stream {
-        place: st.place + a as u64,
-        seeking: r.seeking,
-        closed: closing,
-        len: e - a,
-        kept: next,
-        tally: t,
-    };
-    Pushed {
-        stream: s,
-        count: r.count,
+    let mut i: usize = 0;
+    while i < m {
+        w[i] = w[a + i];
+        i += 1;
     }
 }
 
-// The end of the piece that begins at a place of a cut of n bytes.
-fn piece_end(at: usize, n: usize) -> usize
-    requires { ⌜ at ≤ n ⌝ }
-    ensures { λ r. ⌜ Piece at n r ⌝ }
+// Of a store that is blank from e on, the bytes from a to e are kept: they move to the front.
+fn shift(kept: &mut [u8], a: usize, e: usize)
+    requires { ⌜ (a ≤ e) × ((e ≤ length (now kept)) × (allZero (drop e (now kept)) ≡ true)) ⌝ }
+    ensures { λ _. ⌜ now (kept .exit) ≡ storeOf (length (now (kept .entry))) (drop a (take e (now (kept .entry)))) ⌝ }
 {
-    if n - at <= 8192 { n } else { at + 8192 }
+    if 0 < a {
+        down(kept, a, e - a);
+        clear(kept, e - a, e);
+    }
 }
 
-// A cut of any size, piece by piece.
-fn pour(st: Stream, cut: &[u8], out: &mut [u8]) -> Pushed
-    requires { ⌜ (st .len ≤ 8191) × ((st .place + (st .len + length (now cut)) < 2 ^ 64) × (st .tally .frames + st .tally .refused ≤ st .place)) ⌝ }
-    ensures { λ r. ⌜ (r ≡ pushedOf st false 0 (now (cut .entry))) × (now (out .exit) ≡ writtenFrom 0 (givenOf st false (now (cut .entry))) (now (out .entry))) ⌝ }
+// In a store that is blank from n on, these bytes are kept in place of those before.
+fn keep(kept: &mut [u8], n: usize, rest: &[u8])
+    requires { ⌜ (n ≤ length (now kept)) × ((allZero (drop n (now kept)) ≡ true) × (length (now rest) ≤ length (now kept))) ⌝ }
+    ensures { λ _. ⌜ now (kept .exit) ≡ storeOf (length (now (kept .entry))) (now (rest .entry)) ⌝ }
 {
-    let mut at = piece_end(0, cut.len());
-    let mut done = push(st, &cut[..at], false, 0, out);
+    clear(kept, 0, n);
+    octets::lay(kept, 0, rest);
+}
+
+// A run over bytes that do not stand in the store: those that wait, and what came behind them.
+fn over(st: Standing, kept: &mut [u8], w: &[u8], k: usize, out: &mut [u8]) -> Pushed
+    requires { ⌜ Stored st (now kept) × Fits st (length (now w)) k ⌝ }
+    ensures { λ r. ⌜ ((cut : List ℕ) → now (w .entry) ≡ headOf (st .len) (now (kept .entry)) ++ cut → PushedIs (whole st (now (kept .entry))) false k cut (now (out .entry)) (now (out .exit)) (whole (r .next) (now (kept .exit))) (r .count)) ⌝ }
+{
+    let tally = st.tally;
+    let ran = run(w, st.place, st.seeking, false, tally, k, out);
+    let a = ran.at;
+    keep(kept, st.len, &w[a..]);
+    let next = behind(st, ran, w.len(), false);
+    Pushed {
+        next,
+        count: ran.count,
+    }
+}
+
+// A piece that the store takes, laid there behind the bytes that wait.
+fn push(
+    st: Standing,
+    kept: &mut [u8],
+    piece: &[u8],
+    closing: bool,
+    k: usize,
+    out: &mut [u8],
+) -> Pushed
+    requires { ⌜ Stored st (now kept) × ((st .len + length (now piece) ≤ 8191) × Fits st (st .len + length (now piece)) k) ⌝ }
+    ensures { λ r. ⌜ PushedIs (whole st (now (kept .entry))) closing k (now (piece .entry)) (now (out .entry)) (now (out .exit)) (whole (r .next) (now (kept .exit))) (r .count) ⌝ }
+{
+    let n = st.len;
+    let tally = st.tally;
+    octets::lay(kept, n, piece);
+    let e = n + piece.len();
+    let ran = run(&kept[..e], st.place, st.seeking, closing, tally, k, out);
+    shift(kept, ran.at, e);
+    let next = behind(st, ran, e, closing);
+    Pushed {
+        next,
+        count: ran.count,
+    }
+}
+
+// A piece that the store does not take, in a window behind the bytes that wait.
+fn push_wide(st: Standing, kept: &mut [u8], piece: &[u8], k: usize, out: &mut [u8]) -> Pushed
+    requires { ⌜ Stored st (now kept) × ((length (now piece) ≤ 8192) × Fits st (st .len + length (now piece)) k) ⌝ }
+    ensures { λ r. ⌜ PushedIs (whole st (now (kept .entry))) false k (now (piece .entry)) (now (out .entry)) (now (out .exit)) (whole (r .next) (now (kept .exit))) (r .count) ⌝ }
+{
+    let n = st.len;
+    let mut w: [u8; 16384] = [0; 16384];
+    octets::lay(&mut w, 0, &kept[..n]);
+    octets::lay(&mut w, n, piece);
+    let e = n + piece.len();
+    over(st, kept, &w[..e], k, out)
+}
+
+// A piece of a cut, wherever it has room.
+fn push_any(st: Standing, kept: &mut [u8], piece: &[u8], k: usize, out: &mut [u8]) -> Pushed
+    requires { ⌜ Stored st (now kept) × ((length (now piece) ≤ 8192) × Fits st (st .len + length (now piece)) k) ⌝ }
+    ensures { λ r. ⌜ PushedIs (whole st (now (kept .entry))) false k (now (piece .entry)) (now (out .entry)) (now (out .exit)) (whole (r .next) (now (kept .exit))) (r .count) ⌝ }
+{
+    if st.len + piece.len() <= 8191 {
+        return push(st, kept, piece, false, k, out);
+    }
+    push_wide(st, kept, piece, k, out)
+}
+
+// How many bytes more to look at where n wait: those that their frame lacks; 64 where its header
+// is not there yet; as many as a window takes where the search is under way, since one place
+// after the other may wait; none where no byte waits.
+fn lacks(kept: &[u8], n: usize, seeking: bool) -> usize
+    requires { ⌜ n ≤ 8191 ⌝ }
+    ensures { λ r. ⌜ (r ≤ 8192) × (0 < n → 0 < r) ⌝ }
+{
+    if n == 0 {
+        return 0;
+    }
+    if n < 24 {
+        return 64;
+    }
+    if seeking {
+        return 8192;
+    }
+    let size = octets::u32_at(kept, 20) as usize;
+    if size <= 8164 {
+        if n < 28 + size {
+            return 28 + size - n;
+        }
+    }
+    1
+}
+
+// The end of a piece of m bytes that begins at a place of a cut of n bytes.
+fn piece_end(at: usize, m: usize, n: usize) -> usize
+    requires { ⌜ at ≤ n ⌝ }
+    ensures { λ r. ⌜ Piece at m n r ⌝ }
+{
+    if n - at <= m { n } else { at + m }
+}
+
+// A cut of any size: first the bytes that those that wait lack, piece by piece. Where all that
+// waits lies in the cut itself, the rest of it is walked where it stands.
+fn pour(st: Standing, kept: &mut [u8], cut: &[u8], out: &mut [u8]) -> Pushed
+    requires { ⌜ Ready st (now kept) (length (now cut)) ⌝ }
+    ensures { λ r. ⌜ PushedIs (whole st (now (kept .entry))) false 0 (now (cut .entry)) (now (out .entry)) (now (out .exit)) (whole (r .next) (now (kept .exit))) (r .count) ⌝ }
+{
+    let mut at = piece_end(0, lacks(kept, st.len, st.seeking), cut.len());
+    let mut done = push_any(st, kept, &cut[..at], 0, out);
     while at < cut.len() {
-        let e = piece_end(at, cut.len());
-        let x = done.stream;
-        done = push(x, &cut[at..e], false, done.count, out);
+        let next = done.next;
+        let n = next.len;
+        if n <= at {
+            return over(next, kept, &cut[at - n..], done.count, out);
+        }
+        let e = piece_end(at, lacks(kept, n, next.seeking), cut.len());
+        done = push_any(next, kept, &cut[at..e], done.count, out);
         at = e;
     }
     done
 }
 
 // A cut, or what remains at the closing call.
-fn drawn(st: Stream, cut: &[u8], closing: bool, out: &mut [u8]) -> Pushed
-    requires { ⌜ (closing ≡ true → length (now cut) ≤ 8192) × ((st .len ≤ 8191) × ((st .place + (st .len + length (now cut)) < 2 ^ 64) × (st .tally .frames + st .tally .refused ≤ st .place))) ⌝ }
-    ensures { λ r. ⌜ (r ≡ pushedOf st closing 0 (now (cut .entry))) × (now (out .exit) ≡ writtenFrom 0 (givenOf st closing (now (cut .entry))) (now (out .entry))) ⌝ }
+fn drawn(st: Standing, kept: &mut [u8], cut: &[u8], closing: bool, out: &mut [u8]) -> Pushed
+    requires { ⌜ (closing ≡ true → length (now cut) ≡ 0) × Ready st (now kept) (length (now cut)) ⌝ }
+    ensures { λ r. ⌜ PushedIs (whole st (now (kept .entry))) closing 0 (now (cut .entry)) (now (out .entry)) (now (out .exit)) (whole (r .next) (now (kept .exit))) (r .count) ⌝ }
 {
     if closing {
-        return push(st, cut, true, 0, out);
+        return push(st, kept, cut, true, 0, out);
     }
-    pour(st, cut, out)
+    pour(st, kept, cut, out)
 }
 
 // Whether the places of n and then m bytes from place on stay in 64 bits.
@@ -213,17 +341,17 @@ fn fits(place: u64, n: usize, m: usize) -> bool
     m as u64 <= room - n as u64
 }
 
-// Whether all bytes from a place on are 0.
+// Whether all bytes from a place on are 0. All of them in one: the compiler takes 16 at a time.
 fn blank_from(s: &[u8], from: usize) -> bool
     ensures { λ r. ⌜ r ≡ allZero (drop from (now (s .entry))) ⌝ }
 {
     let mut i = from;
-    let mut blank = true;
+    let mut all: u8 = 0;
     while i < s.len() {
-        blank = blank & (s[i] == 0);
+        all = all | s[i];
         i += 1;
     }
-    blank
+    all == 0
 }
 
 // Whether the ledger is sound and of channel 100.
@@ -257,16 +385,16 @@ fn tally_right(tally: Tally, place: u64) -> bool
 }
 
 // Whether the state rules hold.
-fn sound(st: Stream) -> bool
-    ensures { λ r. ⌜ r ≡ soundOf st ⌝ }
+fn sound(st: Standing, kept: &[u8]) -> bool
+    requires { ⌜ length (now kept) ≡ 8191 ⌝ }
+    ensures { λ r. ⌜ r ≡ soundOf (whole st (now (kept .entry))) ⌝ }
 {
     let n = st.len;
-    let held = st.kept;
     let tally = st.tally;
     if 8191 < n {
         return false;
     }
-    if !blank_from(&held, n) {
+    if !blank_from(kept, n) {
         return false;
     }
     if !tally_right(tally, st.place) {
@@ -281,16 +409,16 @@ fn sound(st: Stream) -> bool
     if st.closed {
         return false;
     }
-    let seen = reading::see(&held[..n], 0);
+    let seen = reading::see(&kept[..n], 0);
     let verdict = seen.answer;
     verdict.number() == 1
 }
 
 // What goes before the room of a call that brings so many bytes: 13, 19, 29, or nothing.
-pub fn may_take(st: Stream, more: usize) -> Verdict
-    ensures { λ r. ⌜ verdictNumber r ≡ mayTake st more ⌝ }
+pub fn may_take(st: Standing, kept: &[u8; 8191], more: usize) -> Verdict
+    ensures { λ r. ⌜ verdictNumber r ≡ mayTake (whole st (now (kept .entry))) more ⌝ }
 {
-    if !sound(st) {
+    if !sound(st, kept) {
         return Verdict::Refused(Refusal::State);
     }
     if st.closed {
@@ -303,13 +431,13 @@ pub fn may_take(st: Stream, more: usize) -> Verdict
 }
 
 // A refusal: the stream as it was.
-fn refused(st: Stream, why: Refusal) -> Fed
-    ensures { λ r. ⌜ r ≡ refusedBy st why ⌝ }
+fn refused(st: Standing, why: Refusal) -> Answered
+    ensures { λ r. ⌜ ((kept : List ℕ) → fedOf r kept ≡ refusedBy (whole st kept) why) ⌝ }
 {
-    Fed {
+    Answered {
         answer: Verdict::Refused(why),
         records: 0,
-        stream: st,
+        next: st,
     }
 }
 
@@ -322,28 +450,30 @@ fn roomy(kept: usize, more: usize, room: usize) -> bool
 }
 
 // Whether so much room takes the records of a call. Where it may not, they are counted in a pass
-// that writes nothing.
-fn takes_all(st: Stream, cut: &[u8], closing: bool, room: usize) -> bool
-    requires { ⌜ (closing ≡ true → length (now cut) ≤ 8192) × ((st .len ≤ 8191) × ((st .place + (st .len + length (now cut)) < 2 ^ 64) × (st .tally .frames + st .tally .refused ≤ st .place))) ⌝ }
-    ensures { λ r. ⌜ r ≡ leb (length (givenOf st closing (now (cut .entry)))) (room / 64) ⌝ }
+// over a copy of the store, which writes nothing.
+fn takes_all(st: Standing, kept: &[u8], cut: &[u8], closing: bool, room: usize) -> bool
+    requires { ⌜ (closing ≡ true → length (now cut) ≡ 0) × Ready st (now kept) (length (now cut)) ⌝ }
+    ensures { λ r. ⌜ r ≡ leb (length (givenOf (whole st (now (kept .entry))) closing (now (cut .entry)))) (room / 64) ⌝ }
 {
     if roomy(st.len, cut.len(), room) {
         return true;
     }
+    let mut spare: [u8; 8191] = [0; 8191];
+    octets::lay(&mut spare, 0, kept);
     let mut none: [u8; 1] = [0; 1];
-    let counted = drawn(st, cut, closing, &mut none);
+    let counted = drawn(st, &mut spare, cut, closing, &mut none);
     counted.count <= room / 64
 }
 
 // One call: 13, 19, 29, 8, or its records. Whether they fit is known before the first is written,
 // so a refusal writes nothing.
-fn call(st: Stream, cut: &[u8], closing: bool, records: &mut [u8]) -> Fed
-    requires { ⌜ (closing ≡ true → length (now cut) ≤ 8192) ⌝ }
-    ensures { λ r. ⌜ (fedPaper r ≡ answerFor st closing (now (cut .entry)) (length (now (records .entry))))
-        × ((r .stream ≡ nextFor st closing (now (cut .entry)) (length (now (records .entry))))
-        × (now (records .exit) ≡ leavesFor st closing (now (cut .entry)) (now (records .entry)))) ⌝ }
+fn call(st: Standing, kept: &mut [u8], cut: &[u8], closing: bool, records: &mut [u8]) -> Answered
+    requires { ⌜ (length (now kept) ≡ 8191) × (closing ≡ true → length (now cut) ≡ 0) ⌝ }
+    ensures { λ r. ⌜ (fedPaper (fedOf r (now (kept .exit))) ≡ answerFor (whole st (now (kept .entry))) closing (now (cut .entry)) (length (now (records .entry))))
+        × ((fedOf r (now (kept .exit)) .stream ≡ nextFor (whole st (now (kept .entry))) closing (now (cut .entry)) (length (now (records .entry))))
+        × (now (records .exit) ≡ leavesFor (whole st (now (kept .entry))) closing (now (cut .entry)) (now (records .entry)))) ⌝ }
 {
-    if !sound(st) {
+    if !sound(st, kept) {
         return refused(st, Refusal::State);
     }
     if st.closed {
@@ -352,33 +482,33 @@ fn call(st: Stream, cut: &[u8], closing: bool, records: &mut [u8]) -> Fed
     if !fits(st.place, st.len, cut.len()) {
         return refused(st, Refusal::Places);
     }
-    if !takes_all(st, cut, closing, records.len()) {
+    if !takes_all(st, kept, cut, closing, records.len()) {
         return refused(st, Refusal::Room);
     }
-    let done = drawn(st, cut, closing, records);
-    let next = done.stream;
-    Fed {
+    let done = drawn(st, kept, cut, closing, records);
+    let next = done.next;
+    Answered {
         answer: Verdict::Fine,
         records: done.count,
-        stream: next,
+        next,
     }
 }
 
 // One more cut, perhaps of no bytes: the records that it decides. Refusals 13, 19, 29, 8.
-pub fn feed(st: Stream, cut: &[u8], records: &mut [u8]) -> Fed
-    ensures { λ r. ⌜ (fedPaper r ≡ answerTo st (Feed (now (cut .entry))) (length (now (records .entry))))
-        × ((r .stream ≡ nextOf st (Feed (now (cut .entry))) (length (now (records .entry))))
-        × (now (records .exit) ≡ leaves st (Feed (now (cut .entry))) (now (records .entry)))) ⌝ }
+pub fn feed(st: Standing, kept: &mut [u8; 8191], cut: &[u8], records: &mut [u8]) -> Answered
+    ensures { λ r. ⌜ (fedPaper (fedOf r (now (kept .exit))) ≡ answerTo (whole st (now (kept .entry))) (Feed (now (cut .entry))) (length (now (records .entry))))
+        × ((fedOf r (now (kept .exit)) .stream ≡ nextOf (whole st (now (kept .entry))) (Feed (now (cut .entry))) (length (now (records .entry))))
+        × (now (records .exit) ≡ leaves (whole st (now (kept .entry))) (Feed (now (cut .entry))) (now (records .entry)))) ⌝ }
 {
-    call(st, cut, false, records)
+    call(st, kept, cut, false, records)
 }
 
 // No more bytes come: what remains is walked as the end of a closed capture is. Refusals 13, 19, 8.
-pub fn close(st: Stream, records: &mut [u8]) -> Fed
-    ensures { λ r. ⌜ (fedPaper r ≡ answerTo st Close (length (now (records .entry))))
-        × ((r .stream ≡ nextOf st Close (length (now (records .entry))))
-        × (now (records .exit) ≡ leaves st Close (now (records .entry)))) ⌝ }
+pub fn close(st: Standing, kept: &mut [u8; 8191], records: &mut [u8]) -> Answered
+    ensures { λ r. ⌜ (fedPaper (fedOf r (now (kept .exit))) ≡ answerTo (whole st (now (kept .entry))) Close (length (now (records .entry))))
+        × ((fedOf r (now (kept .exit)) .stream ≡ nextOf (whole st (now (kept .entry))) Close (length (now (records .entry))))
+        × (now (records .exit) ≡ leaves (whole st (now (kept .entry))) Close (now (records .entry)))) ⌝ }
 {
     let none: [u8; 1] = [0; 1];
-    call(st, &none[..0], true, records)
+    call(st, kept, &none[..0], true, records)
 }

@@ -20,6 +20,7 @@ ghost use Rattle.stream_clean_spec.specs.Calls.{washedFor, answerFor, nextFor, 
 ghost use Rattle.stream_clean_spec.specs.CallLaws.{PushedIs};
 ghost use Rattle.stream_clean.specs.Taken.{takenOf, strideBy};
 use octets::Written;
+use stream::Standing;
 use stream_clean_spec::Sums;
 use stream_clean_spec::Washed;
 use stream_spec::Stream;
@@ -279,7 +280,16 @@ fn call(st: Stream, cut: &[u8], closing: bool, out: &mut [u8]) -> Washed
         × ((r .stream ≡ nextFor st closing (now (cut .entry)) (length (now (out .entry))))
         × (now (out .exit) ≡ leavesFor st closing (now (cut .entry)) (now (out .entry)))) ⌝ }
 {
-    match stream::may_take(st, cut.len()) {
+    let held = st.kept;
+    let tally = st.tally;
+    let standing = Standing {
+        place: st.place,
+        seeking: st.seeking,
+        closed: st.closed,
+        len: st.len,
+        tally,
+    };
+    match stream::may_take(standing, &held, cut.len()) {
         Verdict::Refused(why) => refused(st, why),
         Verdict::Fine => drawn(st, cut, closing, out),
     }

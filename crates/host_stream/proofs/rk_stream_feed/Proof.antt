@@ -1,12 +1,12 @@
 -- `rk_stream_feed`: the stream's call with a cut, told and kept. Assumes nothing.
 use Rattle.stream_spec.specs.Calls.{Feed}
-use Rattle.host_stream_spec.specs.Calls.{settled}
+use Rattle.host_stream.proofs.Settled.{lent-settled}
 use borrow.Author.Needs.{needs}
 use Rattle.host_stream.proofs.rk_stream_feed.Statement.{statement}
 use Rattle.host_stream.proofs.rk_stream_feed.Tie as tie
 
-stream-in-requires : tie.Need-stream-in-requires
-stream-in-requires c κs = search needs
+standing-in-requires : tie.Need-standing-in-requires
+standing-in-requires c κs = search needs
 
 feed-requires : tie.Need-feed-requires
 feed-requires c κs = search needs
@@ -18,8 +18,7 @@ same-length : tie.Need-same-length
 same-length c = search needs
 
 returns : tie.Need-returns
-returns c = settled _ (Feed _) _ _ (c .before .before .before .before .before .before .before .feed .result) _ (c .before .before .before .before .before .before .before .before .before .stream-in .ensures) (c .before .before .before .before .before .before .before .feed .ensures) (c .settle .ensures)
+returns c = lent-settled _ _ _ (Feed _) _ _ (c .before .before .before .before .before .before .feed .result) _ (c .before .before .before .before .before .before .before .before .before .standing-in .result) (c .before .before .before .before .before .before .before .before .before .standing-in .ensures) (c .before .before .before .before .before .before .feed .ensures) (c .settle .ensures)
 
 pub rk-stream-feed-spec : {M : Type 1} → statement M
-rk-stream-feed-spec =
-    tie.close (tie.spec stream-in-requires feed-requires settle-requires same-length returns)
+rk-stream-feed-spec = tie.close (tie.spec standing-in-requires feed-requires settle-requires same-length returns)

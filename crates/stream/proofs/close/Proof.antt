@@ -1,4 +1,5 @@
 -- `close`: the closing call, which brings no byte. Assumes nothing.
+use mathlib.Core.Path.{refl}
 use borrow.Author.Needs.{needs}
 use Rattle.stream.proofs.close.Statement.{statement}
 use Rattle.stream.proofs.close.Tie as tie
@@ -10,7 +11,7 @@ slice-aggregate-call : tie.Need-slice-aggregate-call
 slice-aggregate-call c = search needs
 
 call-requires : tie.Need-call-requires
-call-requires c κs = search needs
+call-requires c κs = (search needs, λ e. refl)
 
 same-length : tie.Need-same-length
 same-length c = search needs
@@ -19,6 +20,4 @@ returns : tie.Need-returns
 returns c = c .before .before .call .ensures
 
 pub close-spec : {M : Type 1} → statement M
-close-spec =
-    tie.close
-    (tie.spec array-share-prefix-none slice-aggregate-call call-requires same-length returns)
+close-spec = tie.close (tie.spec array-share-prefix-none slice-aggregate-call call-requires same-length returns)

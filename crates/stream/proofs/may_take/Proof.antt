@@ -25,5 +25,4 @@ returns-4 : tie.Need-returns-4
 returns-4 c = sym (may-0 _ _ (sym (c .before .before .before .before .sound .ensures) ∙ not-false _ (c .before .before .before .if1 .left)) (c .before .before .if2 .left) (sym (c .before .fits2 .ensures) ∙ not-false _ (c .if3 .left)))
 
 pub may-take-spec : {M : Type 1} → statement M
-may-take-spec =
-    tie.close (tie.spec sound-requires returns returns-2 fits-requires returns-3 returns-4)
+may-take-spec = tie.close (tie.spec sound-requires returns returns-2 fits-requires returns-3 returns-4)

@@ -25,7 +25,7 @@ drawn-requires : tie.Need-drawn-requires
 drawn-requires c κs =
     let z = sym (c .before .before .before .may-take .ensures) ∙ ap verdictNumber (c .before .enum-told .given .1) in
     let f = may-facts _ _ z in
-    (c .before .before .before .before .before .before .pre, (sound-checked _ (f .0) .few, (omega (arith, f .1 .1), z)))
+    (c .before .before .before .before .before .before .before .before .before .pre, (sound-checked _ (f .0) .few, (omega (arith, f .1 .1), z)))
 
 returns : tie.Need-returns
 returns c = refused-call _ _ _ _ _ _ (c .refused .ensures) (number-refused _ _ _ _ (c .before .before .why .given .0 .0) (sym (ap verdictNumber (c .before .before .why .given .1)) ∙ c .before .before .before .before .may-take .ensures))
