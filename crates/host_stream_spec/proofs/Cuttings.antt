@@ -22,7 +22,7 @@ use Rattle.stream_spec.specs.Tally.{tallyWith, recordAt, tallyAfter}
 use Rattle.stream_spec.specs.State.{meantBy, valueOf, opened, StreamRules}
 use Rattle.stream_spec.specs.Calls.{Call, cutOf, closes, share, behindOf, answerFor, nextFor, leavesFor, numberTo, answerTo, nextOf, leaves}
 use Rattle.stream_spec.specs.Trace.{Calls, none, _▸_, after, given, taken, ended}
-use Rattle.stream_spec.specs.Words.{answered, Closed}
+use Rattle.stream_spec.specs.Words.{numberTold, Closed}
 use Rattle.stream_spec.proofs.Rules.{rules-facts}
 use Rattle.stream_spec.proofs.Cuttings.{every-cutting, closing-call}
 use Rattle.host_words.specs.Told.{Tells, toldBy}
@@ -125,7 +125,7 @@ module _ {calls : Calls} {k : Lent} (f : Followed calls k) where
     one : IsCall (after calls) call d n k′ row d′
     one = is-call (after calls) (four calls) (rules calls) call was d n k′ row d′ (rw (followed-is f) at p)
 
-    number-in : n ≡ answered calls call (length d)
+    number-in : n ≡ numberTold calls call (length d)
     number-in = one .number ∙ every-cutting calls .numbers call (length d)
 
     gives-in : n ≡ 0 → Gives calls call d (share (after calls) call) k′ row d′

@@ -12,7 +12,7 @@ use Rattle.walk_spec.specs.Walk.{sights, walkOf, framesOf, refusedOf, tableOf}
 use Rattle.stream_spec.specs.State.{opened, StreamRules}
 use Rattle.stream_spec.specs.Calls.{Call, share}
 use Rattle.stream_spec.specs.Trace.{Calls, none, _▸_, after, given, taken, ended}
-use Rattle.stream_spec.specs.Words.{decided, answered}
+use Rattle.stream_spec.specs.Words.{decided, numberTold}
 use Rattle.host_words.specs.Words.{wordsOf}
 use Rattle.host_stream_spec.specs.Lent.{Lent, lentOf, streamIn}
 use Rattle.host_stream_spec.specs.Calls.{Called}
@@ -50,7 +50,7 @@ pub record HostFollows (calls : Calls) (k : Lent) : Type 0 where
   pub rules : StreamRules (streamIn k)
   -- one more call: its number is told from the bytes taken alone; where it is 0, its share of the
   -- records is given
-  pub number : (call : Call) (was d : List ℕ) (n : ℕ) (k′ : Lent) (row d′ : List ℕ) → Called k call was d n k′ row d′ → n ≡ answered calls call (length d)
+  pub number : (call : Call) (was d : List ℕ) (n : ℕ) (k′ : Lent) (row d′ : List ℕ) → Called k call was d n k′ row d′ → n ≡ numberTold calls call (length d)
   pub gives : (call : Call) (was d : List ℕ) (n : ℕ) (k′ : Lent) (row d′ : List ℕ) → Called k call was d n k′ row d′ → n ≡ 0 → Gives calls call d (share (after calls) call) k′ row d′
   -- after the closing call all records were given, and the words are those of the closed walk
   pub closing : ended calls ≡ true → (given calls ≡ walkOf (taken calls) .records) × Ended (taken calls) k

@@ -2,7 +2,7 @@
 -- among them. `Row calls x` says that the stream x comes of the calls, each meeting its promise.
 -- `taken` has "the joined bytes of the calls not refused", `ended` says whether the closing call is
 -- among those, and `heard` has what a host then has from its buffers. No capture is too long:
--- `answered` knows no such number.
+-- `numberTold` knows no such number.
 use Prim.Native.Nat.{ℕ, _^_, _≤_, _<_}
 use mathlib.Core.Path.{_≡_, sym, ap, _∙_}
 use mathlib.Core.Bool.{true}
@@ -30,7 +30,7 @@ use Rattle.terms.specs.Verdicts.{verdictNumber}
 use Rattle.stream_spec.specs.CallLaws.{Promised}
 use Rattle.stream_spec.specs.Answers.{refused-leaves, refused-stream}
 use Rattle.stream_spec.specs.Trace.{Calls, after, given, taken, ended, Row, heard}
-use Rattle.stream_spec.specs.Words.{waitAt, decided, answered}
+use Rattle.stream_spec.specs.Words.{waitAt, decided, numberTold}
 use Rattle.stream_spec.proofs.Rules.{rules-facts}
 use Rattle.stream_spec.proofs.Cuttings.{every-cutting, one-state, ran-is, waits-there, waits-first}
 use Rattle.stream_spec.proofs.Promised as Opened
@@ -101,7 +101,7 @@ module _ {calls : Calls} {x : Stream} (row : Row calls x) where
 
   module _ (call : Call) (d d′ : List ℕ) (r : Fed) (p : Promised x (closes call) (cutOf call) d d′ r) where
     -- the number of a further call, by the calls before it: 19, then 29, then 8
-    pub its-number : verdictNumber (r .answer) ≡ answered calls call (length d)
+    pub its-number : verdictNumber (r .answer) ≡ numberTold calls call (length d)
     its-number = ran-number row call d d′ r p
 
     -- beside a refusal "nothing changes"

@@ -24,7 +24,7 @@ use Rattle.stream_spec.specs.Calls.{Call, Feed, Close, cutOf, closes, share, nu
 use Rattle.terms.specs.Verdicts.{verdictNumber}
 use Rattle.stream_spec.specs.CallLaws.{Promised}
 use Rattle.stream_spec.specs.Trace.{Calls, _▸_, after, given, taken, ended, Row, opening, one-more, heard}
-use Rattle.stream_spec.specs.Words.{decided, answered, Closed}
+use Rattle.stream_spec.specs.Words.{decided, numberTold, Closed}
 use Rattle.stream_spec.proofs.Rules.{rules-facts}
 use Rattle.stream_spec.proofs.Cuttings.{every-cutting, closing-call, ran-is}
 use Rattle.stream.specs.Standing.{whole, fedOf}
@@ -88,13 +88,13 @@ module _ {calls : Calls} {x : Stream} (row : Row calls x) where
   -- one more call of the code
   module _ (call : Call) (d d′ : List ℕ) (r : Fed) (p : Promised x (closes call) (cutOf call) d d′ r) where
     -- its number is told from the bytes taken alone
-    pub ran-number : verdictNumber (r .answer) ≡ answered calls call (length d)
+    pub ran-number : verdictNumber (r .answer) ≡ numberTold calls call (length d)
     unfolding answerFor
     ran-number = one-number (p .0) ∙ rw (ran-is row) (every-cutting calls .numbers call (length d))
 
     -- where it is 0, its records stand at the front of the buffer, and behind those given before
     -- they make up what is decided
-    pub ran-written : answered calls call (length d) ≡ 0 → (d′ ≡ laid 0 (tableOf (share (after calls) call)) d) × (given calls ++ share (after calls) call ≡ decided (ended (calls ▸ record { call = call; room = length d })) (taken (calls ▸ record { call = call; room = length d })))
+    pub ran-written : numberTold calls call (length d) ≡ 0 → (d′ ≡ laid 0 (tableOf (share (after calls) call)) d) × (given calls ++ share (after calls) call ≡ decided (ended (calls ▸ record { call = call; room = length d })) (taken (calls ▸ record { call = call; room = length d })))
     unfolding leavesFor given
     ran-written z =
         let n : numberTo (after calls) call (length d) ≡ 0 = every-cutting calls .numbers call (length d) ∙ z in

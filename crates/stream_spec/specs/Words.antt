@@ -1,4 +1,4 @@
--- The words of CR 1: what a row of calls gives and is numberTold, told from the bytes taken alone.
+-- The words of CR 1: what a row of calls gives and is answered, told from the bytes taken alone.
 use Prim.Native.Nat.{ℕ, zero, _+_, _/_, _≤_}
 use mathlib.Core.Path.{_≡_}
 use mathlib.Core.Bool.{Bool, true, false, not}
