@@ -1,6 +1,6 @@
 -- The pass over a capture: row j is what channel j's frames so far made of it, and what is left
 -- makes the rest. Assumes nothing.
-use Prim.Native.Nat.{ℕ, _+_, _≤_, _<_}
+use Prim.Native.Nat.{ℕ, _+_, _%_, _≤_, _<_}
 use mathlib.Core.Path.{_≡_, refl, sym, ap, _∙_}
 use mathlib.Core.Logic.{⊎-elim}
 use mathlib.Core.List.{List, [], _∷_, _++_, append-assoc, append-nil}
@@ -10,7 +10,7 @@ use lib.Seq.{getD-set-same, getD-set-other}
 use lib.Dec.{eqb}
 use borrow.Author.Tests.{eq-eqb, ne-eqb}
 use Rattle.terms.specs.Cases.{less, same}
-use Rattle.channels_spec.proofs.Least.{least-at}
+use Rattle.channels_spec.proofs.Least.{least-at, least-all}
 use Rattle.walk_laws.specs.Walk.{Sight}
 use Rattle.walk_laws.specs.Frames.{readsOf}
 use Rattle.walk_laws.specs.Literal.{fromOf, sightAt, from-end}
@@ -22,7 +22,7 @@ use Rattle.month_spec.specs.Figures.{readsIn}
 use Rattle.month_spec.specs.Page.{places, placeIn}
 use Rattle.month_spec.proofs.Rules.{found-at, found-not}
 use Rattle.month.specs.declared.Row.{Row}
-use Rattle.month.specs.Rows.{rowAfter, Turned, Roomy, Naming, Kept}
+use Rattle.month.specs.Rows.{rowAfter, Turned, Roomy, Naming, Hints, Hinted, Kept}
 use Rattle.month.proofs.RowLaws.{row-other, row-own, Few, few-none, few-more, roomy-row}
 
 -- ---- fresh rows
@@ -60,6 +60,35 @@ hint-holds channels named n i channel h e =
     sym
     (least-at (λ k. eqb (getD channels k 0) channel) named i h (eq-eqb _ _ e)
     (λ j l. ne-eqb _ _ (λ f. let q = n .apart j i (omega arith) h (f ∙ sym e) in omega arith)))
+
+-- where none is hinted at, none has it
+pub hint-none : (channels : List ℕ) (named hint channel : ℕ) → Hinted channels named channel hint → named ≤ hint → named ≡ placeIn channels named channel
+hint-none channels named hint channel f h =
+    sym (least-all (λ k. eqb (getD channels k 0) channel) named (λ j l. ne-eqb _ _ (λ e. let q = f j l e in omega arith)))
+
+module _ (channels : List ℕ) (named : ℕ) where
+  pub hints-none : (hints : List ℕ) → length hints ≡ 256 → Hints channels named 0 hints
+  hints-none hints e = record { all-bytes = e; hinted = λ k h. absurd (omega arith) }
+
+  pub hints-one : (hints : List ℕ) (j low at : ℕ) → Hints channels named j hints → j < named → low ≡ getD channels j 0 % 256 → low < 256 → at ≡ j → Hints channels named (j + 1) (set hints low at)
+  hints-one hints j low at w h e l f =
+      record {
+        all-bytes = length-set hints low at ∙ w .all-bytes;
+        hinted = λ k m.
+            ⊎-elim
+            (λ (q : getD channels k 0 % 256 ≡ low). rw (q, getD-set-same hints low at 0 (omega (arith, w .all-bytes)), f) h)
+            (λ (ne : getD channels k 0 % 256 ≡ low → ⊥).
+            ⊎-elim (λ (g : k < j). rw (getD-set-other hints low (getD channels k 0 % 256) at 0 ne) (w .hinted k g))
+            (λ (g : j ≤ k). let q : k ≡ j = omega arith in absurd (ne (ap (λ (x : ℕ). getD channels x 0 % 256) q ∙ sym e))) (less k j))
+            (same (getD channels k 0 % 256) low);
+      }
+
+  pub hints-all : (hints : List ℕ) (j : ℕ) → Hints channels named j hints → named ≤ j → Hints channels named named hints
+  hints-all hints j w h = record { all-bytes = w .all-bytes; hinted = λ k l. w .hinted k (omega arith) }
+
+  -- the hint of a channel's own low byte is one for it
+  pub hints-tell : (hints : List ℕ) (channel hint : ℕ) → Hints channels named named hints → hint ≡ getD hints (channel % 256) 0 → Hinted channels named channel hint
+  hints-tell hints channel hint w e k h f = rw (e, ← f) (w .hinted k h)
 
 -- done: the accepted frames so far. They and what is left are all that the capture has.
 pub record Left (s channels : List ℕ) (named : ℕ) (rows : List Row) (p : ℕ) : Type 0 where

@@ -56,6 +56,15 @@ pub record Naming (channels : List ℕ) (named : ℕ) : Type 0 where
   pub small : (i : ℕ) → i < named → getD channels i 0 ≤ 9999
   pub apart : (i j : ℕ) → i < named → j < named → getD channels i 0 ≡ getD channels j 0 → i ≡ j
 
+-- hints by low bytes: that of each of the first j channels names some named place
+pub record Hints (channels : List ℕ) (named j : ℕ) (hints : List ℕ) : Type 0 where
+  pub all-bytes : length hints ≡ 256
+  pub hinted : (k : ℕ) → k < j → getD hints (getD channels k 0 % 256) 0 < named
+
+-- a hint for a channel: a named place where the channel is named at all
+abbrev pub Hinted : List ℕ → ℕ → ℕ → ℕ → Type 0
+Hinted channels named channel hint = (k : ℕ) → k < named → getD channels k 0 ≡ channel → hint < named
+
 -- 32 rows, of which each named one is that of its channel after these frames
 pub record Kept (channels : List ℕ) (named : ℕ) (xs : List Seen) (rows : List Row) : Type 0 where
   pub all-places : length rows ≡ places

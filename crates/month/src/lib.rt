@@ -13,7 +13,7 @@ ghost use Rattle.month_spec.specs.Figures.{isResend, readsIn};
 ghost use Rattle.month_spec.specs.Page.{placeIn, channelsRight, sumsRight, soundOf, figuresInAll, highest, tabled, allBelow};
 ghost use Rattle.month_spec.specs.Calls.{namingNumber, answerTo, nextOf, startNumber, startPage};
 ghost use Rattle.month.specs.State.{pageIn, monthOf, emptyWith, refusedWith, addedPaper, sumIn, sumFitsIn};
-ghost use Rattle.month.specs.Rows.{rowAfter, Turned, Roomy, Naming, Kept, rowNumbers, rowFigures};
+ghost use Rattle.month.specs.Rows.{rowAfter, Turned, Roomy, Naming, Hints, Hinted, Kept, rowNumbers, rowFigures};
 use ledger::Ledger;
 use reading::Seen;
 use rules::Kind;
@@ -71,15 +71,17 @@ fn place_of(channels: [u16; 32], n: usize, channel: u16) -> usize
     n
 }
 
-// The place of this channel, looked for at the hint first.
+// The place of this channel, by a hint: no place is hinted at where no named channel has its low
+// byte; else it is mostly there.
 fn row_of(channels: [u16; 32], named: usize, hint: usize, channel: u16) -> usize
-    requires { ⌜ Naming channels named ⌝ }
+    requires { ⌜ Naming channels named × Hinted channels named channel hint ⌝ }
     ensures { λ r. ⌜ r ≡ placeIn channels named channel ⌝ }
 {
-    if hint < named {
-        if channels[hint] == channel {
-            return hint;
-        }
+    if named <= hint {
+        return named;
+    }
+    if channels[hint] == channel {
+        return hint;
     }
     place_of(channels, named, channel)
 }
@@ -278,13 +280,13 @@ fn fresh_rows(channels: [u16; 32], named: usize) -> [Row; 32]
     rows
 }
 
-// For each low byte of a channel a place where it may be named: hints, of which nothing is
-// promised. A search through 32 names at each frame would end at another place each time, which no
-// processor foresees.
+// For each low byte a place where a channel with it is named, or 32 where none is. A search through
+// 32 names at each frame would end at another place each time, which no processor foresees.
 fn hints(channels: [u16; 32], named: usize) -> [u8; 256]
     requires { ⌜ named ≤ 32 ⌝ }
+    ensures { λ r. ⌜ Hints channels named named r ⌝ }
 {
-    let mut places: [u8; 256] = [0; 256];
+    let mut places: [u8; 256] = [32; 256];
     let mut j: usize = 0;
     while j < named {
         let low = (channels[j] % 256) as usize;

@@ -3,14 +3,14 @@
 -- Assumes nothing.
 use native.Mathlib.Omega.{arith}
 use Prim.Native.Nat.{ℕ, _-_, _≤_}
-use mathlib.Core.Path.{_≡_, sym, ap, _∙_}
+use mathlib.Core.Path.{_≡_, refl, sym, ap, _∙_}
 use mathlib.Core.List.{List}
 use lib.ListN.{length}
 use borrow.Author.Needs.{needs}
 use Rattle.reading.specs.Seen.{seenNumber}
 use Rattle.walk_spec.specs.Onward.{Goes, goes-onward}
 use Rattle.month_spec.specs.Page.{placeIn}
-use Rattle.month.proofs.PassLaws.{Left, left-start, left-refused, left-none, row-roomy, left-own, left-end}
+use Rattle.month.proofs.PassLaws.{hints-tell, Left, left-start, left-refused, left-none, row-roomy, left-own, left-end}
 use Rattle.month.proofs.pass.Statement.{statement}
 use Rattle.month.proofs.pass.Tie as tie
 
@@ -75,7 +75,7 @@ cast-hint-2 : tie.Need-cast-hint-2 Inv-loop μ-loop
 cast-hint-2 c = search needs
 
 row-of-requires : tie.Need-row-of-requires Inv-loop μ-loop
-row-of-requires c κs = c .before .before .before .before .before .before .before .before .before .before .before .pre
+row-of-requires c κs = (c .before .before .before .before .before .before .before .before .before .before .before .pre, hints-tell _ _ _ (c .value .result) _ (c .before .before .before .before .before .before .before .before .hints .ensures) refl)
 
 loop-less-2 : tie.Need-loop-less-2 Inv-loop μ-loop
 loop-less-2 c = let g = goes (c .before .before .before .before .before .before) in omega (arith, g .further, g .inside)
