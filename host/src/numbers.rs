@@ -104,8 +104,8 @@ pub(crate) fn result<T>(answer: u32, value: T) -> Result<T, Refusal> {
     }
 }
 
-/// What a call writes, if its code is 0, else the refusal. The call writes where the result stands: a
-/// copy of two words by one load would wait until both stores are done.
+/// What a call writes, if its code is 0, else the refusal. The call writes where the result stands:
+/// a copy of two words by one load would wait until both stores are done.
 #[inline]
 pub(crate) fn told<T: Default>(call: impl FnOnce(&mut T) -> u32) -> Result<T, Refusal> {
     let mut told = Ok(T::default());
