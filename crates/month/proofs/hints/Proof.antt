@@ -1,5 +1,5 @@
--- The invariant: the low byte of each channel passed has a named place. The measure is what is left.
--- Assumes nothing.
+-- The invariant: the low byte of each channel passed has a named place. The measure is what is
+-- left. Assumes nothing.
 use native.Mathlib.Omega.{arith}
 use Prim.Native.Nat.{_-_, _≤_}
 use mathlib.Core.Path.{refl}

@@ -1,5 +1,5 @@
--- `blank_from`. The invariant: those put into one so far and the bytes from i on are 0 exactly where
--- all are. The measure is what is left. Assumes nothing.
+-- `blank_from`. The invariant: those put into one so far and the bytes from i on are 0 exactly
+-- where all are. The measure is what is left. Assumes nothing.
 use native.Mathlib.Omega.{arith}
 use Prim.Native.Nat.{_-_}
 use mathlib.Core.Path.{_≡_, refl, _∙_}

@@ -1,5 +1,5 @@
--- `pour`. The invariant: whatever stream and buffer the pieces before the loop came of, the pieces so
--- far came of them too (`Onward`). The measure is what is left of the cut. Assumes nothing.
+-- `pour`. The invariant: whatever stream and buffer the pieces before the loop came of, the pieces
+-- so far came of them too (`Onward`). The measure is what is left of the cut. Assumes nothing.
 use borrow.Author.Needs.{needs}
 use native.Mathlib.Omega.{arith}
 use Prim.Native.Nat.{ℕ, _+_, _-_, _≤_}

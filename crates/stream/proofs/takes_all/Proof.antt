@@ -1,5 +1,5 @@
--- `takes_all`: no bytes give more records than `roomy` asks room for; else a pass over a copy of the
--- store counted them. Assumes nothing.
+-- `takes_all`: no bytes give more records than `roomy` asks room for; else a pass over a copy of
+-- the store counted them. Assumes nothing.
 use native.Mathlib.Omega.{arith}
 use Prim.Native.Nat.{ℕ, _/_}
 use mathlib.Core.Path.{_≡_, sym, ap, _∙_}
