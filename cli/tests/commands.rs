@@ -376,7 +376,8 @@ fn check_names_each_private_field() {
     );
 }
 
-/// The order of tick 1 stands at 823, in the sample and in what is left of it: its side and QuoteID are as sent, codes and names are nowhere.
+/// The order of tick 1 stands at 823, in the sample and in what is left of it: its side and QuoteID
+/// are as sent, codes and names are nowhere.
 #[test]
 fn scrub_leaves_side_and_order_number() {
     let folder = Folder::new().with("sample", &sample());
@@ -577,8 +578,8 @@ fn changed(mut frame: Vec<u8>, at: usize, byte: u8) -> Vec<u8> {
     frame
 }
 
-/// For 6 the lowest field that breaks a rule, by name, rule and place; none of its bytes, and nothing
-/// of the private fields beside it.
+/// For 6 the lowest field that breaks a rule, by name, rule and place; none of its bytes, and
+/// nothing of the private fields beside it.
 #[test]
 fn explain_names_the_field() {
     let folder = Folder::new();

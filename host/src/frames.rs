@@ -125,10 +125,10 @@ pub fn tail_fields(body: &[u8]) -> Result<Vec<Field>, Refusal> {
     }
 }
 
-/// A field of a body that breaks a rule: where it starts in the body, how many bytes it has, and its
-/// number in the order of the type's widths, counted from 0. An M201's extension is number 9; type,
-/// price, size and position of an M102 entry are 13 to 16, and `entry` is that entry's number,
-/// counted from 1, and 0 for any other field.
+/// A field of a body that breaks a rule: where it starts in the body, how many bytes it has, and
+/// its number in the order of the type's widths, counted from 0. An M201's extension is number 9;
+/// type, price, size and position of an M102 entry are 13 to 16, and `entry` is that entry's
+/// number, counted from 1, and 0 for any other field.
 #[derive(Clone, Copy, Debug, Default, PartialEq, Eq)]
 pub struct BrokenField {
     pub place: u64,

@@ -1,8 +1,8 @@
--- Which field breaks a rule. Document 01's field rules once more, a line for each field in the order
--- of its widths: a rule stands with the field of which it is said. Meaning.antt has that together
--- they are the rules.
+-- Which field breaks a rule. Document 01's field rules once more, a line for each field in the
+-- order of its widths: a rule stands with the field of which it is said. Meaning.antt has that
+-- together they are the rules.
 use Prim.Native.Nat.{ℕ, zero, suc, _+_, _*_, _-_}
-use mathlib.Core.Bool.{Bool, true, false, _&&_, _||_}
+use mathlib.Core.Bool.{Bool, true, _&&_, _||_}
 use mathlib.Core.List.{List, [], _∷_, _++_}
 use lib.Dec.{eqb, ltb, leb}
 use lib.ListN.{length}
@@ -14,8 +14,8 @@ use Rattle.rules.specs.Widths.{widths, entryWidths, field, entryField, fixed}
 use Rattle.rules.specs.Fields.{digits, pairOk, tailOk, entrySize}
 use Rattle.broken.specs.declared.Broken.{Broken}
 
--- a field of a body: where it starts, how long it is, its number, the number of the entry that it is
--- in or 0, and whether it keeps its rule
+-- a field of a body: where it starts, how long it is, its number, the number of the entry that it
+-- is in or 0, and whether it keeps its rule
 pub record Field : Type 0 where
   pub place : ℕ
   pub len : ℕ
@@ -26,8 +26,8 @@ pub record Field : Type 0 where
 abbrev pub fieldAt : ℕ → ℕ → ℕ → ℕ → Bool → Field
 fieldAt place len index entry holds = record { place = place; len = len; index = index; entry = entry; holds = holds }
 
--- fields of these widths, one behind the other: `at` is where the first of the row starts, `off` how
--- many bytes of the row are before, `i` the next number
+-- fields of these widths, one behind the other: `at` is where the first of the row starts, `off`
+-- how many bytes of the row are before, `i` the next number
 abbrev pub laidOut : ℕ → ℕ → ℕ → ℕ → List ℕ → List Bool → List Field
 laidOut at off i e [] ts = []
 laidOut at off i e (w ∷ ws) [] = []

@@ -1,7 +1,7 @@
 -- What a host has after reading a record, after cleaning a capture and after asking whether it is
--- clean, in the words of the crates below. No definition of the promises stands here: proofs/Means.antt says of each
--- function that what its promise allows is this. x is the answer, row what is told; a buffer that
--- was lent as d is d′ afterwards.
+-- clean, in the words of the crates below. No definition of the promises stands here:
+-- proofs/Means.antt says of each function that what its promise allows is this. x is the answer,
+-- row what is told; a buffer that was lent as d is d′ afterwards.
 use Prim.Native.Nat.{ℕ, _≤_, _<_}
 use mathlib.Core.Path.{_≡_}
 use mathlib.Core.Logic.{_↔_}

@@ -1,5 +1,5 @@
--- Nothing private is told by rk_read and rk_broken_field: from the promises that the checker makes of the `ensures`.
--- Assumes nothing.
+-- Nothing private is told by rk_read and rk_broken_field: from the promises that the checker makes
+-- of the `ensures`. Assumes nothing.
 use Prim.Native.Nat.{ℕ}
 use mathlib.Core.Path.{_≡_, sym, ap, _∙_}
 use contract.Lifetimes.{Lfts}

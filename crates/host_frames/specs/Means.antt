@@ -94,8 +94,8 @@ pub record HostScrubbed (d : List ℕ) (x told : ℕ) (d′ : List ℕ) : Type 0
   pub buffer : d′ ≡ scrubbed d
 
 -- rk_broken_field of a type and a body b: 0 exactly where reading's checks of type and length pass;
--- then none is told exactly where the field rules hold, else the lowest field that breaks one, and it
--- lies within the body
+-- then none is told exactly where the field rules hold, else the lowest field that breaks one, and
+-- it lies within the body
 pub record HostBroken (k : Kind) (b : List ℕ) (x : ℕ) (row : List ℕ) : Type 0 where
   pub field : Broken
   pub given : x ≡ measureOf k (length b)

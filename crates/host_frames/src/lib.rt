@@ -138,11 +138,11 @@ pub extern "C" fn rk_tail_field(body: &[u8], i: usize, told: &mut [u64; 4]) -> u
     }
 }
 
-// Which field of a body of that type breaks a rule of number 6: the lowest, in the order of document
-// 01's widths. Results: 1, where the field starts in the body, how many bytes it has, its number in
-// that order, counted from 0, and for a field of an M102 entry the number of the entry, counted from
-// 1, else 0; or five times 0 where every rule holds. An M201's extension is number 9; the fields of
-// an entry are numbers 13 to 16.
+// Which field of a body of that type breaks a rule of number 6: the lowest, in the order of
+// document 01's widths. Results: 1, where the field starts in the body, how many bytes it has, its
+// number in that order, counted from 0, and for a field of an M102 entry the number of the entry,
+// counted from 1, else 0; or five times 0 where every rule holds. An M201's extension is number 9;
+// the fields of an entry are numbers 13 to 16.
 #[no_mangle]
 pub extern "C" fn rk_broken_field(msg_type: u32, body: &[u8], told: &mut [u64; 5]) -> u32
     ensures { λ r. ⌜ Tells (brokenTold «msg_type» (now (body .entry))) (now (told .entry)) r (now (told .exit)) ⌝ }

@@ -1,5 +1,5 @@
--- `m102_back`: each field is the number that the definition reads, so the tests are the same. Assumes
--- nothing.
+-- `m102_back`: each field is the number that the definition reads, so the tests are the same.
+-- Assumes nothing.
 use Rattle.broken.specs.Broken.{lowestFrom}
 use borrow.Author.Needs.{needs}
 use Rattle.broken.proofs.m102_back.Statement.{statement}

@@ -1,5 +1,5 @@
--- `m102_counted`: where the count does not suit, its own field; else the entries decide. The products
--- stay small. Assumes nothing.
+-- `m102_counted`: where the count does not suit, its own field; else the entries decide. The
+-- products stay small. Assumes nothing.
 use native.Mathlib.Omega.{arith}
 use Prim.Native.Nat.{ℕ, _+_, _*_, _≤_}
 use mathlib.Core.Path.{_≡_, sym, ap, ap₂, _∙_}

@@ -1,5 +1,5 @@
--- `m201_back`: each field is the number that the definition reads, so the tests are the same. Assumes
--- nothing.
+-- `m201_back`: each field is the number that the definition reads, so the tests are the same.
+-- Assumes nothing.
 use Rattle.broken.specs.Broken.{lowestFrom}
 use Rattle.rules.specs.Fields.{tailOk}
 use borrow.Author.Needs.{needs}

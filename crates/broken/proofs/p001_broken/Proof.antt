@@ -1,5 +1,5 @@
--- `p001_broken`: each field is the number that the definition reads, so the tests are the same. Assumes
--- nothing.
+-- `p001_broken`: each field is the number that the definition reads, so the tests are the same.
+-- Assumes nothing.
 use Rattle.broken.specs.Broken.{lowestFrom}
 use borrow.Author.Needs.{needs}
 use Rattle.broken.proofs.p001_broken.Statement.{statement}

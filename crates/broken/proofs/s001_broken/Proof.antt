@@ -1,5 +1,5 @@
--- `s001_broken`: each field is the number that the definition reads, so the tests are the same. Assumes
--- nothing.
+-- `s001_broken`: each field is the number that the definition reads, so the tests are the same.
+-- Assumes nothing.
 use Rattle.broken.specs.Broken.{lowestFrom}
 use borrow.Author.Needs.{needs}
 use Rattle.broken.proofs.s001_broken.Statement.{statement}

@@ -1,4 +1,5 @@
--- `rk_lines`: what laying the lines answers is told, and the buffer is as it left it. Assumes nothing.
+-- `rk_lines`: what laying the lines answers is told, and the buffer is as it left it. Assumes
+-- nothing.
 use Rattle.host_words.specs.Told.{tells-as}
 use borrow.Author.Needs.{needs}
 use Rattle.host_captures.proofs.rk_lines.Statement.{statement}

@@ -1,5 +1,5 @@
--- `takes`: the lines still to come and the end fit the room left exactly where all lines and the end
--- fit the room. The measure counts them. Assumes nothing.
+-- `takes`: the lines still to come and the end fit the room left exactly where all lines and the
+-- end fit the room. The measure counts them. Assumes nothing.
 use Prim.Native.Nat.{ℕ, _+_, _*_, _/_, _-_, _≤_}
 use mathlib.Core.Path.{_≡_, sym, ap, _∙_}
 use mathlib.Core.List.{List}
