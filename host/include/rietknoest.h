@@ -490,7 +490,8 @@ uint32_t rk_walk(const uint8_t *capture, size_t len, uint8_t *records, size_t re
 uint32_t rk_record(const uint8_t *bytes, size_t len, rk_reading *told);
 
 /* The listing without its last line: a line for each whole record. RK_TEXT_ROOM is always room
- * enough. Returns 0, 8. 0 writes the first *told bytes of text, and *told. */
+ * enough.
+ * Returns 0, 8. 0 writes the first *told bytes of text, and *told. */
 uint32_t rk_lines(const uint8_t *records, size_t records_len, uint8_t *text, size_t text_len, uint64_t *told);
 
 /* The listing of a walk's records: a line for each whole record, then the last line.

@@ -6,13 +6,12 @@ use mathlib.Core.Bool.{Bool, true, false, _&&_, _||_}
 use mathlib.Core.Logic.{_⊎_, inl, inr, ⊎-elim, _↔_}
 use mathlib.Core.List.{List, [], _∷_, _++_}
 use native.Mathlib.Omega.{arith}
-use native.Mathlib.Nat.{le-trans}
 use lib.Dec.{eqb, ltb, leb}
 use lib.ListN.{length, take}
-use borrow.Author.Tests.{eq-eqb, eqb-true, leb-true}
-use Rattle.terms.specs.Paper.{pick}
+use borrow.Author.Tests.{eqb-true, leb-true}
 use Rattle.terms.specs.Cases.{two, clash, and-false}
 use Rattle.terms.specs.Letters.{spelled}
+use Rattle.terms.specs.Says.{Says, says-eq, says-or}
 use Rattle.rules.specs.declared.Kind.{Kind}
 use Rattle.rules.specs.declared.Kind.the-variants.{S001, S002, S003, P001, P002, M101, M102, M201, Unknown}
 use Rattle.rules.specs.Table.{known, suits, measureOf}
@@ -23,7 +22,7 @@ use Rattle.rules.specs.Rules.{FieldRules, Pair, pair-1, pair-2, pair-3-MD101, p
 use Rattle.rules.specs.Sizes.{Wide, size-wide}
 use Rattle.rules.specs.Meaning.{fields-say, pair-says}
 use Rattle.broken.specs.declared.Broken.{Broken}
-use Rattle.broken.specs.Broken.{Field, fieldAt, typeOk, countOk, entryFields, entriesFields, entriesOf, fixedFields, extension, fieldsOf, none, brokenAt, told, lowestFrom, brokenOf}
+use Rattle.broken.specs.Broken.{Field, fieldAt, typeOk, countOk, entryFields, entriesFields, entriesOf, fixedFields, fieldsOf, none, told, lowestFrom, brokenOf}
 
 -- every one of these keeps its rule
 abbrev pub allHold : List Field → Bool
@@ -130,6 +129,18 @@ type-of t s (pair-3-MD102 e a) = rw e
 type-of t s (pair-12 e a) = rw e
 type-of t s (pair-13 e a) = rw e
 type-of t s (pair-14 e a) = rw e
+
+-- SecurityType's own part of the pairing: it holds exactly where some stream goes with the type
+type-with : (t : ℕ) → ((((((t ≡ 1) ⊎ (t ≡ 2)) ⊎ (t ≡ 3)) ⊎ (t ≡ 12)) ⊎ (t ≡ 13)) ⊎ (t ≡ 14)) → (s : ℕ) × Pair t s
+type-with t (inl (inl (inl (inl (inl e))))) = (spelled "MD001", pair-1 e (omega arith) (omega arith))
+type-with t (inl (inl (inl (inl (inr e))))) = (spelled "MD301", pair-2 e refl)
+type-with t (inl (inl (inl (inr e)))) = (spelled "MD101", pair-3-MD101 e refl)
+type-with t (inl (inl (inr e))) = (spelled "MD201", pair-12 e refl)
+type-with t (inl (inr e)) = (spelled "MD210", pair-13 e refl)
+type-with t (inr e) = (spelled "MDE01", pair-14 e refl)
+
+pub type-says : (t : ℕ) → Says (typeOk t) ((s : ℕ) × Pair t s)
+type-says t = (λ h. type-with t (says-or (says-or (says-or (says-or (says-or (says-eq t 1) (says-eq t 2)) (says-eq t 3)) (says-eq t 12)) (says-eq t 13)) (says-eq t 14) .0 h), λ q. type-of t (q .0) (q .1))
 
 -- the entries, one by one
 and-assoc : (a b c : Bool) → ((a && b) && c) ≡ (a && (b && c))

@@ -85,7 +85,7 @@ fn p001_broken(b: &[u8]) -> Broken
     let channel_no = octets::u16_at(b, 1);
     let appl_last_seq_num = octets::u64_at(b, 3);
     let end_of_channel = octets::u8_at(b, 11);
-    let flag = (end_of_channel == 0x59) | (end_of_channel == 0x4E);
+    let flag = (end_of_channel == b'Y') | (end_of_channel == b'N');
     let from3 = unless(flag, 11, 1, 3, all_hold());
     let from2 = unless(appl_last_seq_num < 1000000000000000000, 3, 8, 2, from3);
     let from1 = unless(channel_no < 10000, 1, 2, 1, from2);
@@ -131,7 +131,7 @@ fn m201_back(b: &[u8]) -> Broken
     let from8 = unless(order_qty < 1000000000000000, 37, 8, 8, from9);
     let from7 = unless(price < 10000000000000, 29, 8, 7, from8);
     let from6 = unless(
-        (exec == 0x30) | (exec == 0x34) | (exec == 0x46),
+        (exec == b'0') | (exec == b'4') | (exec == b'F'),
         28,
         1,
         6,
@@ -164,7 +164,8 @@ fn type_ok(t: u8) -> bool
     (t == 1) | (t == 2) | (t == 3) | (t == 12) | (t == 13) | (t == 14)
 }
 
-// Whether a security type and a stream, its five letters as a number, go together.
+// Whether a security type and a stream, its five letters as a number, go together: 1 and MD001 to
+// MD004, 2 and MD301, 3 and MD101 or MD102, 12 and MD201, 13 and MD210, 14 and MDE01.
 fn pair_ok(t: u8, s: u64) -> bool
     ensures { λ r. ⌜ r ≡ pairOk t s ⌝ }
 {

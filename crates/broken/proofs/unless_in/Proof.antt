@@ -1,5 +1,4 @@
 -- `unless_in` goes by the same test as its definition. Assumes nothing.
-use mathlib.Core.Path.{_∙_}
 use borrow.Author.Needs.{needs}
 use Rattle.broken.proofs.unless_in.Statement.{statement}
 use Rattle.broken.proofs.unless_in.Tie as tie
