@@ -1,6 +1,6 @@
 //! Which field of a body breaks a field rule: the first one from the front, in
 //! the order of document 01's widths. A rule counts for the field that it is
-//! said of (decision 0.122): a pair for MDStreamID, a request's range for
+//! said of (decision 0.124): a pair for MDStreamID, a request's range for
 //! ApplEndSeqNum, whole entries for NoMDEntries, a tail's length for the
 //! extension.
 
