@@ -1,55 +1,15 @@
--- One frame read and laid scrubbed, of `keep`: its answer and size are those seen, and what is laid
--- is the frame seen, scrubbed. Assumes nothing.
-use Prim.Native.Nat.{ℕ, _+_}
-use mathlib.Core.Path.{_≡_, refl, sym, ap, _∙_}
-use mathlib.Core.Bool.{true, false}
-use mathlib.Core.Logic.{⊎-elim}
+-- One frame read and laid scrubbed, of `keep`: its answer and size are those seen.
+-- Assumes nothing.
+use Prim.Native.Nat.{ℕ}
+use mathlib.Core.Path.{_≡_, _∙_}
 use mathlib.Core.List.{List, [], _∷_}
-use native.Mathlib.Omega.{arith}
-use lib.Dec.{leb}
-use lib.ListN.{length, getD, take}
-use Rattle.terms.specs.Paper.{Paper, answer, one-number}
-use Rattle.terms.specs.Cases.{two, same}
-use Rattle.octets.specs.Papers.{laidIfRoom, room-there, room-lacks, laid-there, laid-kept}
-use Rattle.octets.specs.Overlays.{laid-nil}
-use Rattle.frame_spec.specs.Frame.{bodyLength, readOf}
-use Rattle.frame_spec.specs.GivenRead.{read-given}
-use Rattle.private.specs.Scrub.{scrubbed}
-use Rattle.private.specs.Into.{intoAnswer, intoLeaves}
-use Rattle.private.specs.IntoLaws.{into-room, into-laid, into-kept, into-given-0}
-use Rattle.reading.specs.declared.Seen.{Seen}
+use Rattle.terms.specs.Paper.{answer}
+use Rattle.private.specs.Into.{intoAnswer}
 use Rattle.reading.specs.Seen.{seenOf}
-use Rattle.reading.specs.SeenLaws.{seen-answer, seen-size, seen-blank}
-use Rattle.clean_spec.specs.Turns.{scrubbed-none}
+use Rattle.reading.specs.SeenLaws.{seen-answer, seen-size}
+use Rattle.clean_spec.specs.Laid.{laid-reads, laid-long}
 use Rattle.clean.specs.declared.Kept.{Kept}
 use Rattle.clean.specs.Passes.{keptOf}
 
-nothing-laid : (n : ℕ) (d : List ℕ) → d ≡ laidIfRoom n [] d
-nothing-laid n d =
-    ⊎-elim (λ (t : leb (n + 0) (length d) ≡ true). sym (laid-there n 0 [] d refl t ∙ laid-nil n d))
-    (λ (f : leb (n + 0) (length d) ≡ false). sym (laid-kept n 0 [] d refl f))
-    (two (leb (n + 0) (length d)))
-
--- what is left, by what is seen: the frame's bytes scrubbed, or none
-pub into-seen : (s : List ℕ) (n : ℕ) (d : List ℕ) → intoLeaves s n d ≡ laidIfRoom n (scrubbed (take (seenOf s .size) s)) d
-into-seen s n d =
-    ⊎-elim (λ (z : readOf s .number ≡ 0). into-laid s z n d ∙ ap (λ (m : ℕ). laidIfRoom n (scrubbed (take m s)) d) (sym (seen-size s z)))
-    (λ (ne : readOf s .number ≡ 0 → ⊥).
-    let none : seenOf s .size ≡ 0 = ap (λ (y : Seen). y .size) (seen-blank s ne) in
-    into-kept s ne n d ∙ nothing-laid n d ∙ ap (λ (l : List ℕ). laidIfRoom n l d) (sym scrubbed-none) ∙ ap (λ (m : ℕ). laidIfRoom n (scrubbed (take m s)) d) (sym none))
-    (same (readOf s .number) 0)
-
--- a frame that was laid reads, and has as many bytes as were laid
-module _ (s : List ℕ) (n len size : ℕ) (e : answer 0 (size ∷ []) ≡ intoAnswer s n len) where
-  done : readOf s .number ≡ 0
-  done = read-given 0 s .1 (into-given-0 s n len .0 (sym (one-number e)) .0)
-
-  long : size ≡ 28 + bodyLength s
-  long =
-      let r = e ∙ into-room s done n len in
-      ⊎-elim (λ (t : leb (n + (28 + bodyLength s)) len ≡ true). ap (λ (p : Paper). getD (p .values) 0 0) (r ∙ room-there n (28 + bodyLength s) len t))
-      (λ (f : leb (n + (28 + bodyLength s)) len ≡ false). absurd (omega (arith, one-number (r ∙ room-lacks n (28 + bodyLength s) len f))))
-      (two (leb (n + (28 + bodyLength s)) len))
-
-  pub laid-seen : _≡_ {A = Kept} (record { answer = 0; size = size }) (keptOf (seenOf s))
-  laid-seen = rw (seen-answer s ∙ done, seen-size s done, long)
+pub laid-seen : (s : List ℕ) (n len size : ℕ) → answer 0 (size ∷ []) ≡ intoAnswer s n len → _≡_ {A = Kept} (record { answer = 0; size = size }) (keptOf (seenOf s))
+laid-seen s n len size e = let z = laid-reads s n len size e in rw (seen-answer s ∙ z, seen-size s z, laid-long s n len size e)

@@ -2,6 +2,7 @@ pub mod Clean
 pub mod Steps
 pub mod Differ
 pub mod Turns
+pub mod Laid
 pub mod Accepted
 pub mod Answers
 pub mod Own

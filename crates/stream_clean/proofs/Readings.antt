@@ -3,22 +3,18 @@
 use Prim.Native.Nat.{ℕ, _+_, _-_, _≤_, _<_, _^_}
 use mathlib.Core.Path.{_≡_, refl, sym, ap, _∙_}
 use mathlib.Core.Bool.{Bool, true, false}
-use mathlib.Core.Logic.{⊎-elim}
 use mathlib.Core.List.{List, [], _∷_}
 use native.Mathlib.Nat.{add-zero}
 use native.Mathlib.Omega.{arith}
-use lib.Dec.{leb}
-use lib.ListN.{length, getD, take, drop}
-use borrow.Author.Tests.{eq-eqb, ne-eqb, eqb-true}
-use Rattle.terms.specs.Paper.{Paper, answer, one-number}
-use Rattle.terms.specs.Cases.{two, same, clash}
-use Rattle.octets.specs.Papers.{laidIfRoom, room-there, room-lacks, laid-there, laid-kept}
-use Rattle.octets.specs.Overlays.{laid-nil}
-use Rattle.frame_spec.specs.Frame.{msgType, bodyLength, readOf}
-use Rattle.frame_spec.specs.GivenRead.{read-given}
+use lib.ListN.{length, take, drop}
+use borrow.Author.Tests.{ne-eqb, eqb-true}
+use Rattle.terms.specs.Paper.{answer}
+use Rattle.terms.specs.Cases.{clash}
+use Rattle.octets.specs.Papers.{laidIfRoom}
+use Rattle.frame_spec.specs.Frame.{msgType, readOf}
 use Rattle.private.specs.Scrub.{scrubbed}
-use Rattle.private.specs.Into.{intoAnswer, intoLeaves}
-use Rattle.private.specs.IntoLaws.{into-room, into-laid, into-kept, into-given-0}
+use Rattle.private.specs.Into.{intoAnswer}
+use Rattle.clean_spec.specs.Laid.{laid-reads, laid-long, nothing-laid}
 use Rattle.clean_spec.specs.Turns.{scrubbed-none, size-inside}
 use Rattle.reading.specs.declared.Seen.{Seen}
 use Rattle.reading.specs.Seen.{seenOf, seenNumber}
@@ -32,37 +28,12 @@ use Rattle.stream_clean_spec.specs.Runs.{oneBy, Right, unjudged-most}
 use Rattle.stream_clean.specs.declared.Taken.{Taken}
 use Rattle.stream_clean.specs.Taken.{takenOf, strideBy}
 
-nothing-laid : (n : ℕ) (d : List ℕ) → d ≡ laidIfRoom n [] d
-nothing-laid n d =
-    ⊎-elim (λ (t : leb (n + 0) (length d) ≡ true). sym (laid-there n 0 [] d refl t ∙ laid-nil n d))
-    (λ (f : leb (n + 0) (length d) ≡ false). sym (laid-kept n 0 [] d refl f))
-    (two (leb (n + 0) (length d)))
-
--- what is left, by what is seen: the frame's bytes scrubbed, or none
-pub into-seen : (s : List ℕ) (n : ℕ) (d : List ℕ) → intoLeaves s n d ≡ laidIfRoom n (scrubbed (take (seenOf s .size) s)) d
-into-seen s n d =
-    ⊎-elim (λ (z : readOf s .number ≡ 0). into-laid s z n d ∙ ap (λ (m : ℕ). laidIfRoom n (scrubbed (take m s)) d) (sym (seen-size s z)))
-    (λ (ne : readOf s .number ≡ 0 → ⊥).
-    let none : seenOf s .size ≡ 0 = ap (λ (y : Seen). y .size) (seen-blank s ne) in
-    into-kept s ne n d ∙ nothing-laid n d ∙ ap (λ (l : List ℕ). laidIfRoom n l d) (sym scrubbed-none) ∙ ap (λ (m : ℕ). laidIfRoom n (scrubbed (take m s)) d) (sym none))
-    (same (readOf s .number) 0)
-
--- a frame that was laid reads, and has as many bytes as were laid
-module _ (s : List ℕ) (n len size : ℕ) (e : answer 0 (size ∷ []) ≡ intoAnswer s n len) where
-  done : readOf s .number ≡ 0
-  done = read-given 0 s .1 (into-given-0 s n len .0 (sym (one-number e)) .0)
-
-  long : size ≡ 28 + bodyLength s
-  long =
-      let r = e ∙ into-room s done n len in
-      ⊎-elim (λ (t : leb (n + (28 + bodyLength s)) len ≡ true). ap (λ (p : Paper). getD (p .values) 0 0) (r ∙ room-there n (28 + bodyLength s) len t))
-      (λ (f : leb (n + (28 + bodyLength s)) len ≡ false). absurd (omega (arith, one-number (r ∙ room-lacks n (28 + bodyLength s) len f))))
-      (two (leb (n + (28 + bodyLength s)) len))
-
-  pub laid-taken : (u : ℕ) → u ≡ unjudgedBy (msgType s) → _≡_ {A = Taken} (record { answer = 0; size = size; unjudged = u }) (takenOf (seenOf s))
-  laid-taken u v =
-      let t : seenOf s .«msg_type» ≡ msgType s = ap (λ (y : Seen). y .«msg_type») (seen-frame s done) in
-      rw (seen-answer s ∙ done, seen-size s done, t, long, v)
+-- a frame that was laid
+pub laid-taken : (s : List ℕ) (n len size : ℕ) → answer 0 (size ∷ []) ≡ intoAnswer s n len → (u : ℕ) → u ≡ unjudgedBy (msgType s) → _≡_ {A = Taken} (record { answer = 0; size = size; unjudged = u }) (takenOf (seenOf s))
+laid-taken s n len size e u v =
+    let z = laid-reads s n len size e in
+    let t : seenOf s .«msg_type» ≡ msgType s = ap (λ (y : Seen). y .«msg_type») (seen-frame s z) in
+    rw (seen-answer s ∙ z, seen-size s z, t, laid-long s n len size e, v)
 
 -- one that was read otherwise
 pub seen-taken : (s : List ℕ) (x : Seen) (u : ℕ) → x ≡ seenOf s → u ≡ unjudgedBy (x .«msg_type») → _≡_ {A = Taken} (record { answer = seenNumber x; size = x .size; unjudged = u }) (takenOf (seenOf s))

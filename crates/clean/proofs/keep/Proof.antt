@@ -4,7 +4,8 @@ use mathlib.Core.Path.{sym, ap, _∙_}
 use borrow.Author.Needs.{needs}
 use Rattle.octets.specs.Papers.{writtenPaper}
 use Rattle.clean.specs.Passes.{keptOf}
-use Rattle.clean.proofs.Keeps.{into-seen, laid-seen}
+use Rattle.clean_spec.specs.Laid.{into-seen}
+use Rattle.clean.proofs.Keeps.{laid-seen}
 use Rattle.clean.proofs.keep.Statement.{statement}
 use Rattle.clean.proofs.keep.Tie as tie
 

@@ -5,7 +5,8 @@ use borrow.Author.Needs.{needs}
 use Rattle.octets.specs.Papers.{writtenPaper}
 use Rattle.frame_spec.specs.Places.{be-here}
 use Rattle.stream_clean_spec.specs.Wash.{unjudgedBy}
-use Rattle.stream_clean.proofs.Readings.{into-seen, laid-taken, seen-taken}
+use Rattle.clean_spec.specs.Laid.{into-seen}
+use Rattle.stream_clean.proofs.Readings.{laid-taken, seen-taken}
 use Rattle.stream_clean.proofs.take_in.Statement.{statement}
 use Rattle.stream_clean.proofs.take_in.Tie as tie
 
