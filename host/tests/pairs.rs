@@ -1,13 +1,16 @@
 //! CR 13 through the library: two captures that agree in all but private fields and checksum are
 //! listed, recorded, asked about and scrubbed alike. oracle/, the second program, makes the pairs
-//! and judges that they meet the premise.
+//! and judges that they meet the premise. Every function that is lent a capture, a frame or a body
+//! is called here, and the ledger's and the table's calls that a capture is fed to. The rest has
+//! no place here: `write` is lent a message, private body and all, and STEP and market functions
+//! are lent other forms.
 
 use oracle::alike::{captures_alike, pair, pair_of_captures};
 use oracle::made::Dice;
 use rietknoest_host::{
     broken_field, clean, entries, entry, listing, private_spans, read, scrub, search, tail_fields,
-    walk, ChannelNumber, Cleaned, Figures, Ledger, Month, Refusal, Request, Scrubber, Session,
-    Span, Stream, Walked, HEADER, RECORD,
+    walk, ChannelNumber, Channels, Cleaned, Figures, Ledger, Month, Refusal, Request, Scrubber,
+    Session, Span, Stream, Walked, HEADER, RECORD,
 };
 
 /// All that a walk, its listing, a request on its ledger and a cleaning give, with buffers of
@@ -113,6 +116,43 @@ fn paired_frames_scrub_to_the_same_bytes() {
             assert!(a == b, "case {case}: scrubbed frames differ");
         }
     }
+}
+
+/// A ledger and a table that are fed frame by frame answer alike, call by call, and end the same.
+#[test]
+fn ledgers_and_tables_are_fed_alike() {
+    let mut calls = 0;
+    for case in 0..300 {
+        let mut d = Dice::new(17, case);
+        let (ones, others) = pair(&mut d, 4_000, 600);
+        let fed = [ones, others].map(|frames| {
+            let mut ledger = Ledger::open(ChannelNumber::new(100)).unwrap();
+            let mut table = Channels::none();
+            let mut told = Vec::new();
+            for frame in frames {
+                let f = read(&frame, 0).unwrap();
+                let opened = table.open(f.channel);
+                match &f.type_name() {
+                    b"M201" => told.push(format!(
+                        "{opened:?} {:?} {:?}",
+                        ledger.tick(f.channel, f.tick),
+                        table.tick(f.channel, f.tick)
+                    )),
+                    b"P001" => told.push(format!(
+                        "{opened:?} {:?} {:?}",
+                        ledger.announce(f.channel, f.tick),
+                        table.announce(f.channel, f.tick)
+                    )),
+                    _ => {}
+                }
+            }
+            told.push(format!("{:?} {:?}", ledger.status(), table.request()));
+            (told, ledger, table.to_words())
+        });
+        calls += fed[0].0.len() - 1;
+        assert!(fed[0] == fed[1], "case {case}");
+    }
+    assert!(calls > 200, "{calls} calls were made");
 }
 
 /// Which field breaks a rule is told of both alike, where the same public byte was changed in both.

@@ -151,16 +151,17 @@ fn right(first: u64, last: u64, floor: u64, top: u64) -> bool
 }
 
 // Whether the map, read round from `from`, keeps the state rules, where `known` numbers lie above
-// the floor and not above the top. An empty one does. A map has 256 places: where fewer numbers are
-// known, no place is held but those of the ones after the first.
+// the floor and not above the top. A map has 256 places: where so many are known, floor + 1 alone
+// decides. Else an empty map keeps them, and any other where no place is held but those of the
+// numbers after the first.
 fn map_sound(map: Map, from: u64, known: u64) -> bool
     ensures { λ r. ⌜ r ≡ mapRules (rotated from (bitsIn map)) known ⌝ }
 {
-    if map.empty() {
-        return true;
-    }
     if 256 <= known {
         return !map.holds(from % 256);
+    }
+    if map.empty() {
+        return true;
     }
     if known == 0 {
         return false;

@@ -20,9 +20,9 @@ use Rattle.ledger_spec.specs.Calls.{Request, Ask, Missing, Held, answerT
 use Rattle.ledger_spec.specs.Trace.{History}
 use Rattle.ledger_spec.specs.Words.{answered, received, givenUp, settled, numbers, chosen, handedOut, knownTop, pending, delivered, held, missing, ticksTaken, count, floorOf}
 
--- "the numbers handed out rise, each once; every number up to the floor was either received and
--- delivered, or given up, never both; the floor stands just below the first number neither received
--- nor given up"
+-- "For every sequence of calls on a fresh ledger, refusals included: the numbers handed out rise,
+-- each once; every number up to the floor was either received and delivered, or given up, never
+-- both; the floor stands just below the first number neither received nor given up"
 pub record Deliveries (h : History) (b : Book) : Type 0 where
   pub rising : handedOut h ≡ chosen (received h) (numbers 1 (b .floor))
   pub delivered-or-given-up : (n : ℕ) → 1 ≤ n → n ≤ b .floor → ((received h n ≡ true) × (delivered h n ≡ true)) ⊎ (givenUp h n ≡ true)

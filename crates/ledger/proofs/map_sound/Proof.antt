@@ -1,5 +1,6 @@
--- With 256 numbers known the first place alone decides; where nothing is known nothing may be held;
--- else only the known places after the first. Assumes nothing.
+-- With 256 numbers known the first place alone decides. Else an empty map is sound; where nothing
+-- is known nothing else is; and else only the known places after the first may be held. Assumes
+-- nothing.
 use mathlib.Core.Path.{sym, ap, _∙_}
 use mathlib.Core.Bool.{not}
 use Prim.Native.Nat.{_<_}
@@ -15,26 +16,26 @@ use Rattle.ledger.proofs.map_sound.Tie as tie
 words : (c : tie.Start) → Words (c .args .map .words)
 words c = record { four = search needs; low = λ i. search needs }
 
-empty-requires : tie.Need-empty-requires
-empty-requires c κs = search needs
+holds-requires : tie.Need-holds-requires
+holds-requires c κs = search needs
 
 returns : tie.Need-returns
 returns c =
     let s = c .before .before in
-    rules-empty (s .args .from) (s .args .known) _ (list-lt _ (words s)) (eqb-true _ _ (sym (c .before .empty .ensures) ∙ c .if1 .taken))
+    ap not (c .holds .ensures) ∙ rules-all (s .args .from) (s .args .known) _ (list-lt _ (words s)) (c .before .if1 .taken)
 
-holds-requires : tie.Need-holds-requires
-holds-requires c κs = search needs
+empty-requires : tie.Need-empty-requires
+empty-requires c κs = search needs
 
 returns-2 : tie.Need-returns-2
 returns-2 c =
-    let s = c .before .before .before .before in
-    ap not (c .holds .ensures) ∙ rules-all (s .args .from) (s .args .known) _ (list-lt _ (words s)) (c .before .if2 .taken)
+    let s = c .before .before .before in
+    rules-empty (s .args .from) (s .args .known) _ (list-lt _ (words s)) (eqb-true _ _ (sym (c .before .empty .ensures) ∙ c .if2 .taken))
 
 returns-3 : tie.Need-returns-3
 returns-3 c =
     let s = c .before .before .before .before in
-    rules-none (s .args .from) (s .args .known) _ (list-lt _ (words s)) (eqb-false _ _ (sym (c .before .before .before .empty .ensures) ∙ c .before .before .if1 .left)) (c .if3 .taken)
+    rules-none (s .args .from) (s .args .known) _ (list-lt _ (words s)) (eqb-false _ _ (sym (c .before .before .empty .ensures) ∙ c .before .if2 .left)) (c .if3 .taken)
 
 sub-none-but : tie.Need-sub-none-but
 sub-none-but c = search needs
@@ -51,4 +52,4 @@ returns-4 c =
 
 pub map-sound-spec : {M : Type 1} → statement M
 map-sound-spec =
-    tie.close (tie.spec empty-requires returns holds-requires returns-2 returns-3 sub-none-but none-but-requires returns-4)
+    tie.close (tie.spec holds-requires returns empty-requires returns-2 returns-3 sub-none-but none-but-requires returns-4)
