@@ -2,7 +2,7 @@
 //! lent.
 
 use crate::plain::{Ledger, Settled};
-use crate::{best_of, done, number, Job};
+use crate::{done, number, Job};
 use rietknoest_host as host;
 use rietknoest_host::{ChannelNumber, Channels, Passed, TickNumber};
 use std::hint::black_box;
@@ -263,39 +263,6 @@ fn requests(input: &str, channels: u16) {
     );
 }
 
-/// A granted request by itself: on a copy of a table each time, less the copying.
-fn granted(input: &str, channels: u16) {
-    let (ours, theirs) = missing(channels);
-    let [asked, copied, plain_asked, plain_copied] = best_of(
-        (200, 2_000),
-        1,
-        [
-            &mut || {
-                let mut table = black_box(ours);
-                done(table.request());
-                done(table);
-            },
-            &mut || done(black_box(ours)),
-            &mut || {
-                let mut table = black_box(theirs);
-                done(table.request());
-                done(table);
-            },
-            &mut || done(black_box(theirs)),
-        ],
-    );
-    let (ours, theirs) = (asked - copied, plain_asked - plain_copied);
-    let verdict = if ours <= 2.0 * theirs {
-        "met"
-    } else {
-        "missed"
-    };
-    println!(
-        "| table request | {input}, on a copy of the table, less the copying | {ours:.1} ns a request | {theirs:.1} ns a request | {:.2}x | 2.00x, {verdict} |",
-        ours / theirs
-    );
-}
-
 /// Requests, each with its reply: the ledger's own reply is most of it.
 fn replies(input: &str, channels: u16) {
     let (ours, theirs) = missing(channels);
@@ -361,8 +328,6 @@ fn busy() {
 pub fn rows() {
     ticks("one channel", 1);
     ticks("32 channels in turn", 32);
-    granted("two channels", 2);
-    granted("32 channels", 32);
     requests("two channels", 2);
     requests("32 channels", 32);
     busy();
