@@ -30,7 +30,7 @@ use Rattle.private.specs.PrivateLaws.{PrivateByte, private-is}
 use Rattle.frame.specs.declared.Found.{Found}
 use Rattle.frame.specs.Papers.{foundPaper}
 use Rattle.frame_spec.specs.Lowest.{ReadsAt, LowestPlace, search-given-place, search-given-none, search-given-9}
-use Rattle.promises.specs.Calls.{ReadCall, BodyCall, WriteCall, SearchCall, ScrubCall}
+use Rattle.promises_frames.specs.Calls.{ReadCall, BodyCall, WriteCall, SearchCall, ScrubCall}
 
 -- the bytes from a place on are bytes
 small-drop : (at : ℕ) (s : List ℕ) → Bytes s → Bytes (drop at s)

@@ -22,7 +22,7 @@ use Rattle.private.specs.Laws.{scrub-number, refused-same}
 use Rattle.host_words.specs.Told.{seen}
 use Rattle.host_frames.specs.Means.{HostRead, HostWrote, HostScrubbed}
 use Rattle.host_frames.proofs.Means as Means
-use Rattle.promises.specs.Demand2.{ScrubbedFrame, scrubbed-frame}
+use Rattle.promises_frames.specs.Demand2.{ScrubbedFrame, scrubbed-frame}
 
 -- "A frame reads exactly if it meets IS120 0.62 as document 01 sets it out."
 pub host-reads-exactly : {f : List ℕ} {x : ℕ} {row : List ℕ} → HostRead f x row → (x ≡ 0) ↔ Reads0 f

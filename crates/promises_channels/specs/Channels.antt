@@ -37,7 +37,7 @@ use Rattle.channels_seam.proofs.Stays as Stays
 use Rattle.channels_seam.proofs.Seats as Seats
 use Rattle.channels_seam.proofs.Broken as Broken
 use Rattle.channels_seam.proofs.Numbers as Numbers
-use Rattle.promises.specs.Calls.{Promises}
+use Rattle.promises_words.specs.Words.{Promises}
 
 -- what the promise of rk_channels allows, to a table and to the call and answer lent beside it, is
 -- such a call

@@ -68,9 +68,7 @@ use Rattle.host_session.proofs.rk_session_receive.Reads as rk-session-receive
 use Rattle.host_session.proofs.rk_session_receive.Kinds as rk-session-receive-kinds
 use Rattle.host_session.proofs.rk_session_may_send.Reads as rk-session-may-send
 use Rattle.host_session.proofs.rk_session_may_send.Kinds as rk-session-may-send-kinds
-use Rattle.promises.specs.Calls.{Promises}
-use Rattle.promises.specs.Demand1.{inTable, Numbered, done, refused}
-use Rattle.promises.specs.HostNumbers.{tells-numbered}
+use Rattle.promises_words.specs.Words.{Promises, inTable, Numbered, done, refused, picked, tells-numbered}
 
 -- "FOR EVERY SEQUENCE OF TIMES AND RECEIVED FRAMES THE MESSAGES TO SEND ARE THOSE OF THE SIMPLE
 -- TABLE OF STATES": of what the code runs
@@ -300,8 +298,9 @@ pub host-new-session : Promises _ rk-ledger-renew-kinds.ps rk-ledger-renew-kinds
 host-new-session κs a x s p r = host-ledgers.renew-new-session κs a x s p r
 
 -- "DEMAND 3 THEN COUNTS THAT REQUEST AS NO LONGER PENDING": `handed-out` to `counted` of
--- Demand3.antt are over rows of calls with `Renew` among them, and `pending` is told from the calls
--- alone: granted, no reply answered 0 since, no new session since (`stillPending` of `ledger_spec`)
+-- `promises_ledger` are over rows of calls with `Renew` among them, and `pending` is told from the
+-- calls alone: granted, no reply answered 0 since, no new session since (`stillPending` of
+-- `ledger_spec`)
 pub no-longer-pending : (channel : ℕ) → channel ≤ 9999 → (calls : ledger-trace.Calls)
     → OnlyCleared (ledger-trace.trace channel calls) (ledger-trace.trace channel (ledger-trace._▸_ calls Renew))
 no-longer-pending = answers.new-session-told
@@ -363,10 +362,6 @@ celled over (Logon number heart) dead due = refused refl
 celled over (Logout number) dead due = refused refl
 celled over (Other number) dead due = refused refl
 celled over (Faulty why) dead due = faulty why
-
-picked : (b : Bool) (m n : ℕ) → Numbered m → Numbered n → Numbered (pick b m n)
-picked true m n p q = p
-picked false m n p q = q
 
 own-numbered : (l : Line) (t : ℕ) (e : Event) → Numbered (ownNumber l t e (cellOf l t e))
 unfolding ownNumber cellOf inTable

@@ -47,7 +47,7 @@ use Rattle.host_month.proofs.rk_month_start.Reads as rk-month-start
 use Rattle.host_month.proofs.rk_month_start.Kinds as rk-month-start-kinds
 use Rattle.host_month.proofs.rk_month_add.Reads as rk-month-add
 use Rattle.host_month.proofs.rk_month_add.Kinds as rk-month-add-kinds
-use Rattle.promises.specs.Calls.{Promises}
+use Rattle.promises_words.specs.Words.{Promises}
 
 -- ======== One capture
 

@@ -4,12 +4,8 @@
 use Prim.Native.Nat.{ℕ}
 use mathlib.Core.Path.{_≡_}
 use mathlib.Core.List.{List}
-use contract.Lifetimes.{Lfts}
-use borrow.Fn.Kinds.{PK, RK, Dens, resT, endedOf, Out}
-use denote.Triple.Clauses.{AtExit}
 use denote.Ref.{now}
 use lib.ListN.{length, drop}
-use Rattle.terms.specs.Paper.{Paper}
 use Rattle.octets.specs.declared.Written.{Written}
 use Rattle.octets.specs.Papers.{writtenPaper}
 use Rattle.frame.specs.declared.Read.{Read}
@@ -29,11 +25,7 @@ use Rattle.frame.proofs.search.Kinds as search-kinds
 use Rattle.private.specs.Scrub.{scrubbed, scrubAnswer}
 use Rattle.scrub.proofs.scrub.Reads as scrub
 use Rattle.scrub.proofs.scrub.Kinds as scrub-kinds
-
--- whatever a function may answer by its promise is told by `what`: its arguments, its answer, what
--- it leaves in lent buffers
-abbrev pub Promises : (n : ℕ) (ps : List (PK n)) (r : RK n) → Out n ps r → ((κs : Lfts n) → Dens κs ps → resT r κs .Denot → AtExit (endedOf n ps r) κs → Type 0) → Type 0
-Promises n ps r post what = (κs : Lfts n) (a : Dens κs ps) (x : resT r κs .Denot) (s : AtExit (endedOf n ps r) κs) → post κs a x s → what κs a x s
+use Rattle.promises_words.specs.Words.{Promises}
 
 -- `read_at` of bytes at a place answers x
 pub record ReadCall (bytes : List ℕ) (at : ℕ) (x : Read) : Type 0 where

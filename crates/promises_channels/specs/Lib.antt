@@ -1,0 +1,4 @@
+pub mod Demand1
+pub mod HostNumbers
+pub mod Channels
+pub mod Month
