@@ -531,8 +531,8 @@ pub fn month_start(channels: &[u16], state: &mut Month) -> u32 {
 pub fn month_add(state: &mut Month, capture: &[u8], told: &mut FiguresRow) -> u32 {
     let (read, len) = (capture.as_ptr(), capture.len());
     // SAFETY: `capture` is passed with its own length and only read, any bytes in it; `state` is a
-    // row of 226, with any words in it, `told` one of 192. Both are `&mut`: neither overlaps another
-    // argument.
+    // row of 226, with any words in it, `told` one of 192. Both are `&mut`: neither overlaps
+    // another argument.
     unsafe { rk_month_add(state, read, len, told) }
 }
 
