@@ -181,8 +181,8 @@ typedef struct {
 } rk_broken;
 RK_SIZE(rk_broken, 5);
 
-/* Why reading answers 6: the lowest field of a body of that type whose rule is broken. It is told
- * from public bytes alone.
+/* Why reading answers 6: the lowest field of a body of that type whose rule is broken. It is
+ * found from public bytes alone.
  * Returns 0, 2, 3, 4. 0 writes *told. */
 uint32_t rk_broken_field(uint32_t msg_type, const uint8_t *body, size_t len, rk_broken *told);
 
@@ -291,8 +291,8 @@ uint32_t rk_ledger_missing(const rk_ledger *state, uint16_t channel, uint64_t a,
 
 /* THIRTY-TWO CHANNELS, ONE LINE */
 
-/* Up to 32 ledgers, one request pending for all of them. You lend the table, and find it updated
- * where it stands. A request goes to the first channel with something missing, counted round from
+/* Up to 32 ledgers, one request pending for all of them. Each call updates the
+ * table in place. A request goes to the first channel with something missing, counted round from
  * the place after the last one asked: a channel that stays open and keeps something missing is
  * asked within 32 granted requests.
  *
@@ -412,7 +412,7 @@ static inline uint32_t rk_channels_missing(rk_table *table, uint16_t channel, ui
 }
 
 /* A new session of the line begins: what is pending no longer is. Nothing else changes; the next
- * request still goes on behind the place last asked.
+ * request still goes on after the place last asked.
  * Returns 0, 13. */
 static inline uint32_t rk_channels_renew(rk_table *table) {
     return (uint32_t)rk_channels_call(table, RK_CHANNEL_RENEW, 0, 0, 0).answer;
@@ -594,8 +594,8 @@ uint32_t rk_stream_clean_close(uint64_t words[6], rk_ledger *ledger, uint8_t kep
 
 typedef struct {
     uint64_t kind;       /* the letter of 35: A 5 0 1 2 3 4 */
-    uint64_t fields;     /* where the fields behind 35 start, counted from the frame's start */
-    uint64_t fields_len; /* their bytes: tag, '=', value and SOH of each, one behind the other */
+    uint64_t fields;     /* where the fields after 35 start, counted from the frame's start */
+    uint64_t fields_len; /* their bytes: tag, '=', value and SOH of each, one after the other */
     uint64_t len;        /* of the frame, at most 8,192 */
 } rk_step_frame;
 RK_SIZE(rk_step_frame, 4);
@@ -604,7 +604,7 @@ typedef struct {
     uint64_t tag;
     uint64_t value; /* where its value starts among the fields */
     uint64_t value_len;
-    uint64_t behind; /* the place behind the field, for the next one */
+    uint64_t behind; /* the place after the field, for the next one */
 } rk_step_field_at;
 RK_SIZE(rk_step_field_at, 4);
 
@@ -634,7 +634,7 @@ enum rk_market {
     RK_MARKET_LINE_TYPE = 42, /* a line begins with none of MD401, MD404, MD405, MD406, TRAILER */
     RK_MARKET_COLUMN = 43,    /* a column, bar or newline of a line; a value that does not fit its column */
     RK_MARKET_COUNT = 44,     /* the header's count is not the number of lines */
-    RK_MARKET_TRAILER = 45,   /* a byte behind TRAILER */
+    RK_MARKET_TRAILER = 45,   /* a byte after TRAILER */
     RK_MARKET_SUM = 46,       /* the three digits are not the sum of all bytes before them */
     RK_MARKET_LARGE = 47      /* above 65,536 bytes */
 };
@@ -652,12 +652,12 @@ RK_SIZE(rk_finding, 2);
 rk_finding rk_market_check(const uint8_t *file, size_t len);
 
 /* The values of a file. As rk_market_check, then 8; len bytes are always room enough.
- * 0 writes out's first place bytes. */
+ * 0 writes the first .place bytes of out. */
 rk_finding rk_market_values(const uint8_t *file, size_t len, uint8_t *out, size_t out_len);
 
 /* The file that values make: count and sum are worked out. 40, 42, 43 by rising place among the
  * values, then 47, then 8; 65,536 bytes are always room enough.
- * 0 writes out's first place bytes. */
+ * 0 writes the first .place bytes of out. */
 rk_finding rk_market_write(const uint8_t *values, size_t len, uint8_t *out, size_t out_len);
 
 /* A MONTH OF CAPTURES */
@@ -689,8 +689,8 @@ typedef struct {
 } rk_month;
 RK_SIZE(rk_month, 226);
 
-/* A page of these channels, with nothing taken. They are judged one by one, and the first that is
- * refused answers: 10 above 9,999, 22 if it was named before, 21 for a 33rd.
+/* A page of these channels, with nothing taken. They are judged one by one, and the code is
+ * that of the first one refused: 10 above 9,999, 22 if it was named before, 21 for a 33rd.
  * Returns 0, 10, 22, 21. 0 writes *state. */
 uint32_t rk_month_start(const uint16_t *channels, size_t named, rk_month *state);
 

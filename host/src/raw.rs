@@ -344,12 +344,15 @@ pub fn ledger_missing(
     unsafe { rk_ledger_missing(state, channel.value(), a.value(), b.value(), told) }
 }
 
-// CAPTURES
+// THIRTY-TWO CHANNELS
 
 pub fn channels(table: &mut Channels, exchange: &mut Exchange) {
-    // SAFETY: both are rows
+    // SAFETY: both are structs of numbers in the header's layout, with any numbers in them, and two
+    // `&mut` do not overlap.
     unsafe { rk_channels(table, exchange) }
 }
+
+// CAPTURES
 
 pub fn walk(capture: &[u8], records: &mut [u8], state: &mut Ledger, told: &mut Counts) -> u32 {
     let (read, len) = (capture.as_ptr(), capture.len());
@@ -516,19 +519,24 @@ pub fn market_write(values: &[u8], out: &mut [u8]) -> Finding {
     unsafe { rk_market_write(values.as_ptr(), values.len(), out.as_mut_ptr(), out.len()) }
 }
 
-// A SESSION
+// A MONTH OF CAPTURES
 
 pub fn month_start(channels: &[u16], state: &mut Month) -> u32 {
     let (named, count) = (channels.as_ptr(), channels.len());
-    // SAFETY: a slice of two-byte numbers; a row
+    // SAFETY: `channels` is passed with its own length, in two-byte numbers, and only read; any
+    // numbers are allowed. `state` is a row of 226, which `channels` can't overlap: it is `&mut`.
     unsafe { rk_month_start(named, count, state) }
 }
 
 pub fn month_add(state: &mut Month, capture: &[u8], told: &mut FiguresRow) -> u32 {
     let (read, len) = (capture.as_ptr(), capture.len());
-    // SAFETY: a slice; two rows
+    // SAFETY: `capture` is passed with its own length and only read, any bytes in it; `state` is a
+    // row of 226, with any words in it, `told` one of 192. Both are `&mut`: neither overlaps
+    // another argument.
     unsafe { rk_month_add(state, read, len, told) }
 }
+
+// A SESSION
 
 pub fn session_open(state: &mut Session) -> u32 {
     // SAFETY: `state` is a row of eight.

@@ -1,4 +1,4 @@
-//! "All numbers are unsigned, high byte first (000, 2.2.1)."
+//! Numbers in bytes: without a sign, high byte first (source 000, 2.2.1).
 
 /// The number that the bytes spell, high byte first. At most 8 bytes.
 pub fn number(bytes: &[u8]) -> u64 {
@@ -20,8 +20,8 @@ pub fn put(bytes: &mut [u8], at: usize, width: usize, value: u64) {
     assert_eq!(rest, 0, "the value does not fit the width");
 }
 
-/// "CheckSum is the sum of all header and body bytes modulo 256, stored as a
-/// 32-bit number. The sum is kept in one byte that rolls over."
+/// The sum for CheckSum: all bytes of header and body, added up in one byte that
+/// rolls over. It is stored in four.
 pub fn sum(bytes: &[u8]) -> u8 {
     let mut sum = 0u8;
     for b in bytes {

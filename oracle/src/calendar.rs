@@ -1,5 +1,5 @@
-//! CR 6: "A frame's time must be a real date of the Gregorian calendar from year
-//! 2000 to 9999, hour to 23, minute and second to 59, milliseconds to 999."
+//! CR 6: which times are real. A date of the Gregorian calendar, years 2000 to
+//! 9999; hour at most 23, minute and second 59, milliseconds 999.
 
 /// The days of the months, January first, of a year that has no 29 February.
 const DAYS: [u64; 12] = [31, 28, 31, 30, 31, 30, 31, 31, 30, 31, 30, 31];

@@ -1,5 +1,5 @@
-//! A capture scrubbed: "the walk's accepted frames in order, each scrubbed,
-//! stray bytes left out" (document 02, CR 11).
+//! A capture scrubbed: the frames that the walk accepts, each scrubbed, one
+//! after the other, and no other byte (document 02, CR 11).
 
 use crate::answer::No;
 use crate::scrub::scrub;

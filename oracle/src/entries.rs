@@ -20,8 +20,8 @@ pub enum Entry {
     },
 }
 
-/// "Entries are walked by a small reader that carries the caller's body bytes
-/// and its place." It may be made by hand, over any body and any place.
+/// The reader of an M102's entries: the caller's body, and a place in it. It may
+/// be made by hand, over any body and any place.
 #[derive(Clone, Copy, Debug, PartialEq, Eq)]
 pub struct Reader<'a> {
     pub body: &'a [u8],
@@ -29,9 +29,8 @@ pub struct Reader<'a> {
 }
 
 impl<'a> Reader<'a> {
-    /// "Opening it on a body checks 3, 4, 6 as for M102". Beside a refusal
-    /// stands a reader over the body's empty part, whose every step is 20
-    /// (0.7).
+    /// Opens it: 3, 4, 6, as of an M102. Beside a refusal stands a reader over the
+    /// body's empty part, whose every step is 20 (0.7).
     pub fn open(body: &'a [u8]) -> (Reader<'a>, Result<(), No>) {
         let refused = Reader {
             body: &body[..0],
@@ -49,9 +48,9 @@ impl<'a> Reader<'a> {
         (Reader { body, place: 73 }, Ok(()))
     }
 
-    /// "A step gives the entry and the reader after it, or 20." It judges only
-    /// what the row of 20 names, so that a reader over an unsound body still
-    /// steps; beside a 20 stands the reader passed in (0.7).
+    /// A step: an entry, and the reader past it; else 20. It judges only what the
+    /// row of 20 names, so that a reader over an unsound body still steps; beside a
+    /// 20 stands the reader passed in (0.7).
     pub fn step(self) -> (Reader<'a>, Result<Entry, No>) {
         let refused = (self, Err(No::Entries));
         // "the entry reader's body is below 73 bytes"

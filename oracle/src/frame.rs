@@ -6,14 +6,15 @@ use crate::calendar::real;
 use crate::numbers::Session;
 use crate::rules::{Kind, MOST_BODY};
 
-/// "Header: MsgType 4 bytes, SendingTime 8, MsgSeqNum 8, BodyLength 4."
+/// The bytes of a header: MsgType has 4, SendingTime and MsgSeqNum 8 each,
+/// BodyLength 4.
 pub const HEADER: usize = 24;
 
 /// "Then CheckSum, 4 bytes."
 pub const CHECK_SUM: usize = 4;
 
-/// "A message is MsgType, SendingTime, MsgSeqNum and the body; writing works
-/// out the rest."
+/// What a writer gives: type, time, number and body. Length and sum are worked
+/// out.
 #[derive(Clone, Debug, PartialEq, Eq)]
 pub struct Message {
     pub msg_type: [u8; 4],
@@ -30,8 +31,8 @@ impl Message {
 }
 
 /// Reads the frame at the front of the bytes; what follows it does not matter
-/// (0.6). "Reading checks in this order: 24 bytes, 2, 3, 4, whole length, 5,
-/// 6", and 7 "after 5 and before 6" (CR 6).
+/// (0.6). The checks: 24 bytes are there, 2, 3, 4, the whole frame is there, 5,
+/// 7 (CR 6), 6.
 pub fn read(bytes: &[u8]) -> Result<Message, No> {
     // "fewer than 24 bytes"
     if bytes.len() < HEADER {
@@ -81,7 +82,7 @@ pub fn read(bytes: &[u8]) -> Result<Message, No> {
 
 /// Writes the message's frame to the front of the buffer and answers its
 /// length. Writing checks 2, 3, 4, 7, 6, 8 (6.1). A refusal leaves the buffer as it
-/// stood; "success leaves bytes beyond the written ones as they stood".
+/// stood, and bytes behind the written ones always stay.
 pub fn write(message: &Message, out: &mut [u8]) -> Result<usize, No> {
     let Some(kind) = Kind::of(message.msg_type) else {
         return Err(No::Type);
@@ -114,9 +115,9 @@ pub fn write(message: &Message, out: &mut [u8]) -> Result<usize, No> {
     Ok(whole)
 }
 
-/// "The search answers the lowest place at or after the given one where a
-/// frame reads 0, to the end of a closed capture, or that none exists." 9 for
-/// a start beyond the end; a start at the end finds none (0.8).
+/// The lowest place from a start on, up to the end of the bytes, at which a frame
+/// reads, or none. 9 for a start beyond the end; a start at the end finds none
+/// (0.8).
 pub fn search(capture: &[u8], from: u64) -> Result<Option<usize>, No> {
     if from > capture.len() as u64 {
         return Err(No::Place);

@@ -1,31 +1,30 @@
 //! The gap ledger of one tick channel.
 //!
-//! "Every ledger call takes the ledger and gives back the next one." All fields
-//! are open, so that a state may be made by hand; each call checks it first.
+//! Each call takes a ledger and returns the next one. All fields are open, so
+//! that a state may be made by hand; each call checks it first.
 
 use crate::answer::No;
 use crate::numbers::{Channel, Tick, MOST, MOST_CHANNEL};
 
-/// "a map of 256 bits .. for the numbers floor + 1 to floor + 256"
+/// How many numbers above the floor have a place.
 pub const PLACES: u64 = 256;
 
-/// "broken off .. at 200 numbers"
+/// How many numbers a request asks for at most.
 pub const MOST_ASKED: u64 = 200;
 
 /// A span of fewer numbers is counted number by number.
 const SHORT: u64 = 1_000;
 
-/// "the pending request": no request is a case of its own (0.9).
+/// What was asked for and not answered: no request is a case of its own (0.9).
 #[derive(Clone, Copy, Debug, PartialEq, Eq)]
 pub enum Pending {
     Nothing,
     Asked { first: Tick, last: Tick },
 }
 
-/// "State: channel, floor (all numbers up to it received" or given up, by CR 7),
-/// "top (largest number offered and not refused by 18 or 10, or announced), a
-/// map of 256 bits in four words for the numbers floor + 1 to floor + 256, and
-/// the pending request."
+/// A ledger. Every number up to the floor was received or given up (CR 7); the
+/// top is the largest number that was announced, or offered and answered neither
+/// 10 nor 18.
 #[derive(Clone, Copy, Debug, PartialEq, Eq)]
 pub struct Ledger {
     pub channel: Channel,
@@ -99,8 +98,7 @@ impl Ledger {
         }
     }
 
-    /// "Opening a ledger checks 10; refused, a fresh ledger for channel 0
-    /// stands beside the number."
+    /// Opens a ledger, or 10; beside 10 stands a fresh ledger of channel 0.
     pub fn open(channel: Channel) -> (Ledger, Result<(), No>) {
         if channel.0 > MOST_CHANNEL {
             return (Ledger::fresh(Channel(0)), Err(No::Number));
@@ -143,19 +141,18 @@ impl Ledger {
 
     /// The state rules.
     pub fn sound(self) -> bool {
-        // "channel at most 9,999; floor not above top, top at most 18 digits"
+        // channel, floor and top
         if self.channel.0 > MOST_CHANNEL || self.floor.0 > self.top.0 || self.top.0 > MOST {
             return false;
         }
-        // "floor + 1 and all above top not held"
+        // floor + 1 is not held, nor is any number above the top
         for (i, held) in self.held.iter().enumerate() {
             let n = self.floor.0 + 1 + i as u64;
             if *held && (i == 0 || n > self.top.0) {
                 return false;
             }
         }
-        // "a pending request starts from 1 to floor + 1, ends from its start to
-        // top, and has at most 200 numbers"
+        // a pending range does not start above floor + 1, nor end above the top
         match self.pending {
             Pending::Nothing => true,
             Pending::Asked { first, last } => {
@@ -168,7 +165,7 @@ impl Ledger {
         }
     }
 
-    /// "Ledger calls check 13 first, then 18".
+    /// What each call checks first: 13, then 18.
     fn check(self, channel: Channel) -> Result<(), No> {
         if !self.sound() {
             return Err(No::State);
@@ -186,9 +183,8 @@ impl Ledger {
             || (n - self.floor.0 <= PLACES && self.held[(n - self.floor.0 - 1) as usize])
     }
 
-    /// "Tick: marked received; the floor moves to just below the first number
-    /// not received; the answer names the numbers newly passed, perhaps none."
-    /// Checks 13, 18, 10, 11, 12.
+    /// A tick is received. The floor moves up to the first number that was not,
+    /// and the answer has the numbers that it passed. Checks 13, 18, 10, 11, 12.
     pub fn tick(self, channel: Channel, number: Tick) -> (Ledger, Result<Option<Range>, No>) {
         if let Err(no) = self.check(channel) {
             return (self, Err(no));
@@ -234,8 +230,7 @@ impl Ledger {
         }
     }
 
-    /// "Announcement (P001): top becomes the larger of the two; a lower one
-    /// changes nothing." Checks 13, 18, 10.
+    /// An announcement (P001) raises the top, or changes nothing. Checks 13, 18, 10.
     pub fn announce(self, channel: Channel, last: Tick) -> (Ledger, Result<(), No>) {
         if let Err(no) = self.check(channel) {
             return (self, Err(no));
@@ -253,8 +248,8 @@ impl Ledger {
         )
     }
 
-    /// "Request: from floor + 1 up to the top, broken off before the first held
-    /// number and at 200 numbers." Checks 13, 18, 14, 15.
+    /// A request: the run of missing numbers from floor + 1 on, at most 200 of
+    /// them. Checks 13, 18, 14, 15.
     pub fn request(self, channel: Channel) -> (Ledger, Result<Range, No>) {
         if let Err(no) = self.check(channel) {
             return (self, Err(no));
@@ -284,10 +279,9 @@ impl Ledger {
         (Ledger { pending, ..self }, Ok(range))
     }
 
-    /// "Reply (P002): a request is pending from its grant until a reply
-    /// answered 0; then pending is cleared. A status of "all done" marks
-    /// nothing as received; only ticks do." Checks 13, 18, 17, 16. The reply's
-    /// last number is compared with nothing (0.12) and is not asked for here.
+    /// A reply (P002) clears what is pending. No status makes a number received;
+    /// only a tick does. Checks 13, 18, 17, 16. The reply's last number is compared
+    /// with nothing (0.12) and is not asked for here.
     pub fn reply(self, channel: Channel, first: Tick, status: u8) -> (Ledger, Result<Settled, No>) {
         if let Err(no) = self.check(channel) {
             return (self, Err(no));

@@ -1,8 +1,7 @@
 //! The three counters that the source keeps apart.
 //!
-//! "The session's MsgSeqNum and the channel's ApplSeqNum are counters that the
-//! source keeps apart, and so is ChannelNO; one offered where another belongs
-//! is refused when the program is built."
+//! A session's MsgSeqNum, a channel's ApplSeqNum and ChannelNO are types of their
+//! own: one in another's place does not build.
 //!
 //! Each of the six mix-ups:
 //!

@@ -4,7 +4,7 @@ use crate::answer::No;
 use crate::bytes::{number, put};
 use crate::numbers::{Channel, Session, Tick};
 
-/// "Records have 64 bytes, numbers high byte first, and no file header".
+/// The bytes of a record. There is no file header.
 pub const SIZE: usize = 64;
 
 /// MsgType of the record of a refused reading.
@@ -24,9 +24,8 @@ pub struct Record {
 }
 
 impl Record {
-    /// "If reading answered 1 to 6, MsgType is four spaces and all numbers but
-    /// place, answer, floor and top are 0", and "a record of answer 7 is filled
-    /// as one of 1 to 6" (CR 6).
+    /// Of a refused reading, 1 to 7 (7 by CR 6): place, answer, floor and top;
+    /// four spaces for a type, and 0 for all else.
     pub fn refused(place: u64, answer: u32, floor: Tick, top: Tick) -> Record {
         Record {
             place,
@@ -47,8 +46,7 @@ impl Record {
         self.msg_type == BLANK
     }
 
-    /// "place 8, MsgType 4, answer 4, MsgSeqNum 8, tick number 8, channel 2,
-    /// zero 2, BodyLength 4, floor 8, top 8, zero 8"
+    /// The fields in order, 8, 4, 4, 8, 8, 2, 2, 4, 8, 8 and 8 bytes; two are zero.
     pub fn bytes(self) -> [u8; SIZE] {
         let mut b = [0u8; SIZE];
         put(&mut b, 0, 8, self.place);
@@ -79,8 +77,8 @@ impl Record {
         }
     }
 
-    /// "Columns: place, type (`----` where blank), answer, MsgSeqNum, channel,
-    /// tick number, floor, top." The line ends in a newline (0.17).
+    /// A line of the listing: eight columns, a blank type as `----`. It ends in a
+    /// newline (0.17).
     pub fn line(self) -> Vec<u8> {
         let name = if self.is_refused() {
             *b"----"
@@ -110,8 +108,8 @@ pub fn lay(records: &[Record], buffer: &mut [u8]) -> Result<(), No> {
     Ok(())
 }
 
-/// The last line of a listing. "`frames` counts readings answered 0, `refused`
-/// recorded reading refusals only; `missing` is the ledger's."
+/// The last line of a listing. `frames` are the readings answered 0, `refused`
+/// those that reading itself refused; `missing` the ledger counts.
 pub fn summary(frames: u64, refused: u64, floor: Tick, top: Tick, missing: u64) -> Vec<u8> {
     format!(
         "frames {} refused {} floor {} top {} missing {}\n",

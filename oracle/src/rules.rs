@@ -3,7 +3,7 @@
 use crate::bytes::number;
 use crate::tails;
 
-/// "A whole frame is at most 8,192 bytes, so a body is at most 8,164."
+/// The longest body: that of a frame of 8,192 bytes.
 pub const MOST_BODY: usize = 8_164;
 
 /// The types of the table, in its order.
@@ -152,12 +152,11 @@ fn p002(body: &[u8]) -> bool {
     let begin = f.number(8);
     let end = f.number(8);
     let status = f.number(1);
-    // "P002: ResendType 1, ApplBegSeqNum above 0, ResendStatus 0 (a request),
-    // 1 to 5 or 99."
+    // ResendType, the first number, and ResendStatus; status 0 is a request
     resend_type == 1
         && begin > 0
         && (status <= 5 || status == 99)
-        // "In a request ApplEndSeqNum is 0 or not below ApplBegSeqNum."
+        // a request is open-ended, or does not end below its start
         && (status != 0 || end == 0 || end >= begin)
         // "ChannelNO 4 digits", "both resend numbers have at most 18 digits"
         && digits(channel, 4)
@@ -168,8 +167,8 @@ fn p002(body: &[u8]) -> bool {
 /// The stream whose entries are short.
 pub const INDEX_STREAM: &[u8] = b"MD001";
 
-/// "An M102 entry is type 2, price 8 for stream MD001 (10 bytes), else type 2,
-/// price 8, size 8, position 1 (19 bytes)." The body has at least 73 bytes.
+/// The bytes of an M102 entry: 10 for stream MD001, type and price alone; 19 for
+/// any other, with size and position. The body has at least 73 bytes.
 pub fn entry_size(body: &[u8]) -> usize {
     if &body[10..15] == INDEX_STREAM {
         10
@@ -183,8 +182,7 @@ pub fn entry_count(body: &[u8]) -> usize {
     number(&body[71..73]) as usize
 }
 
-/// "SecurityType and stream pair as 1 with MD001 to MD004, 2 with MD301,
-/// 3 with MD101 or MD102, 12 with MD201, 13 with MD210, 14 with MDE01."
+/// Which stream goes with which SecurityType.
 pub fn stream_pairs(security_type: u64, stream: &[u8]) -> bool {
     match security_type {
         1 => [b"MD001", b"MD002", b"MD003", b"MD004"]
@@ -230,7 +228,7 @@ fn m102(body: &[u8]) -> bool {
         && digits(volume, 16)
         && digits(trades, 16)
         && digits(value, 16);
-    // "The body is 73 bytes plus NoMDEntries whole entries."
+    // as many whole entries as NoMDEntries says, and no byte more
     if !head || body.len() != 73 + count * size {
         return false;
     }
@@ -261,8 +259,7 @@ fn m201(body: &[u8]) -> bool {
     let exec_type = f.text(1)[0];
     let price = f.number(8);
     let quantity = f.number(8);
-    // "M201: SecurityType 13, ExecType 0, 4 or F, ApplSeqNum above 0. The
-    // stream is not judged." (0.5: ExecType is ASCII.)
+    // SecurityType, ExecType (a letter, 0.5) and ApplSeqNum; any stream
     security_type == 13
         && (exec_type == b'0' || exec_type == b'4' || exec_type == b'F')
         && tick > 0
@@ -273,6 +270,6 @@ fn m201(body: &[u8]) -> bool {
         && digits(time, 9)
         && digits(price, 13)
         && digits(quantity, 15)
-        // CR 2: "a tail length that doesn't suit its layout is 6"
+        // CR 2: the tail is as long as its layout says
         && tails::suits(body)
 }

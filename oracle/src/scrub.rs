@@ -60,10 +60,10 @@ fn private(kind: Kind, body: &[u8]) -> Vec<Span> {
     }
 }
 
-/// "It reads the frame at the front of a lent buffer; a refusal is passed on.
-/// Otherwise, in that buffer, spaces (0x20) replace" the private fields, and
-/// "CheckSum is set anew". Answers the frame's length. The buffer may be longer
-/// than its frame; the bytes behind it stay (0.19).
+/// Reads the frame at the front of the buffer and answers as reading does where it
+/// refuses. Otherwise it paints the private fields there, sets CheckSum anew and
+/// answers the frame's length. The buffer may be longer than its frame; the bytes
+/// behind it stay (0.19).
 pub fn scrub(buffer: &mut [u8]) -> Result<usize, No> {
     let message = read(buffer)?;
     let length = message.body.len();

@@ -1,11 +1,11 @@
 //! CR 1: a capture read while it arrives.
 //!
-//! "Bytes come in cuts of arbitrary size, also of no bytes, and a closing call
-//! ends them." A stream here keeps every byte that it was given, and each call
-//! walks all of them anew by document 01: what a call gives is what the closed
-//! walk over the joined bytes has decided by now and had not before. So it has
-//! nothing in common with a program that keeps 8,191 bytes and goes on from
-//! where it stood, but for the state that such a program shows.
+//! Bytes come cut anyhow, an empty cut included, up to a closing call. A stream
+//! here keeps every byte that it was given, and each call walks all of them anew
+//! by document 01: what a call gives is what the closed walk over the joined
+//! bytes has decided by now and had not before. So it has nothing in common with
+//! a program that keeps 8,191 bytes and goes on from where it stood, but for the
+//! state that such a program shows.
 
 use crate::answer::No;
 use crate::frame::{read, search};
@@ -110,8 +110,7 @@ impl Stream {
         if start.sound() {
             let mut walked = closed_walk(&start, &joined);
             let decided = match closed {
-                // "At the closing call what remains is walked by document 01",
-                // and is decided so.
+                // the closing call: what is left is decided as a closed walk does
                 true => joined.len(),
                 false => decided(&joined, &walked),
             };

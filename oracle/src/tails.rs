@@ -71,8 +71,8 @@ fn length(layout: &[Field]) -> usize {
     layout.iter().map(|(_, width, _, _)| width).sum()
 }
 
-/// Whether a body of 45 bytes or more has a tail that suits its layout: "a tail
-/// length that doesn't suit its layout is 6". No value in it is judged (2.3).
+/// Whether the tail of a body of 45 bytes or more is as long as its layout says;
+/// if not, reading answers 6. No value in it is judged (2.3).
 pub fn suits(body: &[u8]) -> bool {
     match layout(body) {
         Some(layout) => body.len() == FIXED + length(layout),
@@ -80,9 +80,9 @@ pub fn suits(body: &[u8]) -> bool {
     }
 }
 
-/// The private parts of a body of 45 bytes or more: place, length, fill. "An
-/// extension of a stream not named there is wholly private and still painted
-/// with spaces", and so is one whose length does not suit its layout.
+/// The private parts of a body of 45 bytes or more: place, length, fill. A
+/// tail of a stream without a layout is private to its end, and so is one whose
+/// length does not suit its layout.
 pub fn private(body: &[u8]) -> Vec<(usize, usize, u8)> {
     let Some(fields) = layout(body).filter(|_| suits(body)) else {
         let rest = body.len() - FIXED;

@@ -20,9 +20,9 @@ pub struct Walked {
     pub ledger: Ledger,
 }
 
-/// The channel and the tick number of a frame that reads: "The tick number is
-/// that of M201, ApplLastSeqNum for P001, ApplBegSeqNum for P002, else 0.
-/// Channel is 0 for types without one."
+/// The channel and the tick number of a frame that reads: of an M201 its own, of a
+/// P001 the last number announced, of a P002 the first one asked for; 0 where a
+/// type has none.
 pub fn numbers_of(message: &Message) -> (Channel, Tick) {
     let body = &message.body;
     let field = |at: usize, width: usize| bytes::number(&body[at..at + width]);
@@ -78,7 +78,7 @@ pub fn readings(capture: &[u8], from: usize, ledger: Ledger) -> Vec<Reading> {
     let mut made = Vec::new();
     let mut ledger = ledger;
     let mut place = from;
-    // "It also stops at the capture's end, with no record for it."
+    // the end of the capture has no record
     while place < capture.len() {
         // "At each place it reads."
         match read(&capture[place..]) {
@@ -94,8 +94,7 @@ pub fn readings(capture: &[u8], from: usize, ledger: Ledger) -> Vec<Reading> {
                 });
             }
             Err(no) => {
-                // "Else it records the refusal and goes on at the place the
-                // search finds from the next byte on, or stops."
+                // a refusal is recorded; then on to what the search finds
                 let (floor, top) = (ledger.floor, ledger.top);
                 made.push(Reading {
                     record: Record::refused(place as u64, no.number(), floor, top),
@@ -127,9 +126,8 @@ pub fn records(capture: &[u8]) -> (Vec<Record>, Walked) {
     (made, walked)
 }
 
-/// "Records go to a lent buffer; if it can't take all of them, 8, nothing is
-/// written, and the ledger answered is the one just opened." The counts are
-/// then 0 (0.18).
+/// Lays the records in the caller's buffer. Without room for all of them: 8,
+/// nothing written, a fresh ledger, and counts of 0 (0.18).
 pub fn walk(capture: &[u8], buffer: &mut [u8]) -> (Walked, Result<(), No>) {
     let (made, walked) = records(capture);
     if let Err(no) = lay(&made, buffer) {

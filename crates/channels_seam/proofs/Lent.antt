@@ -212,7 +212,7 @@ module _ {h : History} {x : Channels} (r : LentRan h x) where
           told = λ f. e ∙ ap (answerTo (after calls)) f ∙ tells channel calls .of-open o;
         }))
 
-    -- "16 also for a reply on an open channel other than the one asked"
+    -- a reply on an open channel that was not the one asked
     pub lent-other-16 : (channel first status other from to : ℕ) → callOf call ≡ To channel (Reply first status) → opened channel h ≡ true
         → line h ≡ asks other from to → (other ≡ channel → ⊥) → StatusRight status → a ≡ refusedReply 16
     lent-other-16 channel first status other from to f o e n right =

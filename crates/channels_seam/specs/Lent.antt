@@ -118,7 +118,7 @@ pub record LentOpens (x : Channels) (channel : ℕ) (next : Channels) : Type 0 w
   pub row-is : rowAt next place ≡ rowOf (fresh channel)
   pub others : OtherPlaces x next place
 
--- "Closing frees its place and clears its pending request"
+-- a closing: its place is free, and nothing is pending for it
 pub record LentCloses (x : Channels) (channel : ℕ) (next : Channels) : Type 0 where
   pub place : ℕ
   pub below-32 : place < 32

@@ -1,5 +1,5 @@
--- No channel waits for ever: a channel that stays open and keeps something missing is asked within
--- 32 granted requests. The number of places from the one last asked round to its own falls with
+-- No channel waits for ever: one that stays open and misses something is asked within 32 granted
+-- requests. The number of places from the one last asked round to its own falls with
 -- each grant that goes elsewhere. Assumes nothing.
 use mathlib.Core.Path.{_≡_, refl, sym, ap, subst, _∙_}
 use mathlib.Core.Bool.{Bool, true, false, _&&_, not}
@@ -216,7 +216,7 @@ within channel calls (call ∷ more) k l keeps near more-grants =
     one-call channel calls _ _ k l (keeps .0) near more-grants call (grant-view call _) (grants-grow channel (calls ▸ call) more)
     (λ n j near-then grants-then. within channel (calls ▸ call) more n j (keeps .1) near-then grants-then)
 
--- "A channel that stays open and keeps something missing is asked within 32 granted requests."
+-- CR 3's fairness
 pub asked-within-32 : AskedWithin32
 unfolding Near
 asked-within-32 channel calls [] keeps e = absurd (too-many e)

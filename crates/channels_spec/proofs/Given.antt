@@ -440,7 +440,7 @@ top-raised t Renew e = absurd (clash e refl)
 pub refused-keeps : (t : Table) (call : Call) → Keeps t call (nextOf t call) (answerTo t call)
 refused-keeps t call = record { same = same-table t call; far = top-raised t call }
 
--- ======== "16 also for a reply on an open channel other than the one asked"
+-- ======== 16, for a reply on an open channel that was not the one asked
 
 pub other-reply-16 : (t : Table) (channel first status : ℕ) → TableRules t → OpenIn t channel → (p : SomePending t) → (p .channel ≡ channel → ⊥) → StatusRight status
     → answerTo t (To channel (Reply first status)) .number ≡ 16

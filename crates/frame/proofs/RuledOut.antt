@@ -18,7 +18,7 @@ use Rattle.rules.specs.Fields.{p001Ok, fieldsOk, judgeOf}
 use Rattle.frame_spec.specs.Frame.{checked, readOf, bodyRead}
 use Rattle.frame_spec.specs.Write.{Message, message, plainOf, frameOf, writeOf, leftOf}
 use Rattle.frame_spec.specs.Search.{firstOf, searchOf}
-use Rattle.frame_spec.specs.Examples.{startOfA, frameA, frameB, ending, A, timed, framed}
+use Rattle.frame_spec.specs.Examples.{startOfA, frameA, frameB, four, ending, A, timed, framed}
 use Rattle.terms.specs.Counters.{sessionOf}
 use Rattle.frame.specs.declared.Read.the-variants.{Frame}
 use Rattle.frame.specs.Papers.{readPaper, foundPaper}
@@ -49,6 +49,9 @@ read-at-wrong =
     ∷ (frameB, 0) never readA  -- one fixed message for every frame
     ∷ (ending 1 0x8E, 0) never readA  -- only the low byte of CheckSum compared
     ∷ (ending 0 0x8F, 0) never readA  -- CheckSum not compared
+    ∷ (replicate 20 0 ++ four 0x1F 0xE5, 0) only refusal 2  -- 3, or 1 for the whole length, before 2: a header of no type with BodyLength 8,165
+    ∷ (startOfA ++ four 0x1F 0xE5, 0) only refusal 3  -- 4, or 1 for the whole length, before 3: an S003 header with that BodyLength
+    ∷ (startOfA ++ four 0 1, 0) only refusal 4  -- 1 for the whole length before 4: an S003 header with BodyLength 1
     ∷ (take 24 frameB ++ (12 ∷ drop 25 frameB), 0) only refusal 5  -- 6 before 5: SecurityType 12, with the sum of 13
     ∷ (0xFF ∷ A, 1) only readA  -- not read at the front, whatever the place
     ∷ (timed month13 0x53303033 [], 0) only refusal 7  -- month 13 taken

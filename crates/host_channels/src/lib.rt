@@ -1,5 +1,4 @@
-// Thirty-two channels for C and Rust: the host lends its table, and finds it updated where it
-// stands.
+// Thirty-two channels for C and Rust: each call updates the host's table in place.
 ghost use Rattle.host_channels.specs.Exchanges.{Exchanges};
 use channels::ChannelCall;
 use channels::ChannelTold;

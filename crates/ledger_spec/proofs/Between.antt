@@ -181,7 +181,7 @@ module _ (so : ℕ → Bool) where
 -- ---- every row of calls
 
 module _ (channel : ℕ) (small : channel ≤ 9999) (calls : Calls) where
-  -- "The answer equals the count made number by number"
+  -- the answer is what counting one number after the other gives
   pub between-counts : (a z : ℕ) → FineBetween a z → answerTo (after channel calls) (Ask (Between channel a z)) ≡ answer 0 (countBetween (missing (trace channel calls)) a z ∷ [])
   unfolding answerTo valuesOf countBetween
   between-counts a z f =

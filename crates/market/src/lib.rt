@@ -156,7 +156,8 @@ fn type_at(s: &[u8], at: usize) -> u8
     0
 }
 
-// The same at every place; past the end nothing stands, as if a word were cut short.
+// What stands at a place as a line's start: 1 to 4 for a line's type, 5 for the trailer, 6 for one
+// of these cut short, 0 otherwise. Past the end nothing stands, as if a word were cut short.
 pub fn line_type(s: &[u8], at: usize) -> u8
     ensures { λ r. ⌜ r ≡ typeAt at (now (s .entry)) ⌝ }
 {

@@ -154,8 +154,8 @@ head-of (u-more e r) = e
 tail-of : {p : Page} {s : Capture} {ss : List Capture} → Unrefused p (s ∷ ss) → Unrefused (nextOf p s) ss
 tail-of (u-more e r) = r
 
--- "Where none is refused, the captures in another order give the same page sums": and none is
--- refused in the other order either
+-- captures of which none is refused, taken in another order: none is refused there either, and the
+-- page is the same
 pub any-order : (p : Page) {a b : List Capture} → Reordered a b → Unrefused p a → SamePage p a b
 unfolding pageAfter
 any-order p r-none u = record { none-refused = u; same-page = refl }

@@ -12,7 +12,7 @@ use Rattle.channels_spec.specs.Calls.{openingNumber}
 use Rattle.month_spec.specs.Figures.{figureOf}
 use Rattle.month_spec.specs.Page.{Page, captures, figuresInAll, highest, tabled, allBelow, soundOf, pageOf}
 
--- ======== Starting: "at the start 10, 22 and 21 as in CR 3"
+-- ======== Starting: 10, 22, 21, as CR 3 opens a channel
 
 -- the channels named so far as CR 3's open ones
 abbrev pub tableNaming : List ℕ → Table

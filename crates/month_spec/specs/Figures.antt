@@ -1,5 +1,5 @@
--- Request 11: the figures of one capture for one channel. "Each figure is defined from the calls of
--- the capture it counts": the calls that its accepted frames make on a fresh ledger of the channel.
+-- Request 11: the figures of one capture for one channel, each told from the calls that the
+-- accepted frames of the capture make on a fresh ledger of the channel.
 -- A call that names another channel is answered 18 there and changes nothing, so one list of calls
 -- serves every channel. P002 frames make no call, and are counted themselves.
 use Prim.Native.Nat.{ℕ, _+_}

@@ -1,5 +1,5 @@
--- The sum of header and body moved along spans, for any spans, overlapping ones too: "take off each
--- byte painted over and add the byte put there" (document 02, CR 4).
+-- The sum of header and body moved along spans, for any spans, overlapping ones too: each painted
+-- byte is taken off and its fill added (document 02, CR 4).
 use Prim.Native.Nat.{ℕ, _+_, _≤_}
 use mathlib.Core.Path.{_≡_, refl, ap, _∙_}
 use mathlib.Core.List.{List, [], _∷_}

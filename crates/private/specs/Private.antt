@@ -37,7 +37,7 @@ unfoldable pub tailOf : List ℕ → Layout
 tailOf b = pick (tailOk b) (namedIn b) Other
 
 -- "Member and trader codes and free text stay private": three fields of an order, none of a trade.
--- "An extension of a stream not named there is wholly private and still painted with spaces."
+-- Any other extension is private to its end, as document 01 has it (CR 2).
 abbrev pub tailSpans : Layout → ℕ → List Span
 tailSpans Order n = orderField 2 ∷ orderField 3 ∷ orderField 10 ∷ []  -- MemberID, TraderCode, InvestorName
 tailSpans Trade n = []

@@ -5,7 +5,7 @@ ghost use mathlib.Core.Path.{_≡_};
 ghost use Prim.Native.Nat.{_≤_};
 ghost use lib.ListN.{length};
 ghost use Rattle.octets.specs.Papers.{writtenPaper, roomFor, laidIfRoom};
-ghost use Rattle.record.specs.Record.{firstHalf, secondHalf, recordOf, recordAt};
+ghost use Rattle.record.specs.Record.{recordOf, recordAt};
 ghost use Rattle.record.specs.Stored.{Stored};
 use octets::Written;
 use terms::ChannelNumber;
@@ -25,23 +25,16 @@ pub struct Record {
     pub top: TickNumber,
 }
 
-// Writes the first 32 bytes of a record over the front of d.
-fn store_first(d: &mut [u8], r: Record)
+// Writes a record over the front of d.
+fn store(d: &mut [u8], r: Record)
     requires { ⌜ 64 ≤ length (now d) ⌝ }
-    ensures { λ _. ⌜ Stored 0 (firstHalf r) (now (d .entry)) (now (d .exit)) 32 ⌝ }
+    ensures { λ _. ⌜ Stored 0 (recordOf r) (now (d .entry)) (now (d .exit)) 64 ⌝ }
 {
     octets::put(d, 0, 8, r.place);
     octets::put(d, 8, 4, r.msg_type as u64);
     octets::put(d, 12, 4, r.answer as u64);
     octets::put(d, 16, 8, r.seq.value());
     octets::put(d, 24, 8, r.tick.value());
-}
-
-// Writes the other 32 after them.
-fn store_second(d: &mut [u8], r: Record)
-    requires { ⌜ 64 ≤ length (now d) ⌝ }
-    ensures { λ _. ⌜ Stored 32 (secondHalf r) (now (d .entry)) (now (d .exit)) 64 ⌝ }
-{
     octets::put(d, 32, 2, r.channel.value() as u64);
     octets::put(d, 34, 2, 0);
     octets::put(d, 36, 4, r.body_len as u64);
@@ -55,8 +48,7 @@ pub fn put(out: &mut [u8], at: usize, r: Record) -> Written
     ensures { λ w. ⌜ (writtenPaper w ≡ roomFor at 64 (length (now (out .entry)))) × (now (out .exit) ≡ laidIfRoom at (recordOf r) (now (out .entry))) ⌝ }
 {
     let mut d: [u8; 64] = [0; 64];
-    store_first(&mut d, r);
-    store_second(&mut d, r);
+    store(&mut d, r);
     octets::lay(out, at, &d)
 }
 

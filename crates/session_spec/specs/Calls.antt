@@ -39,7 +39,7 @@ soundOf l = leb (l .sent) (l .last) && (leb (l .heard) (l .last) && countersRigh
 
 -- ======== Times
 
--- "a time before the last one counts as the last one"
+-- time does not go back: an earlier time is taken for the last one
 abbrev pub clockOf : Line → ℕ → ℕ
 clockOf l now = max (l .last) now
 

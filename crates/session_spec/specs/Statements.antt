@@ -8,7 +8,7 @@ use Rattle.session_spec.specs.Calls.{Line, lastNumber, answerTo, nextOf}
 use Rattle.session_spec.specs.Trace.{Call, Calls, _▸_, answerAfter, History, trace}
 use Rattle.session_spec.specs.Words.{clock, stage, interval, lastSent, lastTaken, countSent}
 
--- the moment of a call: "a time before the last one counts as the last one"
+-- the moment of a call: its time, or the last one if that is later
 abbrev pub moment : History → Call → ℕ
 moment h call = max (clock h) (call .now)
 
@@ -42,8 +42,8 @@ reply active = S002
 reply leaving = none
 reply over = none
 
--- "A logout in place of the logon answer ends the session with nothing sent": nor is anything sent
--- by whatever call comes next
+-- a logout that comes where the logon answer is due: the session is over, nothing is sent, nor is
+-- anything by whatever call comes next
 pub record EndedUnsent (calls : Calls) (logout : Call) : Type 0 where
   pub unsent : answerAfter calls logout .kind ≡ none
   pub ended : stage (trace (calls ▸ logout)) ≡ over

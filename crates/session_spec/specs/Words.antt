@@ -49,8 +49,7 @@ isS002 S002 = true
 isS002 S003 = false
 isS002 P002 = false
 
--- the clock: the time of the last call not refused, where a time before the last one counts as the
--- last one
+-- the clock: the latest time of the calls not refused
 abbrev pub clock : History → ℕ
 clock start = 0
 clock (h ▸ call ⇒ a) = pick (accepted a) (max (clock h) (call .now)) (clock h)

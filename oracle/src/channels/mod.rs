@@ -90,7 +90,8 @@ impl Table {
         Ok(())
     }
 
-    /// "Closing frees its place and clears its pending request." 18.
+    /// Closes a channel: its place is free, and what is pending for it no longer is.
+    /// 18.
     pub fn close(&mut self, channel: Channel) -> Result<(), No> {
         let (place, _) = self.of(channel)?;
         self.places[place] = None;
@@ -107,9 +108,9 @@ impl Table {
         self.on(channel, |ledger| ledger.announce(channel, last))
     }
 
-    /// "The next one goes to the first channel with something missing, counted
-    /// round from the place after the last one asked, at first from the first
-    /// place." Names no channel; 14, 15.
+    /// A request for the channel whose turn it is: from the place after the one
+    /// last asked, round, the first that misses something; before any request,
+    /// from the first place. Names no channel; 14, 15.
     pub fn request(&mut self) -> Result<(Channel, Range), No> {
         for ledger in self.places.iter().flatten() {
             if ledger.pending != Pending::Nothing {
@@ -132,8 +133,8 @@ impl Table {
         Err(No::Whole)
     }
 
-    /// 18, 17, 16; "16 also for a reply on an open channel other than the one
-    /// asked": nothing is pending in its ledger.
+    /// 18, 17, 16; 16 too on an open channel that was not asked: nothing is
+    /// pending in its ledger.
     pub fn reply(&mut self, channel: Channel, first: Tick, status: u8) -> Result<Settled, No> {
         self.on(channel, |ledger| ledger.reply(channel, first, status))
     }

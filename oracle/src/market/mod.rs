@@ -1,8 +1,8 @@
 //! CR 10: B-to-H market files, by source document 003, 1.3 and 3.1.
 //!
-//! A file is the header line, lines of four types and the trailer line. "Columns
-//! are counted, never split at bars, since the UTF-16LE name may hold a bar or a
-//! newline byte." There is no extension area.
+//! A file is the header line, lines of four types and the trailer line. A column
+//! is found by counting bytes: a bar or a newline may stand within the UTF-16LE
+//! name. There is no extension area.
 
 pub mod cases;
 mod layouts;

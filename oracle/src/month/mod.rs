@@ -1,10 +1,9 @@
 //! CR 11: the month in whole numbers.
 //!
-//! "for each of up to 32 channels named at the start, ticks received, repeated,
-//! refused as far, still missing, and P002 frames of status 0 and of status 4,
-//! then the sums over all captures. Each figure is defined from the calls of the
-//! capture it counts." The figures are told here from plain sets, one channel
-//! after the other.
+//! Six figures for each of up to 32 channels: ticks received, repeated, too far
+//! ahead and missing, P002 frames of status 0 and of status 4; and their sums
+//! over all captures. The figures are told here from plain sets of the calls that
+//! a capture makes, one channel after the other.
 
 pub mod cases;
 
@@ -160,9 +159,9 @@ pub struct Month {
 }
 
 impl Month {
-    /// "at the start 10, 22 and 21 as in CR 3": the channels are judged one by
-    /// one, and the first that is refused answers (11.1). Beside a refusal stands
-    /// a page with no channel.
+    /// 10, 22, 21, as CR 3 opens a channel: the channels are judged one by one,
+    /// and the first that is refused gives the number (11.1). Beside a refusal
+    /// stands a page with no channel.
     pub fn started(channels: &[Channel]) -> (Month, Result<(), No>) {
         let mut named: Vec<Channel> = Vec::new();
         for channel in channels {
@@ -186,8 +185,8 @@ impl Month {
         (page, Ok(()))
     }
 
-    /// A capture, and its own figures for each channel named. "27 for a 501st
-    /// capture, 28 for a sum that would pass 64 bits; the page so far stays."
+    /// A capture, and its own figures for each channel named. 27 where 500 are
+    /// taken, 28 where a sum has no room in 64 bits; then the page stays.
     pub fn add(&mut self, capture: &[u8]) -> Result<Vec<Figures>, No> {
         if self.captures == MOST_CAPTURES {
             return Err(No::Captures);

@@ -1,9 +1,8 @@
 //! CR 12: the client's side of the line, by the table of states.
 //!
-//! "For every sequence of times and received frames the messages to send are
-//! those of the simple table of states in docs/." Times are whole milliseconds
-//! given by the host. A session sends nothing itself: a call tells what is to be
-//! sent, as MsgType and MsgSeqNum.
+//! What is to be sent follows from the table of docs/SESSION.md, whatever times
+//! and frames come. Times are whole milliseconds given by the host. A session
+//! sends nothing itself: a call tells what is to be sent, as MsgType and MsgSeqNum.
 //!
 //! A tick number offered where MsgSeqNum belongs does not build:
 //!
@@ -242,7 +241,7 @@ impl Line {
         if !self.sound() {
             return (self, Err(No::State));
         }
-        // "a time before the last one counts as the last one"
+        // time does not go back
         let now = now.max(self.last);
         if let Some(no) = self.refusal(now, event) {
             return (self, Err(no));

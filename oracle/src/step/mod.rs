@@ -70,9 +70,9 @@ fn length_field(bytes: &[u8], from: usize) -> Answer<(usize, usize)> {
 }
 
 /// Reads the frame at the front of the bytes; what follows it does not matter.
-/// "Refusals, in this order: 23 begin string, 24 body length field, 3, 25 type,
-/// 5 sum or trailer, 26", and 7 "before 26 in STEP" (CR 6); 1 "where the bytes
-/// end before the check in turn can be decided".
+/// The refusals in order: 23 for the begin string, 24 for the body length field,
+/// 3, 25 for the type, 5 for sum or trailer, 7 (CR 6), 26; and 1 as soon as a
+/// check needs bytes that are not there.
 pub fn read(bytes: &[u8]) -> Answer<Frame> {
     let at = expects(bytes, 0, BEGIN, 23)?;
     let at = expects(bytes, at, b"9=", 24)?;
@@ -249,7 +249,7 @@ pub fn write(kind: u8, fields: &[u8], out: &mut [u8]) -> Answer<usize> {
     Ok(frame.len())
 }
 
-/// "The scrubber paints 49, 56, 553, 554 and 58 with spaces of the same length."
+/// Paints the values of 49, 56, 553, 554 and 58 with spaces, length kept.
 pub const PRIVATE: [u64; 5] = [49, 56, 553, 554, 58];
 
 /// Scrubs the frame at the front of a lent buffer and answers its length; a

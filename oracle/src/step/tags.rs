@@ -34,7 +34,7 @@ const fn may(tag: u64, form: Form) -> Field {
     }
 }
 
-/// "The session messages A, 5, 0, 1, 2, 3 and 4 are understood".
+/// The types of message: those of a session.
 pub const TYPES: [u8; 7] = *b"A501234";
 
 /// 2.2.2, behind the first three.

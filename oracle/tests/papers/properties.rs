@@ -297,9 +297,8 @@ fn the_ledger_agrees_with_plain_sets() {
             assert_eq!(l.missing_between(C, Tick(a), Tick(b)), (l, count));
             let all = l.missing_between(C, Tick(1), Tick(MOST)).1;
             assert_eq!(all, Ok(sets.missing()));
-            // Deliveries rise, each once, and every number up to the floor was
-            // either received and delivered, or given up, never both; the four
-            // terms add up to the top.
+            // Delivered are the received numbers up to the floor, in order and
+            // once; all others there were given up; the four counts make the top.
             let floor = sets.floor();
             let up: Vec<u64> = sets.received.range(..=floor).copied().collect();
             assert_eq!(sets.delivered, up);
