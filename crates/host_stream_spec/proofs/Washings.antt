@@ -79,7 +79,7 @@ module _ (x : Stream) (four-words : Four x) (r : StreamRules x) (call : Call) (w
   bytes-told true e =
       let w : d′ ≡ laid 0 (washedFor x (closes call) (cutOf call)) d = p .1 .1 ∙ ap (λ (y : Stream). leaves y call d) back ∙ rw e in
       let b : getD (seen n row .values) 0 0 ≡ length (washedFor x (closes call) (cutOf call)) =
-          ap (λ (t : Sums). t .bytes) (counts-told true e) ∙ washed-length (x .seeking) (readsFor x (closes call) (cutOf call)) in
+      ap (λ (t : Sums). t .bytes) (counts-told true e) ∙ washed-length (x .seeking) (readsFor x (closes call) (cutOf call)) in
       rw (b, w) (take-front (length (washedFor x (closes call) (cutOf call))) (washedFor x (closes call) (cutOf call)) d refl)
   bytes-told false e = rw (ap (λ (t : Sums). t .bytes) (counts-told false e))
 
