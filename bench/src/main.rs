@@ -7,6 +7,8 @@
 //!     cargo run --release -p bench -- channels those of a table of channels
 //!     cargo run --release -p bench -- month   those of a page over captures
 //!     cargo run --release -p bench -- ledger  the rows of a ledger alone
+//!     cargo run --release -p bench -- cuts    bytes that arrive in cuts
+//!     cargo run --release -p bench -- growth  how time grows from 64 KiB to 1 GB (10 GB of memory)
 //!
 //! Each job runs both ways in turn several times, and the best time of each counts. The answers are
 //! compared first.
@@ -700,6 +702,7 @@ fn main() {
         ("1 MB", MB),
         ("10 MB", 10 * MB),
         ("100 MB", 100 * MB),
+        ("1 GB", 1_000 * MB),
     ];
     let small = std::env::args().any(|a| a == "small");
     println!("| Job | Input | ours | plain Rust | ratio | goal |");
@@ -714,6 +717,10 @@ fn main() {
     }
     if std::env::args().any(|a| a == "month") {
         month::rows();
+        return;
+    }
+    if std::env::args().any(|a| a == "growth") {
+        growth(&sizes);
         return;
     }
     if std::env::args().any(|a| a == "cuts") {
@@ -745,7 +752,7 @@ fn main() {
     println!();
     ledgers();
     println!();
-    growth(if small { &sizes[..2] } else { &sizes });
+    growth(if small { &sizes[..2] } else { &sizes[..4] });
     println!();
     arriving(small);
 }

@@ -18,15 +18,16 @@ use Rattle.stream_spec.specs.State.{valueOf, opened, StreamRules}
 use Rattle.stream_spec.specs.Calls.{Call, cutOf, closes}
 use Rattle.stream_spec.specs.Trace.{Calls, none, _▸_}
 use Rattle.stream_spec.proofs.Rules.{rules-facts}
-use Rattle.stream_clean_spec.specs.Wash.{noSums, sumsOf}
-use Rattle.stream_clean_spec.specs.Calls.{readsFor, washedFor, sumsFor, washBehind, numberTo, nextFor, nextOf, answerFor, answerTo, leavesFor, leaves}
+use Rattle.stream_clean_spec.specs.declared.Sums.{Sums}
+use Rattle.stream_clean_spec.specs.Wash.{noSums, plus, sumsOf}
+use Rattle.stream_clean_spec.specs.Calls.{countsIn, readsFor, washedFor, sumsFor, washBehind, numberTo, nextFor, nextOf, answerFor, answerTo, leavesFor, leaves}
 use Rattle.stream_clean_spec.specs.LayLaws.{washed-length}
-use Rattle.stream_clean_spec.specs.Trace.{after, accepted, written, taken, ended}
+use Rattle.stream_clean_spec.specs.Trace.{after, accepted, written, counted, taken, ended}
 use Rattle.stream_clean_spec.proofs.Arrives.{cleaned-as-it-arrives, cleaned-whole}
 use Rattle.host_words.specs.Told.{Tells, toldBy, seen}
 use Rattle.host_stream_spec.specs.Lent.{Lent, lentOf, streamIn}
 use Rattle.host_stream_spec.specs.Calls.{keptBeside}
-use Rattle.host_stream_spec.specs.Washes.{washTold, washAfter, WashCalled, Washes, opening, one-more, washHeard, HostWashes}
+use Rattle.host_stream_spec.specs.Washes.{washTold, washAfter, WashCalled, Washes, opening, one-more, washHeard, washCounted, HostWashes}
 use Rattle.host_stream_spec.proofs.Back.{lent-back}
 
 -- the ledger is never touched: its map has four words
@@ -64,16 +65,23 @@ module _ (x : Stream) (four-words : Four x) (r : StreamRules x) (call : Call) (w
   unfolding washAfter
   left = p .1 .0 ∙ ap (λ (y : Stream). keptBeside (answerTo y call (length d) .number) (nextOf y call (length d)) (lentOf x)) back ∙ left-is x call (length d)
 
-  bytes-told : (t : Bool) → eqb (numberTo x call (length d)) 0 ≡ t → take (getD (seen n row .values) 0 0) d′ ≡ pick t (washedFor x (closes call) (cutOf call)) []
-  unfolding toldBy answerFor leavesFor
-  bytes-told true e =
+  counts-told : (t : Bool) → eqb (numberTo x call (length d)) 0 ≡ t → countsIn (seen n row .values) ≡ pick t (sumsFor x (closes call) (cutOf call)) noSums
+  unfolding toldBy answerFor
+  counts-told true e =
       let z : numberTo x call (length d) ≡ 0 = eqb-true _ 0 e in
       let m : numberTo (streamIn (lentOf x)) call (length d) ≡ 0 = ap (λ (y : Stream). numberTo y call (length d)) back ∙ z in
-      let w : d′ ≡ laid 0 (washedFor x (closes call) (cutOf call)) d = p .1 .1 ∙ ap (λ (y : Stream). leaves y call d) back ∙ rw e in
       let told : row ≡ toldBy (washTold (lentOf x) call (length d)) was = p .0 .told in
-      let b : getD row 0 0 ≡ length (washedFor x (closes call) (cutOf call)) = ap (λ (l : List ℕ). getD l 0 0) told ∙ rw (m, back) (washed-length (x .seeking) (readsFor x (closes call) (cutOf call))) in
-      rw (number-is ∙ z, b, w) (take-front (length (washedFor x (closes call) (cutOf call))) (washedFor x (closes call) (cutOf call)) d refl)
-  bytes-told false e = rw (ne-eqb n 0 (λ (z : n ≡ 0). eqb-false _ 0 e (sym number-is ∙ z)))
+      rw (number-is ∙ z) (ap countsIn told ∙ rw (m, back))
+  counts-told false e = rw (ne-eqb n 0 (λ (z : n ≡ 0). eqb-false _ 0 e (sym number-is ∙ z)))
+
+  bytes-told : (t : Bool) → eqb (numberTo x call (length d)) 0 ≡ t → take (getD (seen n row .values) 0 0) d′ ≡ pick t (washedFor x (closes call) (cutOf call)) []
+  unfolding leavesFor
+  bytes-told true e =
+      let w : d′ ≡ laid 0 (washedFor x (closes call) (cutOf call)) d = p .1 .1 ∙ ap (λ (y : Stream). leaves y call d) back ∙ rw e in
+      let b : getD (seen n row .values) 0 0 ≡ length (washedFor x (closes call) (cutOf call)) =
+      ap (λ (t : Sums). t .bytes) (counts-told true e) ∙ washed-length (x .seeking) (readsFor x (closes call) (cutOf call)) in
+      rw (b, w) (take-front (length (washedFor x (closes call) (cutOf call))) (washedFor x (closes call) (cutOf call)) d refl)
+  bytes-told false e = rw (ap (λ (t : Sums). t .bytes) (counts-told false e))
 
 washes-is : {calls : Calls} {k : Lent} → Washes calls k → k ≡ lentOf (after calls)
 washes-is (opening e) = e
@@ -85,12 +93,23 @@ heard-written (opening e) = refl
 heard-written (one-more {calls} {k} call was d n k′ row d′ f p) =
     ap₂ (λ (a b : List ℕ). a ++ b) (heard-written f) (bytes-told (after calls) (four calls) (rules calls) call was d n k′ row d′ (rw (washes-is f) at p) _ refl)
 
+counted-is : {calls : Calls} {k : Lent} (f : Washes calls k) → washCounted f ≡ counted calls
+unfolding counted
+counted-is (opening e) = refl
+counted-is (one-more {calls} {k} call was d n k′ row d′ f p) =
+    ap₂ plus (counted-is f) (counts-told (after calls) (four calls) (rules calls) call was d n k′ row d′ (rw (washes-is f) at p) _ refl)
+
 -- OF EVERY ROW OF CALLS THROUGH THE HOST
-pub every-host-cleaning : {calls : Calls} {k : Lent} (f : Washes calls k) → HostWashes calls k (washHeard f)
+pub every-host-cleaning : {calls : Calls} {k : Lent} (f : Washes calls k) → HostWashes calls k (washHeard f) (washCounted f)
 every-host-cleaning {calls} f =
     record {
       stands = washes-is f;
       rules = rw (washes-is f, lent-back (after calls) (four calls) (rules calls)) (rules calls);
       bytes = heard-written f ∙ cleaned-as-it-arrives calls .bytes;
       whole = λ e. heard-written f ∙ cleaned-whole calls e .bytes;
+      length-told = rw (counted-is f, heard-written f) (cleaned-as-it-arrives calls .length-told);
+      frames = rw (counted-is f) (cleaned-as-it-arrives calls .frames);
+      found = rw (counted-is f) (cleaned-as-it-arrives calls .found);
+      unjudged = rw (counted-is f) (cleaned-as-it-arrives calls .unjudged);
+      told = λ e. rw (counted-is f) (cleaned-whole calls e .told);
     }

@@ -1,23 +1,26 @@
 -- What a call of a stream that scrubs answers and tells through the host, and what it leaves; a row
 -- of such calls on a stream that rk_stream_open wrote; and the sentences of what the host then has.
-use Prim.Native.Nat.{ℕ}
+use Prim.Native.Nat.{ℕ, _≤_}
 use mathlib.Core.Path.{_≡_, ap, ap₂, _∙_}
 use mathlib.Core.Bool.{true}
 use mathlib.Core.List.{List, [], _∷_, _++_}
 use lib.ListN.{length, getD, take}
 use borrow.Author.Tests.{ne-eqb}
-use Rattle.terms.specs.Paper.{Paper, one-number}
+use Rattle.terms.specs.Paper.{Paper, answer, one-number}
 use Rattle.terms.specs.Verdicts.{verdictNumber}
-use Rattle.clean_spec.specs.Clean.{cleanIn, cleanOf}
+use Rattle.walk_spec.specs.Walk.{framesOf}
+use Rattle.clean_spec.specs.Clean.{cleanIn, cleanOf, foundIn, cleanAnswer}
 use Rattle.stream_spec.specs.declared.Stream.{Stream}
 use Rattle.stream_spec.specs.State.{opened, StreamRules}
 use Rattle.stream_spec.specs.Calls.{Call, cutOf, closes}
 use Rattle.stream_spec.specs.Trace.{Calls, none, _▸_}
 use Rattle.stream_spec.specs.Words.{readings}
+use Rattle.stream_clean_spec.specs.declared.Sums.{Sums}
 use Rattle.stream_clean_spec.specs.declared.Washed.{Washed}
-use Rattle.stream_clean_spec.specs.Calls.{answerFor, leavesFor, answerTo, nextOf, leaves, washedPaper}
+use Rattle.stream_clean_spec.specs.Wash.{noSums, plus}
+use Rattle.stream_clean_spec.specs.Calls.{countsIn, answerFor, leavesFor, answerTo, nextOf, leaves, washedPaper}
 use Rattle.stream_clean_spec.specs.CallLaws.{Promised}
-use Rattle.stream_clean_spec.specs.Trace.{after, taken, ended}
+use Rattle.stream_clean_spec.specs.Trace.{after, taken, ended, unjudgedOf}
 use Rattle.host_words.specs.Told.{Tells, retold, both, seen, Refuses, tells-as, tells-kept}
 use Rattle.host_stream_spec.specs.Lent.{Lent, asOne, lentOf, streamIn}
 use Rattle.host_stream_spec.specs.Calls.{keptBeside}
@@ -51,7 +54,12 @@ abbrev pub washHeard : {calls : Calls} {k : Lent} → Washes calls k → List �
 washHeard (opening e) = []
 washHeard (one-more call was d n k′ row d′ w p) = washHeard w ++ take (getD (seen n row .values) 0 0) d′
 
-pub record HostWashes (calls : Calls) (k : Lent) (has : List ℕ) : Type 0 where
+-- and has counted, if it adds up what each such call tells
+abbrev pub washCounted : {calls : Calls} {k : Lent} → Washes calls k → Sums
+washCounted (opening e) = noSums
+washCounted (one-more call was d n k′ row d′ w p) = plus (washCounted w) (countsIn (seen n row .values))
+
+pub record HostWashes (calls : Calls) (k : Lent) (has : List ℕ) (sums : Sums) : Type 0 where
   -- words and bytes are those of the stream after the calls, and keep the rules
   pub stands : k ≡ lentOf (after calls)
   pub rules : StreamRules (streamIn k)
@@ -59,6 +67,13 @@ pub record HostWashes (calls : Calls) (k : Lent) (has : List ℕ) : Type 0 where
   -- cleaned capture
   pub bytes : has ≡ cleanIn (taken calls) (readings (ended calls) (taken calls))
   pub whole : ended calls ≡ true → has ≡ cleanOf (taken calls)
+  -- it has counted these frames, those found after damage and those whose body no rule judges
+  pub length-told : sums .bytes ≡ length has
+  pub frames : sums .frames ≡ framesOf (readings (ended calls) (taken calls))
+  pub found : sums .found ≡ foundIn 0 (readings (ended calls) (taken calls))
+  pub unjudged : sums .unjudged ≡ unjudgedOf (readings (ended calls) (taken calls))
+  -- after the closing call that is what rk_clean of the capture tells, in a buffer that takes it
+  pub told : ended calls ≡ true → (room : ℕ) → length (cleanOf (taken calls)) ≤ room → answer 0 (sums .bytes ∷ sums .frames ∷ sums .found ∷ []) ≡ cleanAnswer (taken calls) room
 
 -- PROOFS
 

@@ -8,7 +8,7 @@ use mathlib.Core.Logic.{⊎-elim}
 use mathlib.Core.List.{List, [], _∷_, _++_, append-nil}
 use native.Mathlib.Omega.{arith}
 use lib.Dec.{eqb, leb}
-use lib.ListN.{length, getD, take, drop}
+use lib.ListN.{length, take, drop}
 use lib.Seq.{drop-drop}
 use borrow.Author.Tests.{eqb-true, eq-eqb, ne-eqb, le-leb}
 use Rattle.terms.specs.Paper.{Paper, answer, pick}
@@ -46,10 +46,10 @@ use Rattle.stream_clean_spec.specs.declared.Washed.{Washed}
 use Rattle.stream_clean_spec.specs.CallLaws.{Promised}
 use Rattle.stream_clean_spec.specs.Wash as Wash
 use Rattle.stream_clean_spec.specs.Wash.{Cut, saysBy, washed, noSums, plus, oneOf, seeksAfter, sumsOf, unjudgedBy}
-use Rattle.stream_clean_spec.specs.Calls.{gotOf, readsFor, washedFor, sumsFor, withTally, washBehind, numberFor, numberTo, nextFor, nextOf, leavesFor, answerFor}
+use Rattle.stream_clean_spec.specs.Calls.{countsIn, gotOf, readsFor, washedFor, sumsFor, withTally, washBehind, numberFor, numberTo, nextFor, nextOf, leavesFor, answerFor}
 use Rattle.stream_clean_spec.specs.LayLaws.{plus-none, none-plus, plus-assoc, washed-append, washed-length}
 use Rattle.stream_clean_spec.specs.CutLaws.{plain, plainOf, plain-append, same-run, cut-kept, Stands, reads-behind, seeks-behind, sums-run, other-tally}
-use Rattle.stream_clean_spec.specs.Trace.{after, accepted, written, counted, taken, ended, Row, opening, one-more, heard, unjudgedOf, Arrives, Cleaned}
+use Rattle.stream_clean_spec.specs.Trace.{after, accepted, written, counted, taken, ended, Row, opening, one-more, heard, heardCounts, unjudgedOf, Arrives, Cleaned}
 
 -- ======== THE CALLS NOT REFUSED, as a stream's own calls
 
@@ -401,17 +401,17 @@ ran-is (opening e) = e
 ran-is (one-more {calls} {x} call d d′ r row p) = p .1 .0 ∙ ap (λ (y : Stream). nextOf y call (length d)) (ran-is row)
 
 module _ (x : Stream) (call : Call) (d d′ : List ℕ) (r : Washed) (p : Promised x (closes call) (cutOf call) d d′ r) where
-  bytes-are : r .sums .bytes ≡ pick (eqb (numberTo x call (length d)) 0) (sumsFor x (closes call) (cutOf call)) noSums .bytes
+  pub sums-are : r .sums ≡ pick (eqb (numberTo x call (length d)) 0) (sumsFor x (closes call) (cutOf call)) noSums
   unfolding answerFor
-  bytes-are = ap (λ (y : Paper). getD (y .values) 0 0) (p .0)
+  sums-are = ap (λ (y : Paper). countsIn (y .values)) (p .0)
 
   found-by : (t : Bool) → eqb (numberTo x call (length d)) 0 ≡ t → take (r .sums .bytes) d′ ≡ pick t (washedFor x (closes call) (cutOf call)) []
   unfolding leavesFor
   found-by true e =
       let w : d′ ≡ laid 0 (washedFor x (closes call) (cutOf call)) d = p .1 .1 ∙ rw e in
-      let n : r .sums .bytes ≡ length (washedFor x (closes call) (cutOf call)) = bytes-are ∙ rw e (washed-length (x .seeking) (readsFor x (closes call) (cutOf call))) in
+      let n : r .sums .bytes ≡ length (washedFor x (closes call) (cutOf call)) = ap (λ (t : Sums). t .bytes) sums-are ∙ rw e (washed-length (x .seeking) (readsFor x (closes call) (cutOf call))) in
       rw (n, w) (take-front (length (washedFor x (closes call) (cutOf call))) (washedFor x (closes call) (cutOf call)) d refl)
-  found-by false e = rw (bytes-are, e)
+  found-by false e = rw (sums-are, e)
 
 heard-written : {calls : Calls} {x : Stream} (row : Row calls x) → heard row ≡ written calls
 unfolding written
@@ -425,3 +425,9 @@ heard-so-far {calls} row = heard-written row ∙ cleaned-as-it-arrives calls .by
 -- after the closing call, the cleaned capture
 pub heard-whole : {calls : Calls} {x : Stream} (row : Row calls x) → ended calls ≡ true → heard row ≡ cleanOf (taken calls)
 heard-whole {calls} row e = heard-written row ∙ cleaned-whole calls e .bytes
+
+-- and what it has counted is what cleaning counts
+pub heard-counted : {calls : Calls} {x : Stream} (row : Row calls x) → heardCounts row ≡ counted calls
+unfolding counted
+heard-counted (opening e) = refl
+heard-counted (one-more {calls} {x} call d d′ r row p) = ap₂ plus (heard-counted row) (sums-are x call d d′ r p ∙ rw (ran-is row))

@@ -4,7 +4,7 @@ use Prim.Native.Nat.{ℕ}
 use mathlib.Core.Bool.{Bool}
 use mathlib.Core.List.{List, [], _∷_, _++_}
 use lib.Dec.{eqb, leb}
-use lib.ListN.{length}
+use lib.ListN.{length, getD}
 use Rattle.terms.specs.Paper.{Paper, answer, pick}
 use Rattle.terms.specs.declared.Refusal.{Refusal}
 use Rattle.terms.specs.declared.Verdict.the-variants.{Refused}
@@ -59,6 +59,10 @@ numberFor x closing cut room =
 
 abbrev pub sumsPaper : ℕ → Sums → Paper
 sumsPaper n s = answer n (s .bytes ∷ s .frames ∷ s .found ∷ s .unjudged ∷ [])
+
+-- the sums that a row of numbers tells
+abbrev pub countsIn : List ℕ → Sums
+countsIn vs = record { bytes = getD vs 0 0; frames = getD vs 1 0; found = getD vs 2 0; unjudged = getD vs 3 0 }
 
 -- the number, and what is counted of the frames written
 unfoldable pub answerFor : Stream → Bool → List ℕ → ℕ → Paper

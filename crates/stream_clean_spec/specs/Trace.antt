@@ -63,6 +63,11 @@ abbrev pub heard : {calls : Calls} {x : Stream} → Row calls x → List ℕ
 heard (opening e) = []
 heard (one-more call d d′ r row p) = heard row ++ take (r .sums .bytes) d′
 
+-- and has counted, if it adds up what each call returns
+abbrev pub heardCounts : {calls : Calls} {x : Stream} → Row calls x → Sums
+heardCounts (opening e) = noSums
+heardCounts (one-more call d d′ r row p) = plus (heardCounts row) (r .sums)
+
 -- ---- the theorem's sentences
 
 -- M101 frames among these readings: their bodies are passed on unjudged
