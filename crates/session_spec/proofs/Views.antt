@@ -1,7 +1,8 @@
 -- Which cells beat, die, and are silent: cell by cell. Assumes nothing.
-use mathlib.Core.Path.{_≡_, refl}
+use mathlib.Core.Path.{_≡_, refl, sym, ap, _∙_}
 use mathlib.Core.Bool.{Bool, true, false}
 use mathlib.Core.Logic.{_⊎_, inl, inr}
+use Prim.Native.Nat.{ℕ}
 use native.Mathlib.Omega.{arith}
 use Rattle.terms.specs.Cases.{clash}
 use Rattle.session_spec.specs.Table.{State, new, waiting, active, leaving, over, Kind, none, S001, S002, S003, P002, Event, Begin, Time, Leave, Ask, Logon, Logout, Other, Faulty, rowOf, sends}
@@ -24,335 +25,187 @@ ended active = false
 ended leaving = true
 ended over = true
 
+-- ======== What the cells do, said once
+
+-- a cell sends nothing and leaves the state; or it sends nothing and the session is over; or it is
+-- one of eight
+pub data Does : State → Event → Bool → Bool → Type 0 where
+  stays : {s : State} {e : Event} {dead due : Bool} → kindIn (resolved dead due (rowOf s e)) ≡ none → isDeath (resolved dead due (rowOf s e)) ≡ false → stateIn (resolved dead due (rowOf s e)) s ≡ s → Does s e dead due
+  shuts : {s : State} {e : Event} {dead due : Bool} → kindIn (resolved dead due (rowOf s e)) ≡ none → isDeath (resolved dead due (rowOf s e)) ≡ false → stateIn (resolved dead due (rowOf s e)) s ≡ over → Does s e dead due
+  first : {dead due : Bool} → Does new Begin dead due
+  answer : {number heart : ℕ} {dead due : Bool} → Does waiting (Logon number heart) dead due
+  beat : Does active Time false true
+  leave : {dead due : Bool} → Does active Leave dead due
+  ask : {dead due : Bool} → Does active Ask dead due
+  farewell : {number : ℕ} {dead due : Bool} → Does active (Logout number) dead due
+  dead-active : {due : Bool} → Does active Time true due
+  dead-leaving : {due : Bool} → Does leaving Time true due
+
+pub does : (s : State) (e : Event) (dead due : Bool) → Does s e dead due
+does new Begin dead due = first
+does new Time dead due = stays refl refl refl
+does new Leave dead due = stays refl refl refl
+does new Ask dead due = stays refl refl refl
+does new (Logon number heart) dead due = stays refl refl refl
+does new (Logout number) dead due = shuts refl refl refl
+does new (Other number) dead due = stays refl refl refl
+does new (Faulty why) dead due = stays refl refl refl
+does waiting Begin dead due = stays refl refl refl
+does waiting Time dead due = stays refl refl refl
+does waiting Leave dead due = stays refl refl refl
+does waiting Ask dead due = stays refl refl refl
+does waiting (Logon number heart) dead due = answer
+does waiting (Logout number) dead due = shuts refl refl refl
+does waiting (Other number) dead due = stays refl refl refl
+does waiting (Faulty why) dead due = stays refl refl refl
+does active Begin dead due = stays refl refl refl
+does active Time true due = dead-active
+does active Time false true = beat
+does active Time false false = stays refl refl refl
+does active Leave dead due = leave
+does active Ask dead due = ask
+does active (Logon number heart) dead due = stays refl refl refl
+does active (Logout number) dead due = farewell
+does active (Other number) dead due = stays refl refl refl
+does active (Faulty why) dead due = stays refl refl refl
+does leaving Begin dead due = stays refl refl refl
+does leaving Time true due = dead-leaving
+does leaving Time false due = stays refl refl refl
+does leaving Leave dead due = stays refl refl refl
+does leaving Ask dead due = stays refl refl refl
+does leaving (Logon number heart) dead due = stays refl refl refl
+does leaving (Logout number) dead due = shuts refl refl refl
+does leaving (Other number) dead due = stays refl refl refl
+does leaving (Faulty why) dead due = stays refl refl refl
+does over Begin dead due = stays refl refl refl
+does over Time dead due = stays refl refl refl
+does over Leave dead due = stays refl refl refl
+does over Ask dead due = stays refl refl refl
+does over (Logon number heart) dead due = stays refl refl refl
+does over (Logout number) dead due = stays refl refl refl
+does over (Other number) dead due = stays refl refl refl
+does over (Faulty why) dead due = stays refl refl refl
+
 pub record Beat (s : State) (e : Event) (dead due : Bool) : Type 0 where
   pub at-time : e ≡ Time
   pub state-active : s ≡ active
   pub not-dead : dead ≡ false
   pub is-due : due ≡ true
 
+beat-of : {s : State} {e : Event} {dead due : Bool} → Does s e dead due → isS003 (kindIn (resolved dead due (rowOf s e))) ≡ true → Beat s e dead due
+beat-of (stays k d m) h = absurd (clash h (ap isS003 k))
+beat-of (shuts k d m) h = absurd (clash h (ap isS003 k))
+beat-of first h = absurd (clash h refl)
+beat-of answer h = absurd (clash h refl)
+beat-of beat h = record { at-time = refl; state-active = refl; not-dead = refl; is-due = refl }
+beat-of leave h = absurd (clash h refl)
+beat-of ask h = absurd (clash h refl)
+beat-of farewell h = absurd (clash h refl)
+beat-of dead-active h = absurd (clash h refl)
+beat-of dead-leaving h = absurd (clash h refl)
+
 pub beat-cell : (s : State) (e : Event) (dead due : Bool) → isS003 (kindIn (resolved dead due (rowOf s e))) ≡ true → Beat s e dead due
-beat-cell new Begin dead due h = absurd (clash h refl)
-beat-cell new Time dead due h = absurd (clash h refl)
-beat-cell new Leave dead due h = absurd (clash h refl)
-beat-cell new Ask dead due h = absurd (clash h refl)
-beat-cell new (Logon number heart) dead due h = absurd (clash h refl)
-beat-cell new (Logout number) dead due h = absurd (clash h refl)
-beat-cell new (Other number) dead due h = absurd (clash h refl)
-beat-cell new (Faulty why) dead due h = absurd (clash h refl)
-beat-cell waiting Begin dead due h = absurd (clash h refl)
-beat-cell waiting Time dead due h = absurd (clash h refl)
-beat-cell waiting Leave dead due h = absurd (clash h refl)
-beat-cell waiting Ask dead due h = absurd (clash h refl)
-beat-cell waiting (Logon number heart) dead due h = absurd (clash h refl)
-beat-cell waiting (Logout number) dead due h = absurd (clash h refl)
-beat-cell waiting (Other number) dead due h = absurd (clash h refl)
-beat-cell waiting (Faulty why) dead due h = absurd (clash h refl)
-beat-cell active Begin dead due h = absurd (clash h refl)
-beat-cell active Time true due h = absurd (clash h refl)
-beat-cell active Time false true h = record { at-time = refl; state-active = refl; not-dead = refl; is-due = refl }
-beat-cell active Time false false h = absurd (clash h refl)
-beat-cell active Leave dead due h = absurd (clash h refl)
-beat-cell active Ask dead due h = absurd (clash h refl)
-beat-cell active (Logon number heart) dead due h = absurd (clash h refl)
-beat-cell active (Logout number) dead due h = absurd (clash h refl)
-beat-cell active (Other number) dead due h = absurd (clash h refl)
-beat-cell active (Faulty why) dead due h = absurd (clash h refl)
-beat-cell leaving Begin dead due h = absurd (clash h refl)
-beat-cell leaving Time true due h = absurd (clash h refl)
-beat-cell leaving Time false due h = absurd (clash h refl)
-beat-cell leaving Leave dead due h = absurd (clash h refl)
-beat-cell leaving Ask dead due h = absurd (clash h refl)
-beat-cell leaving (Logon number heart) dead due h = absurd (clash h refl)
-beat-cell leaving (Logout number) dead due h = absurd (clash h refl)
-beat-cell leaving (Other number) dead due h = absurd (clash h refl)
-beat-cell leaving (Faulty why) dead due h = absurd (clash h refl)
-beat-cell over Begin dead due h = absurd (clash h refl)
-beat-cell over Time dead due h = absurd (clash h refl)
-beat-cell over Leave dead due h = absurd (clash h refl)
-beat-cell over Ask dead due h = absurd (clash h refl)
-beat-cell over (Logon number heart) dead due h = absurd (clash h refl)
-beat-cell over (Logout number) dead due h = absurd (clash h refl)
-beat-cell over (Other number) dead due h = absurd (clash h refl)
-beat-cell over (Faulty why) dead due h = absurd (clash h refl)
+beat-cell s e dead due = beat-of (does s e dead due)
 
 pub record Death (s : State) (e : Event) (dead : Bool) : Type 0 where
   pub at-time : e ≡ Time
   pub listens : listening s ≡ true
   pub is-dead : dead ≡ true
 
+death-of : {s : State} {e : Event} {dead due : Bool} → Does s e dead due → isDeath (resolved dead due (rowOf s e)) ≡ true → Death s e dead
+death-of (stays k d m) h = absurd (clash h d)
+death-of (shuts k d m) h = absurd (clash h d)
+death-of first h = absurd (clash h refl)
+death-of answer h = absurd (clash h refl)
+death-of beat h = absurd (clash h refl)
+death-of leave h = absurd (clash h refl)
+death-of ask h = absurd (clash h refl)
+death-of farewell h = absurd (clash h refl)
+death-of dead-active h = record { at-time = refl; listens = refl; is-dead = refl }
+death-of dead-leaving h = record { at-time = refl; listens = refl; is-dead = refl }
+
 pub death-cell : (s : State) (e : Event) (dead due : Bool) → isDeath (resolved dead due (rowOf s e)) ≡ true → Death s e dead
-death-cell new Begin dead due h = absurd (clash h refl)
-death-cell new Time dead due h = absurd (clash h refl)
-death-cell new Leave dead due h = absurd (clash h refl)
-death-cell new Ask dead due h = absurd (clash h refl)
-death-cell new (Logon number heart) dead due h = absurd (clash h refl)
-death-cell new (Logout number) dead due h = absurd (clash h refl)
-death-cell new (Other number) dead due h = absurd (clash h refl)
-death-cell new (Faulty why) dead due h = absurd (clash h refl)
-death-cell waiting Begin dead due h = absurd (clash h refl)
-death-cell waiting Time dead due h = absurd (clash h refl)
-death-cell waiting Leave dead due h = absurd (clash h refl)
-death-cell waiting Ask dead due h = absurd (clash h refl)
-death-cell waiting (Logon number heart) dead due h = absurd (clash h refl)
-death-cell waiting (Logout number) dead due h = absurd (clash h refl)
-death-cell waiting (Other number) dead due h = absurd (clash h refl)
-death-cell waiting (Faulty why) dead due h = absurd (clash h refl)
-death-cell active Begin dead due h = absurd (clash h refl)
-death-cell active Time true due h = record { at-time = refl; listens = refl; is-dead = refl }
-death-cell active Time false true h = absurd (clash h refl)
-death-cell active Time false false h = absurd (clash h refl)
-death-cell active Leave dead due h = absurd (clash h refl)
-death-cell active Ask dead due h = absurd (clash h refl)
-death-cell active (Logon number heart) dead due h = absurd (clash h refl)
-death-cell active (Logout number) dead due h = absurd (clash h refl)
-death-cell active (Other number) dead due h = absurd (clash h refl)
-death-cell active (Faulty why) dead due h = absurd (clash h refl)
-death-cell leaving Begin dead due h = absurd (clash h refl)
-death-cell leaving Time true due h = record { at-time = refl; listens = refl; is-dead = refl }
-death-cell leaving Time false due h = absurd (clash h refl)
-death-cell leaving Leave dead due h = absurd (clash h refl)
-death-cell leaving Ask dead due h = absurd (clash h refl)
-death-cell leaving (Logon number heart) dead due h = absurd (clash h refl)
-death-cell leaving (Logout number) dead due h = absurd (clash h refl)
-death-cell leaving (Other number) dead due h = absurd (clash h refl)
-death-cell leaving (Faulty why) dead due h = absurd (clash h refl)
-death-cell over Begin dead due h = absurd (clash h refl)
-death-cell over Time dead due h = absurd (clash h refl)
-death-cell over Leave dead due h = absurd (clash h refl)
-death-cell over Ask dead due h = absurd (clash h refl)
-death-cell over (Logon number heart) dead due h = absurd (clash h refl)
-death-cell over (Logout number) dead due h = absurd (clash h refl)
-death-cell over (Other number) dead due h = absurd (clash h refl)
-death-cell over (Faulty why) dead due h = absurd (clash h refl)
+death-cell s e dead due = death-of (does s e dead due)
+
+ended-of : {s : State} {e : Event} {dead due : Bool} → Does s e dead due → ended s ≡ true → (sends (kindIn (resolved dead due (rowOf s e))) ≡ false) × (ended (stateIn (resolved dead due (rowOf s e)) s) ≡ true)
+ended-of (stays k d m) h = (ap sends k, ap ended m ∙ h)
+ended-of (shuts k d m) h = (ap sends k, ap ended m)
+ended-of first h = absurd (clash h refl)
+ended-of answer h = absurd (clash h refl)
+ended-of beat h = absurd (clash h refl)
+ended-of leave h = absurd (clash h refl)
+ended-of ask h = absurd (clash h refl)
+ended-of farewell h = absurd (clash h refl)
+ended-of dead-active h = absurd (clash h refl)
+ended-of dead-leaving h = (refl, refl)
 
 pub ended-cell : (s : State) (e : Event) (dead due : Bool) → ended s ≡ true → (sends (kindIn (resolved dead due (rowOf s e))) ≡ false) × (ended (stateIn (resolved dead due (rowOf s e)) s) ≡ true)
-ended-cell new Begin dead due h = absurd (clash h refl)
-ended-cell new Time dead due h = absurd (clash h refl)
-ended-cell new Leave dead due h = absurd (clash h refl)
-ended-cell new Ask dead due h = absurd (clash h refl)
-ended-cell new (Logon number heart) dead due h = absurd (clash h refl)
-ended-cell new (Logout number) dead due h = absurd (clash h refl)
-ended-cell new (Other number) dead due h = absurd (clash h refl)
-ended-cell new (Faulty why) dead due h = absurd (clash h refl)
-ended-cell waiting Begin dead due h = absurd (clash h refl)
-ended-cell waiting Time dead due h = absurd (clash h refl)
-ended-cell waiting Leave dead due h = absurd (clash h refl)
-ended-cell waiting Ask dead due h = absurd (clash h refl)
-ended-cell waiting (Logon number heart) dead due h = absurd (clash h refl)
-ended-cell waiting (Logout number) dead due h = absurd (clash h refl)
-ended-cell waiting (Other number) dead due h = absurd (clash h refl)
-ended-cell waiting (Faulty why) dead due h = absurd (clash h refl)
-ended-cell active Begin dead due h = absurd (clash h refl)
-ended-cell active Time true due h = absurd (clash h refl)
-ended-cell active Time false true h = absurd (clash h refl)
-ended-cell active Time false false h = absurd (clash h refl)
-ended-cell active Leave dead due h = absurd (clash h refl)
-ended-cell active Ask dead due h = absurd (clash h refl)
-ended-cell active (Logon number heart) dead due h = absurd (clash h refl)
-ended-cell active (Logout number) dead due h = absurd (clash h refl)
-ended-cell active (Other number) dead due h = absurd (clash h refl)
-ended-cell active (Faulty why) dead due h = absurd (clash h refl)
-ended-cell leaving Begin dead due h = (refl, refl)
-ended-cell leaving Time true due h = (refl, refl)
-ended-cell leaving Time false due h = (refl, refl)
-ended-cell leaving Leave dead due h = (refl, refl)
-ended-cell leaving Ask dead due h = (refl, refl)
-ended-cell leaving (Logon number heart) dead due h = (refl, refl)
-ended-cell leaving (Logout number) dead due h = (refl, refl)
-ended-cell leaving (Other number) dead due h = (refl, refl)
-ended-cell leaving (Faulty why) dead due h = (refl, refl)
-ended-cell over Begin dead due h = (refl, refl)
-ended-cell over Time dead due h = (refl, refl)
-ended-cell over Leave dead due h = (refl, refl)
-ended-cell over Ask dead due h = (refl, refl)
-ended-cell over (Logon number heart) dead due h = (refl, refl)
-ended-cell over (Logout number) dead due h = (refl, refl)
-ended-cell over (Other number) dead due h = (refl, refl)
-ended-cell over (Faulty why) dead due h = (refl, refl)
+ended-cell s e dead due = ended-of (does s e dead due)
+
+logout-of : {s : State} {e : Event} {dead due : Bool} → Does s e dead due → isS002 (kindIn (resolved dead due (rowOf s e))) ≡ true → ended (stateIn (resolved dead due (rowOf s e)) s) ≡ true
+logout-of (stays k d m) h = absurd (clash h (ap isS002 k))
+logout-of (shuts k d m) h = absurd (clash h (ap isS002 k))
+logout-of first h = absurd (clash h refl)
+logout-of answer h = absurd (clash h refl)
+logout-of beat h = absurd (clash h refl)
+logout-of leave h = refl
+logout-of ask h = absurd (clash h refl)
+logout-of farewell h = refl
+logout-of dead-active h = absurd (clash h refl)
+logout-of dead-leaving h = absurd (clash h refl)
 
 pub logout-cell : (s : State) (e : Event) (dead due : Bool) → isS002 (kindIn (resolved dead due (rowOf s e))) ≡ true → ended (stateIn (resolved dead due (rowOf s e)) s) ≡ true
-logout-cell new Begin dead due h = absurd (clash h refl)
-logout-cell new Time dead due h = absurd (clash h refl)
-logout-cell new Leave dead due h = absurd (clash h refl)
-logout-cell new Ask dead due h = absurd (clash h refl)
-logout-cell new (Logon number heart) dead due h = absurd (clash h refl)
-logout-cell new (Logout number) dead due h = absurd (clash h refl)
-logout-cell new (Other number) dead due h = absurd (clash h refl)
-logout-cell new (Faulty why) dead due h = absurd (clash h refl)
-logout-cell waiting Begin dead due h = absurd (clash h refl)
-logout-cell waiting Time dead due h = absurd (clash h refl)
-logout-cell waiting Leave dead due h = absurd (clash h refl)
-logout-cell waiting Ask dead due h = absurd (clash h refl)
-logout-cell waiting (Logon number heart) dead due h = absurd (clash h refl)
-logout-cell waiting (Logout number) dead due h = absurd (clash h refl)
-logout-cell waiting (Other number) dead due h = absurd (clash h refl)
-logout-cell waiting (Faulty why) dead due h = absurd (clash h refl)
-logout-cell active Begin dead due h = absurd (clash h refl)
-logout-cell active Time true due h = absurd (clash h refl)
-logout-cell active Time false true h = absurd (clash h refl)
-logout-cell active Time false false h = absurd (clash h refl)
-logout-cell active Leave dead due h = refl
-logout-cell active Ask dead due h = absurd (clash h refl)
-logout-cell active (Logon number heart) dead due h = absurd (clash h refl)
-logout-cell active (Logout number) dead due h = refl
-logout-cell active (Other number) dead due h = absurd (clash h refl)
-logout-cell active (Faulty why) dead due h = absurd (clash h refl)
-logout-cell leaving Begin dead due h = absurd (clash h refl)
-logout-cell leaving Time true due h = absurd (clash h refl)
-logout-cell leaving Time false due h = absurd (clash h refl)
-logout-cell leaving Leave dead due h = absurd (clash h refl)
-logout-cell leaving Ask dead due h = absurd (clash h refl)
-logout-cell leaving (Logon number heart) dead due h = absurd (clash h refl)
-logout-cell leaving (Logout number) dead due h = absurd (clash h refl)
-logout-cell leaving (Other number) dead due h = absurd (clash h refl)
-logout-cell leaving (Faulty why) dead due h = absurd (clash h refl)
-logout-cell over Begin dead due h = absurd (clash h refl)
-logout-cell over Time dead due h = absurd (clash h refl)
-logout-cell over Leave dead due h = absurd (clash h refl)
-logout-cell over Ask dead due h = absurd (clash h refl)
-logout-cell over (Logon number heart) dead due h = absurd (clash h refl)
-logout-cell over (Logout number) dead due h = absurd (clash h refl)
-logout-cell over (Other number) dead due h = absurd (clash h refl)
-logout-cell over (Faulty why) dead due h = absurd (clash h refl)
+logout-cell s e dead due = logout-of (does s e dead due)
 
 -- something is sent: our logon, from new; or the line is active
+first-of : {s : State} {e : Event} {dead due : Bool} → Does s e dead due → sends (kindIn (resolved dead due (rowOf s e))) ≡ true → ((s ≡ new) × (kindIn (resolved dead due (rowOf s e)) ≡ S001)) ⊎ (s ≡ active)
+first-of (stays k d m) h = absurd (clash h (ap sends k))
+first-of (shuts k d m) h = absurd (clash h (ap sends k))
+first-of first h = inl (refl, refl)
+first-of answer h = absurd (clash h refl)
+first-of beat h = inr refl
+first-of leave h = inr refl
+first-of ask h = inr refl
+first-of farewell h = inr refl
+first-of dead-active h = absurd (clash h refl)
+first-of dead-leaving h = absurd (clash h refl)
+
 pub first-cell : (s : State) (e : Event) (dead due : Bool) → sends (kindIn (resolved dead due (rowOf s e))) ≡ true → ((s ≡ new) × (kindIn (resolved dead due (rowOf s e)) ≡ S001)) ⊎ (s ≡ active)
-first-cell new Begin dead due h = inl (refl, refl)
-first-cell new Time dead due h = absurd (clash h refl)
-first-cell new Leave dead due h = absurd (clash h refl)
-first-cell new Ask dead due h = absurd (clash h refl)
-first-cell new (Logon number heart) dead due h = absurd (clash h refl)
-first-cell new (Logout number) dead due h = absurd (clash h refl)
-first-cell new (Other number) dead due h = absurd (clash h refl)
-first-cell new (Faulty why) dead due h = absurd (clash h refl)
-first-cell waiting Begin dead due h = absurd (clash h refl)
-first-cell waiting Time dead due h = absurd (clash h refl)
-first-cell waiting Leave dead due h = absurd (clash h refl)
-first-cell waiting Ask dead due h = absurd (clash h refl)
-first-cell waiting (Logon number heart) dead due h = absurd (clash h refl)
-first-cell waiting (Logout number) dead due h = absurd (clash h refl)
-first-cell waiting (Other number) dead due h = absurd (clash h refl)
-first-cell waiting (Faulty why) dead due h = absurd (clash h refl)
-first-cell active Begin dead due h = absurd (clash h refl)
-first-cell active Time true due h = absurd (clash h refl)
-first-cell active Time false true h = inr refl
-first-cell active Time false false h = absurd (clash h refl)
-first-cell active Leave dead due h = inr refl
-first-cell active Ask dead due h = inr refl
-first-cell active (Logon number heart) dead due h = absurd (clash h refl)
-first-cell active (Logout number) dead due h = inr refl
-first-cell active (Other number) dead due h = absurd (clash h refl)
-first-cell active (Faulty why) dead due h = absurd (clash h refl)
-first-cell leaving Begin dead due h = absurd (clash h refl)
-first-cell leaving Time true due h = absurd (clash h refl)
-first-cell leaving Time false due h = absurd (clash h refl)
-first-cell leaving Leave dead due h = absurd (clash h refl)
-first-cell leaving Ask dead due h = absurd (clash h refl)
-first-cell leaving (Logon number heart) dead due h = absurd (clash h refl)
-first-cell leaving (Logout number) dead due h = absurd (clash h refl)
-first-cell leaving (Other number) dead due h = absurd (clash h refl)
-first-cell leaving (Faulty why) dead due h = absurd (clash h refl)
-first-cell over Begin dead due h = absurd (clash h refl)
-first-cell over Time dead due h = absurd (clash h refl)
-first-cell over Leave dead due h = absurd (clash h refl)
-first-cell over Ask dead due h = absurd (clash h refl)
-first-cell over (Logon number heart) dead due h = absurd (clash h refl)
-first-cell over (Logout number) dead due h = absurd (clash h refl)
-first-cell over (Other number) dead due h = absurd (clash h refl)
-first-cell over (Faulty why) dead due h = absurd (clash h refl)
+first-cell s e dead due = first-of (does s e dead due)
 
 -- active or leaving is reached from there, or by a logon
+reach-of : {s : State} {e : Event} {dead due : Bool} → Does s e dead due → listening (stateIn (resolved dead due (rowOf s e)) s) ≡ true → (listening s ≡ true) ⊎ (isLogon e ≡ true)
+reach-of (stays k d m) h = inl (sym (ap listening m) ∙ h)
+reach-of (shuts k d m) h = absurd (clash h (ap listening m))
+reach-of first h = absurd (clash h refl)
+reach-of answer h = inr refl
+reach-of beat h = inl refl
+reach-of leave h = inl refl
+reach-of ask h = inl refl
+reach-of farewell h = absurd (clash h refl)
+reach-of dead-active h = absurd (clash h refl)
+reach-of dead-leaving h = absurd (clash h refl)
+
 pub reach-cell : (s : State) (e : Event) (dead due : Bool) → listening (stateIn (resolved dead due (rowOf s e)) s) ≡ true → (listening s ≡ true) ⊎ (isLogon e ≡ true)
-reach-cell new Begin dead due h = absurd (clash h refl)
-reach-cell new Time dead due h = absurd (clash h refl)
-reach-cell new Leave dead due h = absurd (clash h refl)
-reach-cell new Ask dead due h = absurd (clash h refl)
-reach-cell new (Logon number heart) dead due h = absurd (clash h refl)
-reach-cell new (Logout number) dead due h = absurd (clash h refl)
-reach-cell new (Other number) dead due h = absurd (clash h refl)
-reach-cell new (Faulty why) dead due h = absurd (clash h refl)
-reach-cell waiting Begin dead due h = absurd (clash h refl)
-reach-cell waiting Time dead due h = absurd (clash h refl)
-reach-cell waiting Leave dead due h = absurd (clash h refl)
-reach-cell waiting Ask dead due h = absurd (clash h refl)
-reach-cell waiting (Logon number heart) dead due h = inr refl
-reach-cell waiting (Logout number) dead due h = absurd (clash h refl)
-reach-cell waiting (Other number) dead due h = absurd (clash h refl)
-reach-cell waiting (Faulty why) dead due h = absurd (clash h refl)
-reach-cell active Begin dead due h = inl refl
-reach-cell active Time true due h = absurd (clash h refl)
-reach-cell active Time false true h = inl refl
-reach-cell active Time false false h = inl refl
-reach-cell active Leave dead due h = inl refl
-reach-cell active Ask dead due h = inl refl
-reach-cell active (Logon number heart) dead due h = inl refl
-reach-cell active (Logout number) dead due h = absurd (clash h refl)
-reach-cell active (Other number) dead due h = inl refl
-reach-cell active (Faulty why) dead due h = inl refl
-reach-cell leaving Begin dead due h = inl refl
-reach-cell leaving Time true due h = absurd (clash h refl)
-reach-cell leaving Time false due h = inl refl
-reach-cell leaving Leave dead due h = inl refl
-reach-cell leaving Ask dead due h = inl refl
-reach-cell leaving (Logon number heart) dead due h = inl refl
-reach-cell leaving (Logout number) dead due h = absurd (clash h refl)
-reach-cell leaving (Other number) dead due h = inl refl
-reach-cell leaving (Faulty why) dead due h = inl refl
-reach-cell over Begin dead due h = absurd (clash h refl)
-reach-cell over Time dead due h = absurd (clash h refl)
-reach-cell over Leave dead due h = absurd (clash h refl)
-reach-cell over Ask dead due h = absurd (clash h refl)
-reach-cell over (Logon number heart) dead due h = absurd (clash h refl)
-reach-cell over (Logout number) dead due h = absurd (clash h refl)
-reach-cell over (Other number) dead due h = absurd (clash h refl)
-reach-cell over (Faulty why) dead due h = absurd (clash h refl)
+reach-cell s e dead due = reach-of (does s e dead due)
 
 -- behind our logon is reached from there, or by sending it
+begun-of : {s : State} {e : Event} {dead due : Bool} → Does s e dead due → begun (stateIn (resolved dead due (rowOf s e)) s) ≡ true
+    → (begun s ≡ true) ⊎ (isS001 (kindIn (resolved dead due (rowOf s e))) ≡ true)
+begun-of (stays k d m) h = inl (sym (ap begun m) ∙ h)
+begun-of (shuts k d m) h = absurd (clash h (ap begun m))
+begun-of first h = inr refl
+begun-of answer h = inl refl
+begun-of beat h = inl refl
+begun-of leave h = inl refl
+begun-of ask h = inl refl
+begun-of farewell h = absurd (clash h refl)
+begun-of dead-active h = absurd (clash h refl)
+begun-of dead-leaving h = absurd (clash h refl)
+
 pub begun-cell : (s : State) (e : Event) (dead due : Bool) → begun (stateIn (resolved dead due (rowOf s e)) s) ≡ true
     → (begun s ≡ true) ⊎ (isS001 (kindIn (resolved dead due (rowOf s e))) ≡ true)
-begun-cell new Begin dead due h = inr refl
-begun-cell new Time dead due h = absurd (clash h refl)
-begun-cell new Leave dead due h = absurd (clash h refl)
-begun-cell new Ask dead due h = absurd (clash h refl)
-begun-cell new (Logon number heart) dead due h = absurd (clash h refl)
-begun-cell new (Logout number) dead due h = absurd (clash h refl)
-begun-cell new (Other number) dead due h = absurd (clash h refl)
-begun-cell new (Faulty why) dead due h = absurd (clash h refl)
-begun-cell waiting Begin dead due h = inl refl
-begun-cell waiting Time dead due h = inl refl
-begun-cell waiting Leave dead due h = inl refl
-begun-cell waiting Ask dead due h = inl refl
-begun-cell waiting (Logon number heart) dead due h = inl refl
-begun-cell waiting (Logout number) dead due h = absurd (clash h refl)
-begun-cell waiting (Other number) dead due h = inl refl
-begun-cell waiting (Faulty why) dead due h = inl refl
-begun-cell active Begin dead due h = inl refl
-begun-cell active Time true due h = absurd (clash h refl)
-begun-cell active Time false true h = inl refl
-begun-cell active Time false false h = inl refl
-begun-cell active Leave dead due h = inl refl
-begun-cell active Ask dead due h = inl refl
-begun-cell active (Logon number heart) dead due h = inl refl
-begun-cell active (Logout number) dead due h = absurd (clash h refl)
-begun-cell active (Other number) dead due h = inl refl
-begun-cell active (Faulty why) dead due h = inl refl
-begun-cell leaving Begin dead due h = inl refl
-begun-cell leaving Time true due h = absurd (clash h refl)
-begun-cell leaving Time false due h = inl refl
-begun-cell leaving Leave dead due h = inl refl
-begun-cell leaving Ask dead due h = inl refl
-begun-cell leaving (Logon number heart) dead due h = inl refl
-begun-cell leaving (Logout number) dead due h = absurd (clash h refl)
-begun-cell leaving (Other number) dead due h = inl refl
-begun-cell leaving (Faulty why) dead due h = inl refl
-begun-cell over Begin dead due h = absurd (clash h refl)
-begun-cell over Time dead due h = absurd (clash h refl)
-begun-cell over Leave dead due h = absurd (clash h refl)
-begun-cell over Ask dead due h = absurd (clash h refl)
-begun-cell over (Logon number heart) dead due h = absurd (clash h refl)
-begun-cell over (Logout number) dead due h = absurd (clash h refl)
-begun-cell over (Other number) dead due h = absurd (clash h refl)
-begun-cell over (Faulty why) dead due h = absurd (clash h refl)
+begun-cell s e dead due = begun-of (does s e dead due)
 
 -- a logon is taken while ours waits for it, and nowhere else
 pub logon-cell : (s : State) (e : Event) (dead due : Bool) → isLogon e ≡ true → numberIn (resolved dead due (rowOf s e)) ≡ 0 → s ≡ waiting
