@@ -345,11 +345,16 @@ fn whole(bytes: &[u8]) -> Option<usize> {
     (HEADER + CHECK_SUM..=bytes.len()).find(is_whole)
 }
 
-/// Both sums of a frame whose own is wrong, if its type has no private field.
+/// Both sums of a frame whose own is wrong: not if its type has private fields, if its body is not
+/// judged, or if it would not read with the right sum either. A damaged type makes one frame look
+/// like another, and then the sum may be that of private bytes.
 fn sums(bytes: &[u8]) -> String {
     let Some((msg_type, (_, high))) = type_at(bytes).and_then(|t| Some((t, lengths(t)?))) else {
         return String::new();
     };
+    if names::is_unjudged_type(msg_type) {
+        return "the sums are not shown: the body of an M101 could hold anything\n".to_string();
+    }
     let private = private_spans(msg_type, &[0; LONGEST_BODY][..high]);
     if private.map_or(true, |spans| !spans.is_empty()) {
         return "the sums are not shown: a frame of its type has private fields\n".to_string();
@@ -360,12 +365,13 @@ fn sums(bytes: &[u8]) -> String {
     let mut frame = bytes[..len].to_vec();
     let sum = len - CHECK_SUM;
     let stored = frame[sum..].iter().fold(0, |n, b| n << 8 | u32::from(*b));
-    // the right one: reading no longer answers 5
     let right = (0..=255u8).find(|right| {
         frame[sum..].copy_from_slice(&u32::from(*right).to_be_bytes());
-        read(&frame, 0) != Err(Refusal::Sum)
+        read(&frame, 0).is_ok()
     });
-    let right = right.map_or(String::new(), |right| right.to_string());
+    let Some(right) = right else {
+        return "the sums are not shown: with the right one it would not read either\n".to_string();
+    };
     let stored = match stored {
         0..=255 => stored.to_string(),
         _ => "above 255".to_string(),

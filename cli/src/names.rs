@@ -162,11 +162,15 @@ pub fn frame_len(record: &Record) -> usize {
 /// Whether a frame's body is carried as bytes and not judged; an empty one counts, as the library
 /// counts it.
 pub fn is_unjudged(record: &Record) -> bool {
-    record.msg_type == types::M101.to_be_bytes()
+    is_unjudged_type(u32::from_be_bytes(record.msg_type))
 }
 
 pub fn is_unjudged_frame(frame: &Frame) -> bool {
-    frame.msg_type == types::M101.into()
+    is_unjudged_type(frame.msg_type as u32)
+}
+
+pub fn is_unjudged_type(msg_type: u32) -> bool {
+    msg_type == types::M101
 }
 
 /// What is to be known of so many such bodies.

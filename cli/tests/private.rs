@@ -319,11 +319,50 @@ fn told_alike(folders: &[Folder; 2], line: &str) {
     assert_eq!(folders[0].names(), folders[1].names(), "{line}");
 }
 
+/// Damaged frames full of private bytes, each with what reading answers: a wrong sum under a type
+/// that has no private field, a wrong length, a field that breaks its rule.
+fn damaged_frames(letter: &str) -> [(Vec<u8>, &'static str); 4] {
+    let letters = |n: usize| letter.repeat(n);
+    let named = |kind: &[u8; 4]| {
+        let mut frame = order(1, &letters(12), &letters(12), &letters(32));
+        frame[..4].copy_from_slice(kind);
+        frame
+    };
+    let mut resting = logon(&letters(32), &letters(32));
+    // HeartBtInt becomes 0, and the sum suits it
+    let end = resting.len() - 4;
+    resting[end + 3] = resting[end + 3].wrapping_sub(resting[89]);
+    resting[89] = 0;
+    [
+        (named(b"M101"), "5 (sum)"),
+        (named(b"M102"), "5 (sum)"),
+        (named(b"S001"), "4 (length)"),
+        (resting, "6 (field)"),
+    ]
+}
+
 /// Two captures that differ in private bytes alone: every command prints the same of both, on both
-/// streams, with the same status, and writes the same file.
+/// streams, with the same status, and writes the same file. So it does where the first damage is
+/// another.
 #[test]
 fn private_bytes_leave_no_trace() {
-    let folders = ["Q", "z"].map(|letter| Folder::new().with("in", &session(letter)));
+    leaves_no_trace(["Q", "z"].map(session));
+    for case in 0..4 {
+        let captures = ["Q", "z"].map(|letter| {
+            let (frame, answer) = &damaged_frames(letter)[case];
+            let capture = [heartbeats(1), frame.clone(), session(letter)].concat();
+            let folder = Folder::new().with("in", &capture);
+            let ran = run(&folder, &["explain", "in", "28"]);
+            let start = format!("in: place 28: refused, {answer}: ");
+            assert!(ran.out().starts_with(&start), "{}", ran.out());
+            capture
+        });
+        leaves_no_trace(captures);
+    }
+}
+
+fn leaves_no_trace(captures: [Vec<u8>; 2]) {
+    let folders = captures.map(|capture| Folder::new().with("in", &capture));
     let mut lines: Vec<String> = [
         "list in",
         "list --json in",
@@ -360,6 +399,29 @@ fn private_bytes_leave_no_trace() {
     }
     let [one, other] = folders.map(|folder| fs::read(folder.path("out")).unwrap());
     assert!(one == other && !one.is_empty());
+}
+
+/// A frame whose type was damaged, so that it looks like one without private fields and every other
+/// check but the sum's suits it: M201 to M101 by one byte, to M102 by two. No sum of it is shown.
+#[test]
+fn a_damaged_type_shows_no_sum() {
+    let reasons = [
+        "the body of an M101 could hold anything",
+        "with the right one it would not read either",
+    ];
+    for ((frame, _), reason) in damaged_frames("Q").iter().zip(reasons) {
+        let folder = Folder::new().with("in", frame);
+        run(&folder, &["explain", "in", "0"]).quiet(
+            1,
+            &format!(
+                "in: place 0: refused, 5 (sum): its CheckSum differs from the sum of its bytes
+the sums are not shown: {reason}
+no frame reads behind it: the walk stops
+the ledger of channel 100 then has floor 0, top 0
+"
+            ),
+        );
+    }
 }
 
 /// Generated pairs of captures of all types, up to 64 KiB, that the second program finds to differ
