@@ -71,6 +71,10 @@ up to 32: floor, top, how many tick numbers are missing, and which, in at most
 20 runs; then the request that would be given next. Without FILE it reads
 standard input.
 
+A tick more than 256 above the floor is not taken, and counts as missing though
+it is in the capture: it says on standard error how many there were, of each
+channel. Of a capture that begins in the middle of a session all may be such.
+
 --json     an object a line, with the names of rietknoest.h (see the manual)
 --quiet    shows no progress
 --help     prints this
