@@ -164,6 +164,7 @@ impl Spot {
     /// More of why the walk's reading is refused: the lengths that suit, both sums, or the field.
     fn why_not(&self, refusal: Refusal) -> String {
         match refusal {
+            Refusal::Length if self.damaged => suiting(&self.bytes) + AFTER_DAMAGE,
             Refusal::Length => suiting(&self.bytes),
             Refusal::Sum if self.damaged => {
                 "the sums are not shown: after damage they may be those of private bytes\n"
@@ -201,7 +202,7 @@ impl Spot {
     fn onward(&self) -> String {
         match self.behind {
             Some(next) => format!("the walk goes on at {next}, where the next frame reads\n"),
-            None => "no frame reads behind it: the walk stops\n".to_string(),
+            None => "no frame reads after it: the walk stops\n".to_string(),
         }
     }
 
@@ -217,7 +218,7 @@ impl Spot {
             let letters = String::from_utf8_lossy(&before.msg_type).into_owned();
             format!("inside the {letters} at {at}")
         };
-        format!("the walk does not read here: the place lies {lies}, and no more is told of it\n")
+        format!("the walk does not read here: the place lies {lies}, and no more is said of it\n")
     }
 }
 

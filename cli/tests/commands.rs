@@ -536,7 +536,14 @@ fn explain_tells_lengths_and_sums() {
         let mut beat = heartbeats(1);
         beat[..4].copy_from_slice(kind);
         beat[23] = 11;
-        assert_eq!(second(&beat), format!("a body of its type has {suits}"));
+        let said = format!("a body of its type has {suits}");
+        assert_eq!(second(&beat), said);
+        // after damage it comes with a warning: the type may be four private bytes
+        let after = [vec![0xFF], heartbeats(1), beat].concat();
+        let ran = run_on(&folder, &["explain", "-", "29"], &after);
+        let mut lines = ran.out().lines().skip(1);
+        assert_eq!(lines.next(), Some(said.as_str()));
+        assert!(lines.next().unwrap().starts_with("it stands after damage"));
     }
 
     let mut beat = heartbeats(1);
@@ -647,7 +654,7 @@ fn explain_names_the_field() {
 fn explain_tells_a_refusal_by_number_and_name() {
     let folder = Folder::new().with("sample", &sample());
     let refused = [
-        ("4421", "1 (more)", "no frame reads behind it"),
+        ("4421", "1 (more)", "no frame reads after it"),
         ("3720", "2 (type)", "the walk goes on at 3748"),
         ("3776", "3 (long)", "the walk goes on at 3800"),
         ("3663", "4 (length)", "the walk goes on at 3692"),

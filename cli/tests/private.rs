@@ -220,7 +220,7 @@ fn a_frame_inside_private_bytes_is_not_told() {
     run(&folder, &["explain", "outer", "69"]).quiet(
         0,
         "outer: place 69: a frame reads here, 0 (done): every check passes
-the walk does not read here: the place lies inside the M201 at 0, and no more is told of it
+the walk does not read here: the place lies inside the M201 at 0, and no more is said of it
 ",
     );
     let ran = run(&folder, &["scrub", "outer", "-o", "-", "--whole"]);
@@ -416,7 +416,7 @@ fn a_damaged_type_shows_no_sum() {
             &format!(
                 "in: place 0: refused, 5 (sum): its CheckSum differs from the sum of its bytes
 the sums are not shown: {reason}
-no frame reads behind it: the walk stops
+no frame reads after it: the walk stops
 the ledger of channel 100 then has floor 0, top 0
 "
             ),
