@@ -6,7 +6,7 @@ use std::ops::ControlFlow;
 
 use rietknoest_host::{
     broken_field, entries, private_spans, read, tail_fields, types, Entry, Frame, Record, Refusal,
-    CHECK_SUM, HEADER, LONGEST,
+    Span, CHECK_SUM, HEADER, LONGEST,
 };
 
 use crate::capture::{Source, Step};
@@ -130,7 +130,8 @@ impl Spot {
         (text, status)
     }
 
-    /// The public fields of a frame that the walk reads.
+    /// The public fields of a frame that the walk reads. After damage it was found by the search, or
+    /// follows one that was without a gap: then those that a listing has too.
     fn fields(&self, frame: &Frame) -> String {
         let mut text = format!(
             "MsgType {}, {}\n",
@@ -142,11 +143,18 @@ impl Spot {
             ("MsgSeqNum", frame.seq.value()),
             ("BodyLength", frame.body_len),
         ];
-        for (name, value) in header.into_iter().chain(names::public_fields(frame)) {
+        for (name, value) in header {
             let _ = writeln!(text, "{name} {value}");
         }
         let body = &self.bytes[HEADER..][..frame.body_len as usize];
-        text.push_str(&body_fields(frame, body));
+        if !self.damaged {
+            text.push_str(&body_fields(frame, body));
+        } else if !body.is_empty() {
+            for (name, value) in names::listed_fields(frame) {
+                let _ = writeln!(text, "{name} {value}");
+            }
+            text.push_str("no other field is shown: after damage it may be private bytes\n");
+        }
         let len = frame.frame_len() as u64;
         let _ = writeln!(
             text,
@@ -154,7 +162,6 @@ impl Spot {
             count(len, "byte"),
             self.place + len
         );
-        // after damage a frame was found by the search, or follows one that was without a gap
         if self.damaged {
             text.push_str(AFTER_DAMAGE);
         }
@@ -232,19 +239,31 @@ fn refused(refusal: Refusal) -> String {
     format!("refused, {answer}: {reason}")
 }
 
-/// The public fields of a body that the library does not name, and the names of the private ones.
+/// The public fields of a body, and the names of the private ones: which these are the library says.
 fn body_fields(frame: &Frame, body: &[u8]) -> String {
-    let mut text = match frame.msg_type as u32 {
+    // the frame was read, so its length suits its type
+    let private = private_spans(frame.msg_type as u32, body).unwrap_or_default();
+    let mut text = String::new();
+    let mut place = 0;
+    for (name, width, is_text) in names::layout(&frame.type_name()) {
+        let span = place as u64..(place + width) as u64;
+        let bytes = &body[place..place + width];
+        place += width;
+        let hides = |s: &Span| s.place < span.end && span.start < s.place + s.len;
+        if !private.iter().any(hides) {
+            let _ = writeln!(text, "{name} {}", value(bytes, *is_text));
+        }
+    }
+    text.push_str(&match frame.msg_type as u32 {
         types::M201 => extension(body),
-        types::M102 => snapshot(body),
+        types::M102 => entry_lines(body),
         types::M101 if !body.is_empty() => {
             let body = count(frame.body_len, "byte");
             format!("the body is not judged: {body}, not shown\n")
         }
         _ => String::new(),
-    };
-    // the frame was read, so its length suits its type
-    for span in private_spans(frame.msg_type as u32, body).unwrap_or_default() {
+    });
+    for span in private {
         let _ = writeln!(
             text,
             "{} is private: {}, not shown",
@@ -255,7 +274,7 @@ fn body_fields(frame: &Frame, body: &[u8]) -> String {
     text
 }
 
-/// The public fields of an M201's extension: numbers, and letters without the spaces behind them.
+/// The public fields of an M201's extension.
 fn extension(body: &[u8]) -> String {
     let mut text = String::new();
     let fields = tail_fields(body).unwrap_or_default();
@@ -269,7 +288,7 @@ fn extension(body: &[u8]) -> String {
     text
 }
 
-/// A field's value: its number, or its letters without the spaces behind them.
+/// A field's value: its number, or its letters without the spaces after them.
 fn value(bytes: &[u8], is_text: bool) -> String {
     if is_text {
         let letters = bytes.escape_ascii().to_string();
@@ -280,15 +299,9 @@ fn value(bytes: &[u8], is_text: bool) -> String {
     }
 }
 
-/// The fields of an M102 and its entries.
-fn snapshot(body: &[u8]) -> String {
+/// The entries of an M102.
+fn entry_lines(body: &[u8]) -> String {
     let mut text = String::new();
-    let mut rest = body;
-    for (name, width, is_text) in names::SNAPSHOT {
-        let (field, behind) = rest.split_at(width);
-        let _ = writeln!(text, "{name} {}", value(field, is_text));
-        rest = behind;
-    }
     let Ok(entries) = entries(body) else {
         return text;
     };

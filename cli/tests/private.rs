@@ -20,7 +20,7 @@ struct Told {
     public: Rows,
     /// Private numbers as text.
     numbers: BTreeSet<String>,
-    /// Numbers of an extension's public fields, as text.
+    /// Numbers of a tick's public fields, as text.
     shown: BTreeSet<String>,
 }
 
@@ -62,11 +62,20 @@ impl Told {
         for number in [frame.sending_time, frame.seq.value(), frame.tick.value()] {
             self.show(number.to_string().as_bytes());
         }
+        let mut show = |place: usize, len: usize| {
+            let bytes = &body[place..][..len];
+            let number = bytes.iter().fold(0, |n, b| n << 8 | u64::from(*b));
+            self.shown.insert(number.to_string());
+        };
         for field in tail_fields(body).unwrap_or_default() {
             if (field.hidden, field.text) == (0, 0) {
-                let bytes = &body[field.place as usize..][..field.len as usize];
-                let number = bytes.iter().fold(0, |n, b| n << 8 | u64::from(*b));
-                self.shown.insert(number.to_string());
+                show(field.place as usize, field.len as usize);
+            }
+        }
+        if &frame.type_name() == b"M201" {
+            // TransactTime, Price, OrderQty
+            for (place, len) in [(24, 4), (29, 8), (37, 8)] {
+                show(place, len);
             }
         }
     }
@@ -328,6 +337,9 @@ fn damaged_frames(letter: &str) -> [(Vec<u8>, &'static str); 4] {
         frame[..4].copy_from_slice(kind);
         frame
     };
+    // the letters of both types have one sum: another byte is damaged too
+    let mut snapshot = named(b"M102");
+    *snapshot.last_mut().unwrap() ^= 1;
     let mut resting = logon(&letters(32), &letters(32));
     // HeartBtInt becomes 0, and the sum suits it
     let end = resting.len() - 4;
@@ -335,7 +347,7 @@ fn damaged_frames(letter: &str) -> [(Vec<u8>, &'static str); 4] {
     resting[89] = 0;
     [
         (named(b"M101"), "5 (sum)"),
-        (named(b"M102"), "5 (sum)"),
+        (snapshot, "5 (sum)"),
         (named(b"S001"), "4 (length)"),
         (resting, "6 (field)"),
     ]
@@ -426,15 +438,17 @@ the ledger of channel 100 then has floor 0, top 0
 
 /// Generated pairs of captures of all types, up to 64 KiB, that the second program finds to differ
 /// in private fields and checksums alone (CR 13). `month` over the pair itself is compared where
-/// neither is clean: it counts clean captures alone (13.8).
+/// neither is clean: it counts clean captures alone (13.8). `check` is where both have the same first
+/// place that scrubbing changes, since it tells that place; `explain` at places where the walk reads.
 #[test]
 fn generated_pairs_are_told_alike() {
-    let mut left_out = 0;
+    let (mut left_out, mut checked, mut explained) = (0, 0, 0);
     for (case, about) in [(0, 300), (1, 3_000), (2, 20_000), (3, 60_000)] {
         let mut d = oracle::made::Dice::new(13, case);
         let (one, other) = oracle::alike::pair_of_captures(&mut d, about, 600);
         assert!(oracle::alike::captures_alike(&one, &other) && one != other);
-        let clean = [&one, &other].map(|capture| first_unclean(capture).is_none());
+        let unclean = [&one, &other].map(|capture| first_unclean(capture));
+        let clean = unclean.map(|place| place.is_none());
         let folders = [one, other].map(|capture| Folder::new().with("in", &capture));
         for line in [
             "list in",
@@ -447,9 +461,21 @@ fn generated_pairs_are_told_alike() {
             "scrub in -o out",
             "scrub in -o -",
             "list out",
+            "check out",
             "month --channels 100,101 out",
         ] {
             told_alike(&folders, line);
+        }
+        if unclean[0] == unclean[1] {
+            told_alike(&folders, "check in");
+            checked += 1;
+        }
+        let listed = run(&folders[0], &["list", "in"]);
+        let rows: Vec<_> = listed.out().lines().collect();
+        for row in rows[..rows.len() - 1].iter().step_by(1 + rows.len() / 12) {
+            let place = row.split(' ').next().unwrap();
+            told_alike(&folders, &format!("explain in {place}"));
+            explained += 1;
         }
         if clean == [false; 2] {
             let ran = run(&folders[0], &["month", "--channels", "100,101", "in"]);
@@ -462,6 +488,7 @@ fn generated_pairs_are_told_alike() {
         assert!(one == other, "case {case}: what scrub wrote");
     }
     assert!(left_out > 1, "most pairs have no clean one: {left_out}");
+    assert!(checked > 0 && explained > 20, "{checked} {explained}");
 }
 
 /// `month` counts clean captures alone, so it tells a clean one from its unscrubbed pair:
