@@ -3,7 +3,6 @@
 mod common;
 
 use std::collections::BTreeSet;
-use std::process::Command;
 
 use common::*;
 use oracle::gaps::{gaps, next_request};
@@ -291,13 +290,59 @@ fn the_objects_of_gaps() {
 "#;
     run_on(&folder, &["gaps", "--json"], &capture).quiet(1, objects);
     run_on(&folder, &["gaps", "--json"], b"").quiet(0, "{\"request\":null}\n");
-    let mut python = Command::new("python3");
-    python.args([
-        "-c",
-        "import json, sys\nfor line in sys.stdin: print(sorted(json.loads(line)))",
-    ]);
-    let ran = finish(python, objects.as_bytes());
-    assert_eq!(ran.out().lines().count(), 3, "{}", ran.error());
+}
+
+/// What two programs for JSON make of the objects are the lines that it prints without `--json`.
+#[test]
+fn json_has_what_the_lines_have() {
+    let python = "import json, sys
+for line in sys.stdin:
+    o = json.loads(line)
+    if 'request' in o:
+        r = o['request']
+        print('next request: ' + ('channel %d, %d to %d' % (r['channel'], r['first'], r['last']) if r else 'none'))
+    else:
+        s = 'channel %d: floor %d, top %d, missing %d' % (o['channel'], o['floor'], o['top'], o['missing'])
+        runs = [str(r['first']) if r['first'] == r['last'] else '%d-%d' % (r['first'], r['last']) for r in o['ranges']]
+        print(s + (': ' + ' '.join(runs) if runs else '') + (' and %d more' % o['more'] if o['more'] else ''))
+";
+    let jq = r#"
+if has("request") then
+  .request | if . then "next request: channel \(.channel), \(.first) to \(.last)" else "next request: none" end
+else
+  (.ranges | map(if .first == .last then "\(.first)" else "\(.first)-\(.last)" end) | join(" ")) as $runs
+  | "channel \(.channel): floor \(.floor), top \(.top), missing \(.missing)"
+    + (if $runs == "" then "" else ": \($runs)" end) + (if .more > 0 then " and \(.more) more" else "" end)
+end"#;
+    let folder = Folder::new();
+    let dice = &mut Dice(10);
+    let mut captures: Vec<_> = (0..3).map(|_| many_channels(dice)).collect();
+    let even: Vec<u64> = (1..=25).map(|n| 2 * n).collect();
+    captures.extend([sample(), Vec::new(), ticks(1, &even)]);
+    for capture in captures {
+        let lines = run_on(&folder, &["gaps"], &capture);
+        let objects = run_on(&folder, &["gaps", "--json"], &capture);
+        assert_eq!(lines.status, objects.status);
+        assert_eq!(lines.error(), objects.error());
+        for words in [["python3", "-c", python], ["jq", "-r", jq]] {
+            if let Some(printed) = json_program(&words, &objects.out) {
+                assert_eq!(printed, lines.out(), "{}", words[0]);
+            }
+        }
+        // the far ticks of each channel are those of standard error
+        let count = |object: &str| {
+            object
+                .trim_end_matches('}')
+                .rsplit(':')
+                .next()?
+                .parse()
+                .ok()
+        };
+        let far = objects.out().lines().filter(|o| o.contains("\"far\":"));
+        let far = far.filter_map(|o| count(o).filter(|n: &u64| *n > 0));
+        let said = lines.error().matches(" above the floor").count();
+        assert_eq!(far.count(), said);
+    }
 }
 
 /// A capture of the sample's kind, damaged in any way: it agrees with the listing's channel 100, and
