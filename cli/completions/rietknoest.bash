@@ -1,10 +1,10 @@
 # Completions of the command rietknoest for bash. tools/install installs it; or: source this file.
 _rietknoest() {
     local word=${COMP_WORDS[COMP_CWORD]} before=${COMP_WORDS[COMP_CWORD - 1]} options
-    local commands="list gaps scrub check explain month market help"
+    local commands="list gaps scrub check explain month market"
     COMPREPLY=()
     if [ "$COMP_CWORD" -eq 1 ]; then
-        mapfile -t COMPREPLY < <(compgen -W "$commands --help --version" -- "$word")
+        mapfile -t COMPREPLY < <(compgen -W "$commands help --help -h --version -V" -- "$word")
         return
     fi
     case ${COMP_WORDS[1]} in
@@ -22,7 +22,7 @@ _rietknoest() {
     esac
     [ "$before" != --channels ] || return
     if [[ $word == -* && $before != -o ]]; then
-        mapfile -t COMPREPLY < <(compgen -W "$options --quiet --help" -- "$word")
+        mapfile -t COMPREPLY < <(compgen -W "$options --quiet -q --help -h" -- "$word")
     else
         mapfile -t COMPREPLY < <(compgen -f -- "$word")
     fi

@@ -9,7 +9,7 @@ complete -c rietknoest -n __fish_use_subcommand -f -a market -d 'say whether a B
 complete -c rietknoest -n __fish_use_subcommand -f -a help -d 'print more on a command'
 complete -c rietknoest -n __fish_use_subcommand -s V -l version -d 'print the version'
 complete -c rietknoest -s h -l help -d 'print its help'
-complete -c rietknoest -n 'not __fish_use_subcommand' -s q -l quiet -d 'show no progress'
+complete -c rietknoest -n '__fish_seen_subcommand_from list gaps scrub check explain month market' -s q -l quiet -d 'show no progress'
 complete -c rietknoest -n '__fish_seen_subcommand_from list' -l follow -d 'wait for more at the end of a file'
 complete -c rietknoest -n '__fish_seen_subcommand_from list' -l summary -d 'the last line alone'
 complete -c rietknoest -n '__fish_seen_subcommand_from list gaps' -l json -d 'an object a line'

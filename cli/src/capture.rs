@@ -112,6 +112,7 @@ impl Source {
             let read = self.piece(&mut piece)?;
             if read == 0 {
                 let name = self.name.clone();
+                hint::hint(&name, &bytes);
                 return Ok(Capture { name, bytes });
             }
             let more = bytes.try_reserve(read);

@@ -6,7 +6,7 @@ use std::ops::ControlFlow;
 
 use rietknoest_host::{
     broken_field, entries, private_spans, read, tail_fields, types, Entry, Frame, Record, Refusal,
-    CHECK_SUM, HEADER, LONGEST,
+    Span, CHECK_SUM, HEADER, LONGEST,
 };
 
 use crate::capture::{Source, Step};
@@ -130,7 +130,8 @@ impl Spot {
         (text, status)
     }
 
-    /// The public fields of a frame that the walk reads.
+    /// The public fields of a frame that the walk reads. After damage it was found by the search, or
+    /// follows one that was without a gap: then those that a listing has too.
     fn fields(&self, frame: &Frame) -> String {
         let mut text = format!(
             "MsgType {}, {}\n",
@@ -142,11 +143,18 @@ impl Spot {
             ("MsgSeqNum", frame.seq.value()),
             ("BodyLength", frame.body_len),
         ];
-        for (name, value) in header.into_iter().chain(names::public_fields(frame)) {
+        for (name, value) in header {
             let _ = writeln!(text, "{name} {value}");
         }
         let body = &self.bytes[HEADER..][..frame.body_len as usize];
-        text.push_str(&body_fields(frame, body));
+        if !self.damaged {
+            text.push_str(&body_fields(frame, body));
+        } else if !body.is_empty() {
+            for (name, value) in names::listed_fields(frame) {
+                let _ = writeln!(text, "{name} {value}");
+            }
+            text.push_str("no other field is shown: after damage it may be private bytes\n");
+        }
         let len = frame.frame_len() as u64;
         let _ = writeln!(
             text,
@@ -154,7 +162,6 @@ impl Spot {
             count(len, "byte"),
             self.place + len
         );
-        // after damage a frame was found by the search, or follows one that was without a gap
         if self.damaged {
             text.push_str(AFTER_DAMAGE);
         }
@@ -164,6 +171,7 @@ impl Spot {
     /// More of why the walk's reading is refused: the lengths that suit, both sums, or the field.
     fn why_not(&self, refusal: Refusal) -> String {
         match refusal {
+            Refusal::Length if self.damaged => suiting(&self.bytes) + AFTER_DAMAGE,
             Refusal::Length => suiting(&self.bytes),
             Refusal::Sum if self.damaged => {
                 "the sums are not shown: after damage they may be those of private bytes\n"
@@ -201,7 +209,7 @@ impl Spot {
     fn onward(&self) -> String {
         match self.behind {
             Some(next) => format!("the walk goes on at {next}, where the next frame reads\n"),
-            None => "no frame reads behind it: the walk stops\n".to_string(),
+            None => "no frame reads after it: the walk stops\n".to_string(),
         }
     }
 
@@ -217,7 +225,7 @@ impl Spot {
             let letters = String::from_utf8_lossy(&before.msg_type).into_owned();
             format!("inside the {letters} at {at}")
         };
-        format!("the walk does not read here: the place lies {lies}, and no more is told of it\n")
+        format!("the walk does not read here: the place lies {lies}, and no more is said of it\n")
     }
 }
 
@@ -231,19 +239,31 @@ fn refused(refusal: Refusal) -> String {
     format!("refused, {answer}: {reason}")
 }
 
-/// The public fields of a body that the library does not name, and the names of the private ones.
+/// The public fields of a body, and the names of the private ones: which these are the library says.
 fn body_fields(frame: &Frame, body: &[u8]) -> String {
-    let mut text = match frame.msg_type as u32 {
+    // the frame was read, so its length suits its type
+    let private = private_spans(frame.msg_type as u32, body).unwrap_or_default();
+    let mut text = String::new();
+    let mut place = 0;
+    for (name, width, is_text) in names::layout(&frame.type_name()) {
+        let span = place as u64..(place + width) as u64;
+        let bytes = &body[place..place + width];
+        place += width;
+        let hides = |s: &Span| s.place < span.end && span.start < s.place + s.len;
+        if !private.iter().any(hides) {
+            let _ = writeln!(text, "{name} {}", value(bytes, *is_text));
+        }
+    }
+    text.push_str(&match frame.msg_type as u32 {
         types::M201 => extension(body),
-        types::M102 => snapshot(body),
+        types::M102 => entry_lines(body),
         types::M101 if !body.is_empty() => {
             let body = count(frame.body_len, "byte");
             format!("the body is not judged: {body}, not shown\n")
         }
         _ => String::new(),
-    };
-    // the frame was read, so its length suits its type
-    for span in private_spans(frame.msg_type as u32, body).unwrap_or_default() {
+    });
+    for span in private {
         let _ = writeln!(
             text,
             "{} is private: {}, not shown",
@@ -254,7 +274,7 @@ fn body_fields(frame: &Frame, body: &[u8]) -> String {
     text
 }
 
-/// The public fields of an M201's extension: numbers, and letters without the spaces behind them.
+/// The public fields of an M201's extension.
 fn extension(body: &[u8]) -> String {
     let mut text = String::new();
     let fields = tail_fields(body).unwrap_or_default();
@@ -268,7 +288,7 @@ fn extension(body: &[u8]) -> String {
     text
 }
 
-/// A field's value: its number, or its letters without the spaces behind them.
+/// A field's value: its number, or its letters without the spaces after them.
 fn value(bytes: &[u8], is_text: bool) -> String {
     if is_text {
         let letters = bytes.escape_ascii().to_string();
@@ -279,15 +299,9 @@ fn value(bytes: &[u8], is_text: bool) -> String {
     }
 }
 
-/// The fields of an M102 and its entries.
-fn snapshot(body: &[u8]) -> String {
+/// The entries of an M102.
+fn entry_lines(body: &[u8]) -> String {
     let mut text = String::new();
-    let mut rest = body;
-    for (name, width, is_text) in names::SNAPSHOT {
-        let (field, behind) = rest.split_at(width);
-        let _ = writeln!(text, "{name} {}", value(field, is_text));
-        rest = behind;
-    }
     let Ok(entries) = entries(body) else {
         return text;
     };
@@ -345,11 +359,16 @@ fn whole(bytes: &[u8]) -> Option<usize> {
     (HEADER + CHECK_SUM..=bytes.len()).find(is_whole)
 }
 
-/// Both sums of a frame whose own is wrong, if its type has no private field.
+/// Both sums of a frame whose own is wrong: not if its type has private fields, if its body is not
+/// judged, or if it would not read with the right sum either. A damaged type makes one frame look
+/// like another, and then the sum may be that of private bytes.
 fn sums(bytes: &[u8]) -> String {
     let Some((msg_type, (_, high))) = type_at(bytes).and_then(|t| Some((t, lengths(t)?))) else {
         return String::new();
     };
+    if names::is_unjudged_type(msg_type) {
+        return "the sums are not shown: the body of an M101 could hold anything\n".to_string();
+    }
     let private = private_spans(msg_type, &[0; LONGEST_BODY][..high]);
     if private.map_or(true, |spans| !spans.is_empty()) {
         return "the sums are not shown: a frame of its type has private fields\n".to_string();
@@ -360,12 +379,13 @@ fn sums(bytes: &[u8]) -> String {
     let mut frame = bytes[..len].to_vec();
     let sum = len - CHECK_SUM;
     let stored = frame[sum..].iter().fold(0, |n, b| n << 8 | u32::from(*b));
-    // the right one: reading no longer answers 5
     let right = (0..=255u8).find(|right| {
         frame[sum..].copy_from_slice(&u32::from(*right).to_be_bytes());
-        read(&frame, 0) != Err(Refusal::Sum)
+        read(&frame, 0).is_ok()
     });
-    let right = right.map_or(String::new(), |right| right.to_string());
+    let Some(right) = right else {
+        return "the sums are not shown: with the right one it would not read either\n".to_string();
+    };
     let stored = match stored {
         0..=255 => stored.to_string(),
         _ => "above 255".to_string(),

@@ -19,6 +19,7 @@ pub fn gaps(files: &[OsString], json: bool) -> Result<Status, Trouble> {
     let read = each(files, |file| lines.read(file).map(ControlFlow::Continue))?;
     let told = lines.told(json);
     let (text, status) = told.map_err(|refusal| Trouble::refused("the table", refusal))?;
+    lines.say_far();
     lines.say_left_out();
     print(text)?;
     Ok(read.max(status))
@@ -27,6 +28,9 @@ pub fn gaps(files: &[OsString], json: bool) -> Result<Status, Trouble> {
 /// The channels so far.
 struct Lines {
     table: Channels,
+    /// The ticks of a channel that its ledger refused as far. They are in the captures, and count
+    /// as missing all the same.
+    far: BTreeMap<ChannelNumber, u64>,
     /// The frames of channels for which the table has no place.
     left_out: BTreeMap<ChannelNumber, u64>,
 }
@@ -35,6 +39,7 @@ impl Lines {
     fn new() -> Lines {
         Lines {
             table: Channels::none(),
+            far: BTreeMap::new(),
             left_out: BTreeMap::new(),
         }
     }
@@ -84,7 +89,11 @@ impl Lines {
             _ => Ok(()),
         };
         match answer {
-            Err(Refusal::Repeat | Refusal::Far) => Ok(()),
+            Err(Refusal::Repeat) => Ok(()),
+            Err(Refusal::Far) => {
+                *self.far.entry(channel).or_default() += 1;
+                Ok(())
+            }
             answer => answer,
         }
     }
@@ -98,7 +107,7 @@ impl Lines {
             let runs = self.runs(&told)?;
             status = status.max(Status::amiss(told.missing > 0));
             text.push_str(&if json {
-                object(&told, &runs)
+                object(&told, self.far_of(channel), &runs)
             } else {
                 line(&told, &runs)
             });
@@ -155,6 +164,25 @@ impl Lines {
         Ok(runs)
     }
 
+    fn far_of(&self, channel: ChannelNumber) -> u64 {
+        self.far.get(&channel).copied().unwrap_or_default()
+    }
+
+    /// Ticks that were there and not taken, in the order of the lines.
+    fn say_far(&self) {
+        for channel in self.table.places().flatten() {
+            let (were, they) = match self.far_of(channel) {
+                0 => continue,
+                1 => ("1 tick was".to_string(), "it counts"),
+                n => (format!("{n} ticks were"), "they count"),
+            };
+            say(&format!(
+                "channel {}: {were} more than 256 above the floor and not taken (12): {they} as missing, unless taken later",
+                channel.value()
+            ));
+        }
+    }
+
     /// Channels for which there was no place.
     fn say_left_out(&self) {
         let frames: u64 = self.left_out.values().sum();
@@ -199,14 +227,14 @@ fn line(told: &LedgerStatus, runs: &[Run]) -> String {
     text
 }
 
-fn object(told: &LedgerStatus, runs: &[Run]) -> String {
+fn object(told: &LedgerStatus, far: u64, runs: &[Run]) -> String {
     let ranges: Vec<_> = runs
         .iter()
         .take(RUNS)
         .map(|Run { first, last }| format!("{{\"first\":{first},\"last\":{last}}}"))
         .collect();
     format!(
-        "{{\"channel\":{},\"floor\":{},\"top\":{},\"missing\":{},\"held\":{},\"ranges\":[{}],\"more\":{}}}\n",
+        "{{\"channel\":{},\"floor\":{},\"top\":{},\"missing\":{},\"held\":{},\"ranges\":[{}],\"more\":{},\"far\":{far}}}\n",
         told.channel.value(),
         told.floor.value(),
         told.top.value(),

@@ -50,10 +50,11 @@ and top. The last line counts frames, refused readings and, of channel 100,
 floor, top and missing ticks. Without FILE it lists standard input.
 
 The ticks of other channels are not counted: it says on standard error how many
-frames of which channels these are, and gaps counts them.
+frames of which channels these are, and gaps counts them. Of more than 32 it
+names the 32 lowest, and counts the rest; --json names all.
 
 --follow   waits at the end of FILE for more, until Ctrl-C: then it still prints
-           the last line
+           the last line; it takes one FILE
 --summary  the last line alone
 --json     an object a line, with the names of rietknoest.h (see the manual)
 --quiet    shows no progress
@@ -70,6 +71,10 @@ Reads captures one after the other, as one, and prints for each channel in them,
 up to 32: floor, top, how many tick numbers are missing, and which, in at most
 20 runs; then the request that would be given next. Without FILE it reads
 standard input.
+
+A tick more than 256 above the floor is not taken, and counts as missing though
+it is in the capture: it says on standard error how many there were, of each
+channel. Of a capture that begins in the middle of a session all may be such.
 
 --json     an object a line, with the names of rietknoest.h (see the manual)
 --quiet    shows no progress
@@ -127,9 +132,16 @@ usage: rietknoest explain [--step] [--quiet] FILE PLACE
 Says in words what is answered at a place of a capture, and why. A place is a
 number of bytes from the capture's start, as in the first column of a listing.
 Where a listing has a line for it, the answer is that line's: reading's, or the
-ledger's, with floor and top. Of a frame that reads it shows the public fields,
-and no private one; for 4 the length that suits, for 5 both sums, unless the
-type has private fields, and for 6 the field that breaks its rule.
+ledger's, with floor and top.
+
+Of a frame that reads it shows every public field, and names the private ones;
+of an M101 the length of its body. For 4 it shows the length that suits, for 5
+both sums, and for 6 the field that breaks its rule. It shows sums only of an
+S003, P001 or M102 that would read with the right one.
+
+After damage a frame may come out of private bytes (docs/PRIVATE.md): there it
+says so, and shows no sum, and of a body only what list shows and the numbers
+and status of a resend.
 
 --step     the capture is of the STEP line
 --quiet    shows no progress

@@ -33,10 +33,19 @@ const KINDS: [(&[u8], &str); 8] = [
     ),
 ];
 
+/// What is said of a file whose first bytes are of another kind.
+fn kind(bytes: &[u8]) -> Option<&'static str> {
+    let kind = KINDS.iter().find(|(start, _)| bytes.starts_with(start));
+    kind.map(|(_, what)| *what)
+}
+
+pub fn is_of_another_kind(bytes: &[u8]) -> bool {
+    kind(bytes).is_some()
+}
+
 /// A line on standard error if a file's first bytes are of another kind.
 pub fn hint(name: &str, bytes: &[u8]) {
-    let kind = KINDS.iter().find(|(start, _)| bytes.starts_with(start));
-    if let Some((_, what)) = kind {
+    if let Some(what) = kind(bytes) {
         say(&format!("{name}: {what}"));
     }
 }

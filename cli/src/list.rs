@@ -179,8 +179,8 @@ struct Others {
     frames: BTreeMap<u16, u64>,
 }
 
-/// So many channels are named, and the rest counted.
-const NAMED: usize = 8;
+/// So many channels are named, as many as `gaps` has room for, and the rest counted.
+const NAMED: usize = 32;
 
 impl Others {
     fn add(&mut self, step: &Step) {
@@ -208,8 +208,13 @@ impl Others {
             let channels = count((self.frames.len() - NAMED) as u64, "more channel");
             parts.push(format!("{} of {channels}", count(rest, "frame")));
         }
+        let more = if self.frames.len() > NAMED {
+            " (up to 32 channels, and 'rietknoest list --json' names them all)"
+        } else {
+            ""
+        };
         say(&format!(
-            "{name}: a listing counts channel 100 alone, and not {}: 'rietknoest gaps' counts them",
+            "{name}: a listing counts channel 100 alone, and not {}: 'rietknoest gaps' counts them{more}",
             parts.join(", ")
         ));
     }

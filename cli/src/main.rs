@@ -1,6 +1,8 @@
 //! The command `rietknoest`: lists, scrubs, checks and explains captures, finds their gaps, and
-//! sums them up. It has no rule of the documents: what a byte means is up to `rietknoest_host`.
-//! Files, words and exit statuses are handled here, tested but not proved.
+//! sums them up. What a byte means is up to `rietknoest_host`. Of the documents' rules it has names
+//! (`names`): where the fields of a body stand, for `explain`, and that the bodies of M101 are not
+//! judged; and which types name a channel, for `gaps`. Files, words and exit statuses are handled
+//! here, tested but not proved.
 
 #![deny(unsafe_code)]
 
@@ -96,7 +98,7 @@ fn main() -> ExitCode {
         Err(Trouble::Usage(what, whose)) => {
             say(&what);
             let help = whose.map_or("--help".to_string(), |name| format!("help {name}"));
-            say(&format!("'rietknoest {help}' tells how it is called"));
+            say(&format!("'rietknoest {help}' shows how to call it"));
             2
         }
         Err(Trouble::File(name, what)) => {

@@ -28,7 +28,7 @@ fn said(file: &[u8], fault: Fault) -> String {
     let what = match fault.wrong {
         Wrong::Header | Wrong::Column => return format!("{fault}: {}", column(file, fault.place)),
         Wrong::CutShort if fault.place == file.len() => "the file ends where more is due",
-        Wrong::CutShort => "bytes behind the trailer",
+        Wrong::CutShort => "bytes after the trailer",
         Wrong::LineType => "a line begins with none of MD401, MD404, MD405, MD406, TRAILER",
         Wrong::Trailer => "the trailer is TRAILER, a bar, three digits and a newline",
         Wrong::Count => return number(fault, "the header's count is not the number of lines"),
@@ -59,7 +59,7 @@ fn column(file: &[u8], place: usize) -> String {
         line => format!("line {line}, {}", spot.layout),
     };
     if spot.behind {
-        format!("{whose}, {name}: no bar or newline behind it")
+        format!("{whose}, {name}: no bar or newline after it")
     } else {
         format!("{whose}, {name}: {form}")
     }

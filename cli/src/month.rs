@@ -6,7 +6,7 @@ use std::ops::ControlFlow;
 use rietknoest_host::{first_unclean, ChannelNumber, Figures, Month};
 
 use crate::capture::Source;
-use crate::{each, print, say, Status, Trouble};
+use crate::{each, hint, print, say, Status, Trouble};
 
 /// Prints each capture's name and figures, then the sums; or the sums alone. A capture that is not
 /// clean is left out. Amiss if a number is missing, or if a capture was refused or left out.
@@ -36,9 +36,13 @@ fn one(file: &OsStr, page: &mut Month, sums: bool) -> Result<ControlFlow<Status,
     let capture = Source::open(file)?.whole()?;
     let name = capture.name;
     if first_unclean(&capture.bytes).is_some() {
-        say(&format!(
-            "{name}: not clean, and left out: 'rietknoest scrub' makes it clean"
-        ));
+        // of a file that is no capture scrubbing makes nothing
+        let how = if hint::is_of_another_kind(&capture.bytes) {
+            ""
+        } else {
+            ": 'rietknoest scrub' makes it clean"
+        };
+        say(&format!("{name}: not clean, and left out{how}"));
         return Ok(ControlFlow::Continue(Status::Amiss));
     }
     match page.add(&capture.bytes) {

@@ -73,8 +73,9 @@ pub fn tail_names(count: usize) -> &'static [&'static str] {
     }
 }
 
-/// What the library returns of a body, by name; what the type does not have is left out.
-pub fn public_fields(frame: &Frame) -> Vec<(&'static str, u64)> {
+/// What the library returns of a body, by name: numbers that a listing has too. What the type does
+/// not have is left out.
+pub fn listed_fields(frame: &Frame) -> Vec<(&'static str, u64)> {
     let channel = ("ChannelNO", frame.channel.value().into());
     match &frame.type_name() {
         b"P001" => vec![channel, ("ApplLastSeqNum", frame.tick.value())],
@@ -89,23 +90,61 @@ pub fn public_fields(frame: &Frame) -> Vec<(&'static str, u64)> {
     }
 }
 
-/// The fields of an M102 before its entries, in the table's order: name, width, and whether it is
-/// letters. None is private.
-pub const SNAPSHOT: [(&str, usize, bool); 13] = [
-    ("SecurityType", 1, false),
-    ("TradSesMode", 1, false),
-    ("TradeDate", 4, false),
-    ("LastUpdateTime", 4, false),
-    ("MDStreamID", 5, true),
-    ("SecurityID", 8, true),
-    ("Symbol", 8, true),
-    ("PreClosePx", 8, false),
-    ("TotalVolumeTraded", 8, false),
-    ("NumTrades", 8, false),
-    ("TotalValueTraded", 8, false),
-    ("TradingPhaseCode", 8, true),
-    ("NoMDEntries", 2, false),
-];
+/// The fields of a body in the table's order: name, width, and whether it is letters. Of an M102
+/// those before its entries, of an M201 those before its extension; none of an M101, which is not
+/// judged. Which of them are private is the library's to say.
+pub fn layout(letters: &[u8; 4]) -> &'static [(&'static str, usize, bool)] {
+    match letters {
+        b"S001" => &[
+            ("SenderCompID", 32, true),
+            ("TargetCompID", 32, true),
+            ("HeartBtInt", 2, false),
+            ("ApplVerID", 8, true),
+        ],
+        b"S002" => &[("SessionStatus", 4, false), ("Text", 256, true)],
+        b"P001" => &[
+            ("SecurityType", 1, false),
+            ("ChannelNO", 2, false),
+            ("ApplLastSeqNum", 8, false),
+            ("EndOfChannel", 1, true),
+        ],
+        b"P002" => &[
+            ("ChannelNO", 2, false),
+            ("ResendType", 1, false),
+            ("ApplBegSeqNum", 8, false),
+            ("ApplEndSeqNum", 8, false),
+            ("ResendStatus", 1, false),
+            ("RejectText", 32, true),
+        ],
+        b"M102" => &[
+            ("SecurityType", 1, false),
+            ("TradSesMode", 1, false),
+            ("TradeDate", 4, false),
+            ("LastUpdateTime", 4, false),
+            ("MDStreamID", 5, true),
+            ("SecurityID", 8, true),
+            ("Symbol", 8, true),
+            ("PreClosePx", 8, false),
+            ("TotalVolumeTraded", 8, false),
+            ("NumTrades", 8, false),
+            ("TotalValueTraded", 8, false),
+            ("TradingPhaseCode", 8, true),
+            ("NoMDEntries", 2, false),
+        ],
+        b"M201" => &[
+            ("SecurityType", 1, false),
+            ("ChannelNO", 2, false),
+            ("ApplSeqNum", 8, false),
+            ("MDStreamID", 5, true),
+            ("SecurityID", 8, true),
+            ("TransactTime", 4, false),
+            ("ExecType", 1, true),
+            ("Price", 8, false),
+            ("OrderQty", 8, false),
+        ],
+        _ => &[],
+    }
+}
 
 /// The name of a field that a rule is for, and the rule, by the field's number in the order of the
 /// table's widths. Whether one is broken, and which, is the library's to say.
@@ -162,11 +201,15 @@ pub fn frame_len(record: &Record) -> usize {
 /// Whether a frame's body is carried as bytes and not judged; an empty one counts, as the library
 /// counts it.
 pub fn is_unjudged(record: &Record) -> bool {
-    record.msg_type == types::M101.to_be_bytes()
+    is_unjudged_type(u32::from_be_bytes(record.msg_type))
 }
 
 pub fn is_unjudged_frame(frame: &Frame) -> bool {
-    frame.msg_type == types::M101.into()
+    is_unjudged_type(frame.msg_type as u32)
+}
+
+pub fn is_unjudged_type(msg_type: u32) -> bool {
+    msg_type == types::M101
 }
 
 /// What is to be known of so many such bodies.
@@ -205,30 +248,75 @@ pub fn reason(refusal: Refusal) -> &'static str {
 mod tests {
     use super::*;
     use oracle::made::{any_body, Dice};
-    use rietknoest_host::{broken_field, entries, private_spans};
+    use rietknoest_host::{
+        broken_field, entries, private_spans, read, tail_fields, write, SessionNumber,
+    };
     use std::collections::BTreeSet;
 
-    /// The library finds the first entry where the fields end, and the fields are in that order.
-    #[test]
-    fn the_fields_of_a_snapshot() {
-        let widths = SNAPSHOT.iter().map(|(_, width, _)| width);
-        assert_eq!(widths.sum::<usize>(), 73);
-        let mut body = vec![0; 73];
+    /// The places of a type's fields, with their names and widths.
+    fn places(letters: &[u8; 4]) -> Vec<(&'static str, usize, usize)> {
         let mut place = 0;
-        for (name, width, is_text) in SNAPSHOT {
-            let field = &mut body[place..place + width];
-            match name {
-                "SecurityType" | "TradSesMode" => field[0] = 1,
-                "MDStreamID" => field.copy_from_slice(b"MD002"),
-                "NoMDEntries" => field[1] = 1,
-                _ if is_text => field.fill(b'T'),
+        let fields = layout(letters).iter().map(|(name, width, _)| {
+            place += width;
+            (*name, place - width, *width)
+        });
+        fields.collect()
+    }
+
+    /// The fields fill a body, up to an M102's entries, which the library finds, and up to an M201's
+    /// extension.
+    #[test]
+    fn the_fields_fill_a_body() {
+        let width = |letters: &[u8; 4]| places(letters).iter().map(|field| field.2).sum::<usize>();
+        for kind in types::ALL {
+            let letters = kind.to_be_bytes();
+            let fits = |len: &usize| private_spans(kind, &vec![0; *len]).is_ok();
+            assert_eq!((0..300).find(fits), Some(width(&letters)), "{letters:?}");
+        }
+        let snapshot = oracle::made::m102(1, b"MD002", 1);
+        assert_eq!(
+            entries(&snapshot).map(|entries| entries.place()),
+            Ok(width(b"M102"))
+        );
+        let first = tail_fields(&oracle::made::trade(1)).unwrap()[0];
+        assert_eq!(first.place, width(b"M201") as u64);
+    }
+
+    /// Where the library says that a field breaks its rule, the field of that number starts there,
+    /// is so long, and has the rule's name; and what it returns of a frame is in these places.
+    #[test]
+    fn the_fields_are_where_the_library_has_them() {
+        let (mut broken, mut read_back) = (BTreeSet::new(), BTreeSet::new());
+        for case in 0..40_000 {
+            let (letters, body) = any_body(&mut Dice::new(30, case));
+            let kind = u32::from_be_bytes(letters);
+            let places = places(&letters);
+            match broken_field(kind, &body) {
+                Ok(Some(field)) if (field.index as usize) < places.len() => {
+                    let (name, place, width) = places[field.index as usize];
+                    assert_eq!((place as u64, width as u64), (field.place, field.len));
+                    assert_eq!(name, rule(&letters, field.index).0);
+                    broken.insert((letters, field.index));
+                }
+                Ok(None) => {
+                    let mut bytes = vec![0; body.len() + HEADER + CHECK_SUM];
+                    let seq = SessionNumber::new(1);
+                    write(kind, 20260121093000000, seq, &body, &mut bytes).unwrap();
+                    let frame = read(&bytes, 0).unwrap();
+                    for (name, value) in listed_fields(&frame) {
+                        let field = places.iter().find(|field| field.0 == name);
+                        let (_, place, width) = *field.unwrap();
+                        let bytes = &body[place..place + width];
+                        let number = bytes.iter().fold(0, |n, b| n << 8 | u64::from(*b));
+                        assert_eq!(number, value, "{letters:?} {name}");
+                        read_back.insert((letters, name));
+                    }
+                }
                 _ => {}
             }
-            place += width;
         }
-        body.extend([0; 19]);
-        assert_eq!(entries(&body).map(|entries| entries.place()), Ok(73));
-        assert_eq!(entries(&body).map(|entries| entries.count()), Ok(1));
+        assert!(broken.len() > 20, "{}", broken.len());
+        assert_eq!(read_back.len(), 8);
     }
 
     /// A field that the library tells of has a name and a rule; so has each that a rule is for.
@@ -280,7 +368,14 @@ mod tests {
             let spans = private_spans(msg_type, &body).unwrap();
             assert_eq!(spans.len(), private, "{kind:?}");
             for span in spans {
-                assert_ne!(private_field(&frame, span.place), "a private field");
+                let name = private_field(&frame, span.place);
+                assert_ne!(name, "a private field");
+                // it is a field of the type, or of an M201's extension
+                let within = |field: &(&str, usize, usize)| field.1 as u64 == span.place;
+                match places(kind).iter().find(|field| within(field)) {
+                    Some(field) => assert_eq!((field.0, field.2 as u64), (name, span.len)),
+                    None => assert!(span.place >= 45, "{name}"),
+                }
             }
             assert_ne!(purpose(&frame), "a frame");
         }

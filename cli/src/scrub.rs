@@ -46,7 +46,7 @@ pub fn scrub(from: &OsStr, to: &OsStr, whole: bool, force: bool) -> Result<Statu
     if done.cleaned.after_damage > 0 {
         for line in [
             "a frame after damage may lie inside private bytes of the damaged one (docs/PRIVATE.md)",
-            "look at each, right behind a ---- line of 'list', and at those that follow it without a gap, before you pass the result on",
+            "look at each, right after a ---- line of 'list', and at those that follow it without a gap, before you pass the result on",
         ] {
             say(&format!("{name}: {line}"));
         }
@@ -61,7 +61,6 @@ pub fn scrub(from: &OsStr, to: &OsStr, whole: bool, force: bool) -> Result<Statu
 /// Reads all of it first, and writes nothing if a byte is stray.
 fn scrub_whole(source: Source, target: Target) -> Result<Done, Trouble> {
     let capture = source.whole()?;
-    hint::hint(&capture.name, &capture.bytes);
     // memory of our own: it briefly holds each frame unscrubbed
     let mut scrubbed = capture.room(capture.bytes.len())?;
     let cleaned = clean(&capture.bytes, &mut scrubbed)

@@ -220,7 +220,7 @@ fn inside(at: u64, bytes: &[u8]) -> (Status, String) {
         Ok(_) => (Status::Well, READS.to_string()),
         Err(refusal) => (Status::Amiss, refused(refusal)),
     };
-    let rest = format!("the place lies inside the frame at {at}, and no more is told of it\n");
+    let rest = format!("the place lies inside the frame at {at}, and no more is said of it\n");
     (status, first + &rest)
 }
 

@@ -171,11 +171,11 @@ fn arrives(folder: &Folder, capture: &[u8], pieces: &[&[u8]]) {
     assert_eq!(scrubbed.status, Some(i32::from(stray > 0)));
 }
 
-/// How many frames of a cleaned capture are M101 with a body.
+/// How many frames of a cleaned capture are M101: an empty body counts, as the library counts it.
 fn unjudged(cleaned: &[u8]) -> usize {
     let (mut place, mut n) = (0, 0);
     while let Ok(frame) = read(cleaned, place) {
-        n += usize::from(&frame.type_name() == b"M101" && frame.body_len > 0);
+        n += usize::from(&frame.type_name() == b"M101");
         place += frame.frame_len();
     }
     n
@@ -202,6 +202,20 @@ fn damaged_captures_in_pieces() {
 #[test]
 fn nothing_arrives() {
     arrives(&Folder::new(), b"", &[]);
+}
+
+/// Bodies that are not judged, empty ones too, are counted as the library counts them.
+#[test]
+fn bodies_that_are_not_judged() {
+    let status = |body: &[u8]| frame(b"M101", 1, body);
+    let capture = [status(b""), status(b"STATUS"), heartbeats(1), status(b"")];
+    let capture = capture.concat();
+    let pieces: Vec<_> = capture.chunks(7).collect();
+    arrives(&Folder::new(), &capture, &pieces);
+    let ran = run_in_pieces(&Folder::new(), &["check", "-"], &pieces);
+    let said =
+        "standard input: clean, except that 3 M101 bodies are not judged and could hold anything\n";
+    ran.quiet(0, said);
 }
 
 /// At most 65,536 bytes are read at a time: frames cross these bounds, and so does damage.

@@ -131,7 +131,7 @@ fn wrong_usage_is_2() {
             _ => "--help".to_string(),
         };
         let lines =
-            format!("rietknoest: {what}\nrietknoest: 'rietknoest {help}' tells how it is called\n");
+            format!("rietknoest: {what}\nrietknoest: 'rietknoest {help}' shows how to call it\n");
         assert_eq!(ran.error(), lines, "{words:?}");
         assert_eq!((ran.status, ran.out()), (Some(2), ""), "{words:?}");
     }
@@ -185,14 +185,26 @@ fn frames_of_other_channels_are_told() {
     let said = not_counted("standard input", "4 frames of channel 1");
     assert_eq!((ran.status, ran.error()), (Some(1), said.as_str()));
 
-    let many: Vec<_> = (1..=12).rev().flat_map(on).collect();
+    // 32 are named, and of more the rest is counted
+    let named = |n: u16| {
+        let parts = (1..=n).map(|n| format!("4 frames of channel {n}"));
+        parts.collect::<Vec<_>>().join(", ")
+    };
+    let many: Vec<_> = (1..=32).rev().flat_map(on).collect();
     let ran = run_on(&folder, &["list", "--summary"], &many);
-    let named: Vec<_> = (1..=8)
-        .map(|n| format!("4 frames of channel {n}"))
-        .collect();
-    let named = format!("{}, 16 frames of 4 more channels", named.join(", "));
-    let said = not_counted("standard input", &named);
+    let said = not_counted("standard input", &named(32));
     assert_eq!((ran.status, ran.error()), (Some(1), said.as_str()));
+
+    let many: Vec<_> = (1..=36).rev().flat_map(on).collect();
+    let ran = run_on(&folder, &["list", "--summary"], &many);
+    let all = format!("{}, 16 frames of 4 more channels", named(32));
+    let said = not_counted("standard input", &all).replace(
+        "counts them",
+        "counts them (up to 32 channels, and 'rietknoest list --json' names them all)",
+    );
+    assert_eq!((ran.status, ran.error()), (Some(1), said.as_str()));
+    let ran = run_on(&folder, &["list", "--json", "--summary"], &many);
+    assert_eq!(ran.out().matches("\"frames\":4}").count(), 36);
 }
 
 #[test]
@@ -423,8 +435,15 @@ MsgType M201, a tick
 SendingTime 20260121093000010
 MsgSeqNum 9
 BodyLength 184
+SecurityType 13
 ChannelNO 100
 ApplSeqNum 1
+MDStreamID MD211
+SecurityID 019733
+TransactTime 93000010
+ExecType 0
+Price 10031500
+OrderQty 2000000
 Side 1
 QuoteID Q20260121000000001
 FullAmountTrade 2
@@ -453,6 +472,7 @@ SendingTime 20260121093001020
 MsgSeqNum 17
 BodyLength 52
 ChannelNO 100
+ResendType 1
 ApplBegSeqNum 4
 ApplEndSeqNum 5
 ResendStatus 1
@@ -461,9 +481,132 @@ the frame has 80 bytes and ends before place 2209
 the ledger of channel 100 then has floor 3, top 9
 ",
     );
-    let ran = run(&folder, &["explain", "sample", "3395"]);
-    assert!(ran.out().contains("\nit stands after damage, "));
-    assert_eq!(ran.status, Some(0));
+    run(&folder, &["explain", "sample", "1671"]).quiet(
+        0,
+        "sample: place 1671: a frame reads here, 0 (done): every check passes
+MsgType M201, a tick
+SendingTime 20260121093000360
+MsgSeqNum 13
+BodyLength 98
+SecurityType 13
+ChannelNO 100
+ApplSeqNum 7
+MDStreamID MD217
+SecurityID 019733
+TransactTime 93000360
+ExecType F
+Price 10031500
+OrderQty 2000000
+BidApplSeqNum Q20260121000000001
+OfferApplSeqNum 
+TotalValueTraded 200630000
+TradeMethod 1
+MarginPrice 0
+the frame has 126 bytes and ends before place 1797
+the ledger of channel 100 then has floor 3, top 7
+",
+    );
+    run(&folder, &["explain", "sample", "0"]).quiet(
+        0,
+        "sample: place 0: a frame reads here, 0 (done): every check passes
+MsgType S001, a logon
+SendingTime 20260121091500000
+MsgSeqNum 1
+BodyLength 74
+HeartBtInt 30
+ApplVerID 0.62
+SenderCompID is private: 32 bytes, not shown
+TargetCompID is private: 32 bytes, not shown
+the frame has 102 bytes and ends before place 102
+the ledger of channel 100 then has floor 0, top 0
+",
+    );
+    run(&folder, &["explain", "sample", "245"]).quiet(
+        0,
+        "sample: place 245: a frame reads here, 0 (done): every check passes
+MsgType P001, an announcement of a channel's last number
+SendingTime 20260121091500500
+MsgSeqNum 3
+BodyLength 12
+SecurityType 13
+ChannelNO 100
+ApplLastSeqNum 0
+EndOfChannel N
+the frame has 40 bytes and ends before place 285
+the ledger of channel 100 then has floor 0, top 0
+",
+    );
+    let logout = [&7u32.to_be_bytes()[..], &[b'T'; 256]].concat();
+    run_on(&folder, &["explain", "-", "0"], &frame(b"S002", 2, &logout)).quiet(
+        0,
+        "standard input: place 0: a frame reads here, 0 (done): every check passes
+MsgType S002, a logout
+SendingTime 20260121093000000
+MsgSeqNum 2
+BodyLength 260
+SessionStatus 7
+Text is private: 256 bytes, not shown
+the frame has 288 bytes and ends before place 288
+the ledger of channel 100 then has floor 0, top 0
+",
+    );
+    // an M201 of another stream: all of its extension is private, and nothing before it
+    let ran = run_on(&folder, &["explain", "-", "0"], &tick(1, b"SECRET"));
+    assert!(ran.out().contains("\nMDStreamID MD219\n"));
+    assert!(ran
+        .out()
+        .contains("\nOrderQty 0\nextension is private: 6 bytes, not shown\n"));
+}
+
+/// After damage a frame may lie inside private bytes: of its body only what a listing has is shown,
+/// and the numbers of a resend.
+#[test]
+fn after_damage_a_body_is_not_shown() {
+    let sample = sample();
+    let folder = Folder::new();
+    let explained = |frame: &[u8]| {
+        let capture = [&[0xFF][..], &heartbeats(1), frame].concat();
+        let ran = run_on(&folder, &["explain", "-", "29"], &capture);
+        assert_eq!((ran.status, ran.error()), (Some(0), ""));
+        let lines = ran.out().lines().skip(2).map(String::from);
+        lines.collect::<Vec<_>>()
+    };
+    let header = ["SendingTime ", "MsgSeqNum ", "BodyLength "];
+    let cases: [(&[u8], &[&str]); 7] = [
+        (&logon("A", "B"), &[]),
+        (&sample[204..245], &[]),
+        (&sample[245..285], &["ChannelNO 100", "ApplLastSeqNum 0"]),
+        (&sample[416..574], &[]),
+        (&sample[823..1035], &["ChannelNO 100", "ApplSeqNum 1"]),
+        (
+            &sample[2129..2209],
+            &[
+                "ChannelNO 100",
+                "ApplBegSeqNum 4",
+                "ApplEndSeqNum 5",
+                "ResendStatus 1",
+            ],
+        ),
+        (&sample[4133..4421], &[]),
+    ];
+    for (frame, fields) in cases {
+        let lines = explained(frame);
+        let (start, rest) = lines.split_at(3);
+        for (line, name) in start.iter().zip(header) {
+            assert!(line.starts_with(name), "{line}");
+        }
+        assert_eq!(rest[..fields.len()], *fields);
+        let rest = &rest[fields.len()..];
+        let withheld = "no other field is shown: after damage it may be private bytes";
+        assert_eq!(rest[0], withheld);
+        assert!(rest[1].starts_with("the frame has "), "{}", rest[1]);
+        assert!(rest[2].starts_with("it stands after damage, "));
+        assert_eq!(rest.len(), 4);
+    }
+    // nothing is withheld where there is nothing
+    let lines = explained(&heartbeats(1));
+    assert!(lines[3].starts_with("the frame has 28 bytes"));
+    assert!(lines[4].starts_with("it stands after damage, "));
 }
 
 /// The fields of an M102 and its entries: all are public.
@@ -536,7 +679,14 @@ fn explain_tells_lengths_and_sums() {
         let mut beat = heartbeats(1);
         beat[..4].copy_from_slice(kind);
         beat[23] = 11;
-        assert_eq!(second(&beat), format!("a body of its type has {suits}"));
+        let said = format!("a body of its type has {suits}");
+        assert_eq!(second(&beat), said);
+        // after damage it comes with a warning: the type may be four private bytes
+        let after = [vec![0xFF], heartbeats(1), beat].concat();
+        let ran = run_on(&folder, &["explain", "-", "29"], &after);
+        let mut lines = ran.out().lines().skip(1);
+        assert_eq!(lines.next(), Some(said.as_str()));
+        assert!(lines.next().unwrap().starts_with("it stands after damage"));
     }
 
     let mut beat = heartbeats(1);
@@ -647,7 +797,7 @@ fn explain_names_the_field() {
 fn explain_tells_a_refusal_by_number_and_name() {
     let folder = Folder::new().with("sample", &sample());
     let refused = [
-        ("4421", "1 (more)", "no frame reads behind it"),
+        ("4421", "1 (more)", "no frame reads after it"),
         ("3720", "2 (type)", "the walk goes on at 3748"),
         ("3776", "3 (long)", "the walk goes on at 3800"),
         ("3663", "4 (length)", "the walk goes on at 3692"),

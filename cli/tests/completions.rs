@@ -1,5 +1,5 @@
-//! The completions and the manual have what the help texts have: every subcommand, and every option
-//! of each. README has lines that the command prints.
+//! The completions and the manual have what the help texts have: every subcommand, every option of
+//! each, and what each exit status means. README has lines that the command prints.
 
 mod common;
 
@@ -55,11 +55,16 @@ fn bash_offers_commands_options_and_files() {
     let all: Words = subcommands().into_iter().collect();
     assert!(all.len() >= 6);
     let mut first = all.clone();
-    first.extend(["--help", "--version"].map(String::from));
+    first.extend(["--help", "-h", "--version", "-V"].map(String::from));
     assert_eq!(offered(&folder, &[""]), first);
+    let all: Words = all.into_iter().filter(|name| name != "help").collect();
     assert_eq!(offered(&folder, &["help", ""]), all);
-    for name in all.iter().filter(|name| *name != "help") {
-        assert_eq!(offered(&folder, &[name, "-"]), options(name), "{name}");
+    for name in &all {
+        // what is offered after `help` is a command that it knows
+        assert_eq!(run(&folder, &["help", name]).status, Some(0), "{name}");
+        let mut takes = options(name);
+        takes.extend(["-q", "-h"].map(String::from));
+        assert_eq!(offered(&folder, &[name, "-"]), takes, "{name}");
         let files = Words::from(["capture".to_string()]);
         assert_eq!(offered(&folder, &[name, "cap"]), files, "{name}");
     }
@@ -67,33 +72,91 @@ fn bash_offers_commands_options_and_files() {
     assert_eq!(offered(&folder, &["scrub", "capture", "-o", ""]), files);
 }
 
-/// The other two are read as text, and by their shells where these are installed.
-#[test]
-fn zsh_and_fish_know_the_same() {
-    let texts = ["_rietknoest", "rietknoest.fish"].map(|name| {
-        let path = root().join("cli/completions").join(name);
-        fs::read_to_string(path).unwrap()
-    });
-    for name in subcommands() {
-        assert!(texts[0].contains(&format!("'{name}:")), "{name}");
-        assert!(texts[1].contains(&format!("-a {name} ")), "{name}");
-        if name == "help" {
-            continue;
-        }
-        for option in options(&name) {
-            assert!(texts[0].contains(&option), "{name} {option}");
-            let fish = match option.strip_prefix("--") {
-                Some(long) => format!("-l {long} "),
-                None => format!("-s {} ", &option[1..]),
-            };
-            assert!(texts[1].contains(&fish), "{name} {option}");
+fn completions(name: &str) -> String {
+    fs::read_to_string(root().join("cli/completions").join(name)).unwrap()
+}
+
+/// The options that zsh offers after a subcommand: those of its branch, and those of every one.
+fn zsh_options(text: &str, name: &str) -> Words {
+    let (before, branches) = text.split_once("case $name in\n").unwrap();
+    let mut branches = branches.split(";;");
+    let start = format!("{name})");
+    let branch = branches.find(|branch| branch.trim_start().starts_with(&start));
+    let branch = branch.expect(name);
+    let named = branch.split('\'').filter(|word| word.starts_with('-'));
+    let named = named.filter_map(|word| word.split('[').next());
+    let mut options: Words = named.map(String::from).collect();
+    if branch.contains("$every") {
+        let every = before.split("every=(").nth(1).unwrap();
+        for long in every.split('{').skip(1) {
+            let (short_and_long, _) = long.split_once('}').unwrap();
+            options.extend(short_and_long.split(',').map(String::from));
         }
     }
+    options
+}
+
+/// The options that fish offers after a subcommand: those of the lines whose condition names it, or
+/// that have no condition.
+fn fish_options(text: &str, name: &str) -> Words {
+    let mut options = Words::new();
+    for line in text.lines() {
+        let condition = line.split("__fish_seen_subcommand_from ").nth(1);
+        let condition = condition.and_then(|rest| rest.split('\'').next());
+        let is_for = match condition {
+            Some(names) => names.split(' ').any(|known| known == name),
+            None => line.starts_with("complete ") && !line.contains(" -n "),
+        };
+        if is_for {
+            let words: Vec<_> = line.split(' ').collect();
+            for pair in words.windows(2) {
+                match pair {
+                    ["-l", long] => drop(options.insert(format!("--{long}"))),
+                    ["-s", short] => drop(options.insert(format!("-{short}"))),
+                    _ => {}
+                }
+            }
+        }
+    }
+    options
+}
+
+/// The other two are read as text, subcommand by subcommand, and by their shells where these are
+/// installed.
+#[test]
+fn zsh_and_fish_know_the_same() {
+    let (zsh, fish) = (completions("_rietknoest"), completions("rietknoest.fish"));
+    for name in subcommands() {
+        assert_eq!(zsh.matches(&format!("'{name}:")).count(), 1, "{name}");
+        let line = format!("-n __fish_use_subcommand -f -a {name} ");
+        assert_eq!(fish.matches(&line).count(), 1, "{name}");
+        let mut takes = Words::new();
+        if name != "help" {
+            takes = options(&name);
+            takes.extend(["-q", "-h"].map(String::from));
+        }
+        assert_eq!(zsh_options(&zsh, &name), takes, "zsh {name}");
+        // fish has --help everywhere
+        takes.extend(["-h", "--help"].map(String::from));
+        assert_eq!(fish_options(&fish, &name), takes, "fish {name}");
+    }
+    for option in ["-V", "--version", "-h", "--help"] {
+        assert!(zsh.contains(option), "{option}");
+    }
+    assert!(fish.contains("-n __fish_use_subcommand -s V -l version "));
+    // after `help` come the commands, and not `help`
+    let all: Vec<_> = subcommands().into_iter().filter(|n| n != "help").collect();
+    let offered = fish.lines().last().unwrap().split("-a '").nth(1).unwrap();
+    let mut offered: Vec<_> = offered.trim_end_matches('\'').split(' ').collect();
+    offered.sort();
+    assert_eq!(offered, all);
+    let (commands, _) = zsh.split_once("\n)\n").unwrap();
+    assert!(!commands.contains("'help:"));
     for (shell, name) in [("zsh", "_rietknoest"), ("fish", "rietknoest.fish")] {
         let path = root().join("cli/completions").join(name);
-        match Command::new(shell).arg("-n").arg(path).output() {
-            Ok(read) => assert!(read.status.success(), "{shell}"),
-            Err(_) => println!("no {shell} on this machine: not tried"),
+        if is_installed(shell) {
+            let read = Command::new(shell).arg("-n").arg(path).output();
+            assert!(read.unwrap().status.success(), "{shell}");
         }
     }
 }
@@ -122,24 +185,94 @@ fn the_manual_has_the_same() {
     }
 }
 
-/// What README shows of the sample is what is printed.
+/// What a help text says of each exit status, 0 to 2, in one line.
+fn statuses(help: &str) -> [String; 3] {
+    let line = help.split_whitespace().collect::<Vec<_>>().join(" ");
+    let (_, line) = line.split_once("exit status: 0 ").unwrap();
+    let (well, line) = line.split_once("; 1 ").unwrap();
+    let (amiss, line) = line.split_once("; 2 ").unwrap();
+    let (failed, _) = line.split_once('.').unwrap();
+    [well, amiss, failed].map(String::from)
+}
+
+/// What the help texts say of each exit status stands in the manual, for the same subcommand, and
+/// what they say of all in README.
+#[test]
+fn the_statuses_are_the_same() {
+    let path = root().join("docs/rietknoest.1");
+    let manual = fs::read_to_string(path).unwrap().replace('\\', "");
+    let (_, part) = manual.split_once(".SH EXIT STATUS\n").unwrap();
+    let (part, _) = part.split_once("\n.SH ").unwrap();
+    let parts = part.split(".TP\n").skip(1).map(|part| {
+        let words = part.split_whitespace().collect::<Vec<_>>();
+        words.join(" ").to_lowercase()
+    });
+    let parts: Vec<_> = parts.collect();
+    assert_eq!(parts.len(), 3);
+
+    let folder = Folder::new();
+    let all = statuses(run(&folder, &["--help"]).out());
+    for (part, said) in parts.iter().zip(&all) {
+        assert!(part.contains(said), "{said}");
+    }
+    let readme = fs::read_to_string(root().join("README.md")).unwrap();
+    assert_eq!(statuses(&readme), all);
+
+    for name in subcommands().iter().filter(|name| *name != "help") {
+        let [well, amiss, failed] = statuses(run(&folder, &[name, "--help"]).out());
+        // what is said of this subcommand, up to the next sentence
+        let of = |part: &str| {
+            let sentences = part.split(". ").filter(|sentence| {
+                let whose = sentence.split(':').next().unwrap();
+                whose.split(" and ").any(|whose| whose == name)
+            });
+            sentences.collect::<Vec<_>>().join(". ")
+        };
+        let is_general = well == all[0];
+        assert!(
+            is_general || of(&parts[0]).contains(&well),
+            "{name}: {well}"
+        );
+        assert!(of(&parts[1]).contains(&amiss), "{name}: {amiss}");
+        for what in failed.replace("the file", "a file").split(", ") {
+            let what = what.trim_start_matches("or ");
+            let is_said = parts[2].starts_with(&format!(".b 2 {}", all[2]))
+                && all[2].contains(what)
+                || of(&parts[2]).contains(what);
+            assert!(is_said, "{name}: {what}");
+        }
+    }
+}
+
+/// What README shows of the sample is what is printed, line by line; `..` stands for lines that are
+/// left out.
 #[test]
 fn readme_shows_what_is_printed() {
     let readme = fs::read_to_string(root().join("README.md")).unwrap();
     let folder = Folder::new().with("sample", &sample());
-    let mut printed = String::new();
-    let mut shown = 0;
-    for line in readme.lines().filter_map(|line| line.strip_prefix("    ")) {
-        // behind three spaces a line is told about
-        let line = line.split("   ").next().unwrap();
+    let mut rest: Vec<String> = Vec::new();
+    let (mut shown, mut commands, mut leaves_out) = (0, 0, false);
+    // after three spaces a line is told about
+    let lines = readme.lines().filter_map(|line| line.strip_prefix("    "));
+    let lines = lines.map(|line| line.split("   ").next().unwrap());
+    for line in lines.chain(["$ rietknoest list -"]) {
         if let Some(words) = line.strip_prefix("$ rietknoest ") {
+            assert!(leaves_out || rest.is_empty(), "{rest:?} before {line}");
             let words: Vec<_> = words.split(' ').collect();
             let ran = run(&folder, &words);
-            printed = format!("{}{}", ran.out(), ran.error());
-        } else if line != ".." && !printed.is_empty() {
-            assert!(printed.lines().any(|row| row == line), "{line}");
+            let printed = format!("{}{}", ran.out(), ran.error());
+            rest = printed.lines().map(String::from).collect();
+            (leaves_out, commands) = (false, commands + 1);
+        } else if commands > 0 && line == ".." {
+            leaves_out = true;
+        } else if commands > 0 {
+            let place = rest.iter().position(|row| row == line);
+            let place = place.unwrap_or_else(|| panic!("not printed: {line}"));
+            assert!(leaves_out || place == 0, "lines are left out before {line}");
+            rest.drain(..=place);
+            leaves_out = false;
             shown += 1;
         }
     }
-    assert!(shown > 8);
+    assert!(shown > 8 && commands > 5);
 }

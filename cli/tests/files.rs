@@ -225,7 +225,7 @@ fn a_new_file_of_another_group() {
         fs::write(folder.path("old"), b"").unwrap();
         let group = fs::metadata(folder.path("old")).unwrap().gid();
         if chown(folder.path("old"), None, Some(group + 1)).is_err() {
-            println!("only root may give a file to another group: not tried");
+            not_tried("only root may give a file to another group");
             return;
         }
         set_mode(&folder, "old", old);

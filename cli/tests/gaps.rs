@@ -3,7 +3,6 @@
 mod common;
 
 use std::collections::BTreeSet;
-use std::process::Command;
 
 use common::*;
 use oracle::gaps::{gaps, next_request};
@@ -33,10 +32,23 @@ fn resend(channel: u16, status: u8) -> Vec<u8> {
 /// What it prints of a capture, with nothing on standard error.
 #[track_caller]
 fn told(capture: &[u8], status: i32, lines: &[&str]) {
+    told_and_said(capture, status, lines, &[]);
+}
+
+/// What it prints of a capture, on standard output and on standard error.
+#[track_caller]
+fn told_and_said(capture: &[u8], status: i32, lines: &[&str], said: &[&str]) {
     let folder = Folder::new();
     let lines: String = lines.iter().map(|line| format!("{line}\n")).collect();
-    run_on(&folder, &["gaps"], capture).quiet(status, &lines);
-    run_on(&folder, &["gaps", "-"], capture).quiet(status, &lines);
+    let said = said.iter().map(|line| format!("rietknoest: {line}\n"));
+    let said: String = said.collect();
+    for words in [&["gaps"][..], &["gaps", "-"]] {
+        let ran = run_on(&folder, words, capture);
+        assert_eq!(
+            (ran.status, ran.out(), ran.error()),
+            (Some(status), lines.as_str(), said.as_str())
+        );
+    }
 }
 
 #[test]
@@ -105,18 +117,51 @@ fn a_channel_of_resends() {
     );
 }
 
-/// A tick more than 256 above the floor is not taken: the numbers up to it are missing, also those
-/// of 18 digits. A request has at most 200 numbers.
+/// A tick more than 256 above the floor is not taken: the numbers up to it are missing, itself
+/// among them, and standard error says so. A request has at most 200 numbers.
 #[test]
-fn far_ticks_and_large_numbers() {
-    told(
+fn far_ticks_are_reported() {
+    let one = "channel 5: 1 tick was more than 256 above the floor and not taken (12): it counts as missing, unless taken later";
+    told_and_said(
         &ticks(5, &[1, 300]),
         1,
         &[
             "channel 5: floor 1, top 300, missing 299: 2-300",
             "next request: channel 5, 2 to 201",
         ],
+        &[one],
     );
+    // a capture that begins in the middle of a session: all of it is far
+    let middle: Vec<u64> = (5_000..5_100).collect();
+    told_and_said(
+        &[ticks(9, &middle), ticks(5, &[1, 300])].concat(),
+        1,
+        &[
+            "channel 9: floor 0, top 5099, missing 5099: 1-5099",
+            "channel 5: floor 1, top 300, missing 299: 2-300",
+            "next request: channel 9, 1 to 200",
+        ],
+        &[
+            "channel 9: 100 ticks were more than 256 above the floor and not taken (12): they count as missing, unless taken later",
+            one,
+        ],
+    );
+    // taken later: none is missing, and it is still said
+    let all: Vec<u64> = [300].into_iter().chain(1..=300).collect();
+    told_and_said(
+        &ticks(5, &all),
+        0,
+        &[
+            "channel 5: floor 300, top 300, missing 0",
+            "next request: none",
+        ],
+        &[one],
+    );
+}
+
+/// Numbers have up to 18 digits.
+#[test]
+fn large_numbers() {
     let last = 999_999_999_999_999_999;
     told(
         &[ticks(5, &[1, 4]), announced(5, last)].concat(),
@@ -239,31 +284,87 @@ fn damage_is_told() {
 fn the_objects_of_gaps() {
     let folder = Folder::new();
     let capture = [ticks(1, &[1, 2, 5, 9]), ticks(2, &[1])].concat();
-    let objects = r#"{"channel":1,"floor":2,"top":9,"missing":5,"held":2,"ranges":[{"first":3,"last":4},{"first":6,"last":8}],"more":0}
-{"channel":2,"floor":1,"top":1,"missing":0,"held":0,"ranges":[],"more":0}
+    let objects = r#"{"channel":1,"floor":2,"top":9,"missing":5,"held":2,"ranges":[{"first":3,"last":4},{"first":6,"last":8}],"more":0,"far":0}
+{"channel":2,"floor":1,"top":1,"missing":0,"held":0,"ranges":[],"more":0,"far":0}
 {"request":{"channel":1,"first":3,"last":4}}
 "#;
     run_on(&folder, &["gaps", "--json"], &capture).quiet(1, objects);
     run_on(&folder, &["gaps", "--json"], b"").quiet(0, "{\"request\":null}\n");
-    let mut python = Command::new("python3");
-    python.args([
-        "-c",
-        "import json, sys\nfor line in sys.stdin: print(sorted(json.loads(line)))",
-    ]);
-    let ran = finish(python, objects.as_bytes());
-    assert_eq!(ran.out().lines().count(), 3, "{}", ran.error());
 }
 
-/// A capture of the sample's kind, damaged in any way: it agrees with the listing's channel 100.
+/// What two programs for JSON make of the objects are the lines that it prints without `--json`.
+#[test]
+fn json_has_what_the_lines_have() {
+    let python = "import json, sys
+for line in sys.stdin:
+    o = json.loads(line)
+    if 'request' in o:
+        r = o['request']
+        print('next request: ' + ('channel %d, %d to %d' % (r['channel'], r['first'], r['last']) if r else 'none'))
+    else:
+        s = 'channel %d: floor %d, top %d, missing %d' % (o['channel'], o['floor'], o['top'], o['missing'])
+        runs = [str(r['first']) if r['first'] == r['last'] else '%d-%d' % (r['first'], r['last']) for r in o['ranges']]
+        print(s + (': ' + ' '.join(runs) if runs else '') + (' and %d more' % o['more'] if o['more'] else ''))
+";
+    let jq = r#"
+if has("request") then
+  .request | if . then "next request: channel \(.channel), \(.first) to \(.last)" else "next request: none" end
+else
+  (.ranges | map(if .first == .last then "\(.first)" else "\(.first)-\(.last)" end) | join(" ")) as $runs
+  | "channel \(.channel): floor \(.floor), top \(.top), missing \(.missing)"
+    + (if $runs == "" then "" else ": \($runs)" end) + (if .more > 0 then " and \(.more) more" else "" end)
+end"#;
+    let folder = Folder::new();
+    let dice = &mut Dice(10);
+    let mut captures: Vec<_> = (0..3).map(|_| many_channels(dice)).collect();
+    let even: Vec<u64> = (1..=25).map(|n| 2 * n).collect();
+    captures.extend([sample(), Vec::new(), ticks(1, &even)]);
+    for capture in captures {
+        let lines = run_on(&folder, &["gaps"], &capture);
+        let objects = run_on(&folder, &["gaps", "--json"], &capture);
+        assert_eq!(lines.status, objects.status);
+        assert_eq!(lines.error(), objects.error());
+        for words in [["python3", "-c", python], ["jq", "-r", jq]] {
+            if let Some(printed) = json_program(&words, &objects.out) {
+                assert_eq!(printed, lines.out(), "{}", words[0]);
+            }
+        }
+        // the far ticks of each channel are those of standard error
+        let count = |object: &str| {
+            object
+                .trim_end_matches('}')
+                .rsplit(':')
+                .next()?
+                .parse()
+                .ok()
+        };
+        let far = objects.out().lines().filter(|o| o.contains("\"far\":"));
+        let far = far.filter_map(|o| count(o).filter(|n: &u64| *n > 0));
+        let said = lines.error().matches(" above the floor").count();
+        assert_eq!(far.count(), said);
+    }
+}
+
+/// A capture of the sample's kind, damaged in any way: it agrees with the listing's channel 100, and
+/// counts as many far ticks as the listing has lines that answer 12.
 #[test]
 fn it_agrees_with_the_listing() {
     let folder = Folder::new();
     let dice = &mut Dice(8);
     for round in 0..40 {
         let capture = damaged(dice);
-        let listed = run_on(&folder, &["list", "--summary"], &capture);
+        let listed = run_on(&folder, &["list"], &capture);
         let told = run_on(&folder, &["gaps"], &capture);
-        let counts: Vec<_> = listed.out().trim_end().split(' ').collect();
+        let lines = listed.out().lines();
+        let counts: Vec<_> = lines.clone().last().unwrap().split(' ').collect();
+        let far = lines.filter(|line| line.split(' ').nth(2) == Some("12"));
+        let far = match far.count() {
+            0 => String::new(),
+            1 => "channel 100: 1 tick was more than 256 above".to_string(),
+            n => format!("channel 100: {n} ticks were more than 256 above"),
+        };
+        assert!(told.error().contains(&far), "{round}: {}", told.error());
+        assert_eq!(told.error().contains(" above the floor"), !far.is_empty());
         let (floor, top, missing) = (counts[5], counts[7], counts[9]);
         let start = format!("channel 100: floor {floor}, top {top}, missing {missing}");
         let mut lines = told.out().lines();

@@ -73,7 +73,7 @@ fn what_is_installed_is_found_and_used(to: &Path) {
     finish(command, b"").quiet(0, &format!("rietknoest {VERSION}\n"));
 
     let Some(version) = said(to, &["--modversion"]) else {
-        println!("no pkg-config on this machine: not tried");
+        not_tried("no pkg-config on this machine");
         return;
     };
     assert_eq!(version, [VERSION]);

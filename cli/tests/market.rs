@@ -26,7 +26,7 @@ fn each_number_is_told_with_its_place() {
     let behind = [SAMPLE, b"\n"].concat();
     let cases: [(&[u8], &str); 9] = [
         (&SAMPLE[..100], "40 at 100: the file ends where more is due"),
-        (&behind, "40 at 446: bytes behind the trailer"),
+        (&behind, "40 at 446: bytes after the trailer"),
         (
             &with(16, b"7"),
             "41 at 16: header, BodyLength: not 10 spaces",
@@ -41,7 +41,7 @@ fn each_number_is_told_with_its_place() {
         ),
         (
             &with(308, b"x"),
-            "43 at 308: line 1, MD401, Timestamp: no bar or newline behind it",
+            "43 at 308: line 1, MD401, Timestamp: no bar or newline after it",
         ),
         (&count, "44: the header's count is not the number of lines"),
         (

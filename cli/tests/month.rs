@@ -168,7 +168,7 @@ fn a_sum_that_does_not_fit() {
 #[test]
 fn wrong_usage() {
     let folder = Folder::new().with("good", b"");
-    let usage = "rietknoest: 'rietknoest help month' tells how it is called\n";
+    let usage = "rietknoest: 'rietknoest help month' shows how to call it\n";
     let long = (0..33).map(|n| n.to_string()).collect::<Vec<_>>().join(",");
     for (words, what) in [
         (&["good"][..], "month: --channels is missing"),

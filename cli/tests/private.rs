@@ -20,7 +20,7 @@ struct Told {
     public: Rows,
     /// Private numbers as text.
     numbers: BTreeSet<String>,
-    /// Numbers of an extension's public fields, as text.
+    /// Numbers of a tick's public fields, as text.
     shown: BTreeSet<String>,
 }
 
@@ -62,11 +62,20 @@ impl Told {
         for number in [frame.sending_time, frame.seq.value(), frame.tick.value()] {
             self.show(number.to_string().as_bytes());
         }
+        let mut show = |place: usize, len: usize| {
+            let bytes = &body[place..][..len];
+            let number = bytes.iter().fold(0, |n, b| n << 8 | u64::from(*b));
+            self.shown.insert(number.to_string());
+        };
         for field in tail_fields(body).unwrap_or_default() {
             if (field.hidden, field.text) == (0, 0) {
-                let bytes = &body[field.place as usize..][..field.len as usize];
-                let number = bytes.iter().fold(0, |n, b| n << 8 | u64::from(*b));
-                self.shown.insert(number.to_string());
+                show(field.place as usize, field.len as usize);
+            }
+        }
+        if &frame.type_name() == b"M201" {
+            // TransactTime, Price, OrderQty
+            for (place, len) in [(24, 4), (29, 8), (37, 8)] {
+                show(place, len);
             }
         }
     }
@@ -220,7 +229,7 @@ fn a_frame_inside_private_bytes_is_not_told() {
     run(&folder, &["explain", "outer", "69"]).quiet(
         0,
         "outer: place 69: a frame reads here, 0 (done): every check passes
-the walk does not read here: the place lies inside the M201 at 0, and no more is told of it
+the walk does not read here: the place lies inside the M201 at 0, and no more is said of it
 ",
     );
     let ran = run(&folder, &["scrub", "outer", "-o", "-", "--whole"]);
@@ -319,11 +328,53 @@ fn told_alike(folders: &[Folder; 2], line: &str) {
     assert_eq!(folders[0].names(), folders[1].names(), "{line}");
 }
 
+/// Damaged frames full of private bytes, each with what reading answers: a wrong sum under a type
+/// that has no private field, a wrong length, a field that breaks its rule.
+fn damaged_frames(letter: &str) -> [(Vec<u8>, &'static str); 4] {
+    let letters = |n: usize| letter.repeat(n);
+    let named = |kind: &[u8; 4]| {
+        let mut frame = order(1, &letters(12), &letters(12), &letters(32));
+        frame[..4].copy_from_slice(kind);
+        frame
+    };
+    // the letters of both types have one sum: another byte is damaged too
+    let mut snapshot = named(b"M102");
+    *snapshot.last_mut().unwrap() ^= 1;
+    let mut resting = logon(&letters(32), &letters(32));
+    // HeartBtInt becomes 0, and the sum suits it
+    let end = resting.len() - 4;
+    resting[end + 3] = resting[end + 3].wrapping_sub(resting[89]);
+    resting[89] = 0;
+    [
+        (named(b"M101"), "5 (sum)"),
+        (snapshot, "5 (sum)"),
+        (named(b"S001"), "4 (length)"),
+        (resting, "6 (field)"),
+    ]
+}
+
 /// Two captures that differ in private bytes alone: every command prints the same of both, on both
-/// streams, with the same status, and writes the same file.
+/// streams, with the same status, and writes the same file. So it does where the first damage is
+/// another.
 #[test]
 fn private_bytes_leave_no_trace() {
-    let folders = ["Q", "z"].map(|letter| Folder::new().with("in", &session(letter)));
+    leaves_no_trace(["Q", "z"].map(session));
+    for case in 0..4 {
+        let captures = ["Q", "z"].map(|letter| {
+            let (frame, answer) = &damaged_frames(letter)[case];
+            let capture = [heartbeats(1), frame.clone(), session(letter)].concat();
+            let folder = Folder::new().with("in", &capture);
+            let ran = run(&folder, &["explain", "in", "28"]);
+            let start = format!("in: place 28: refused, {answer}: ");
+            assert!(ran.out().starts_with(&start), "{}", ran.out());
+            capture
+        });
+        leaves_no_trace(captures);
+    }
+}
+
+fn leaves_no_trace(captures: [Vec<u8>; 2]) {
+    let folders = captures.map(|capture| Folder::new().with("in", &capture));
     let mut lines: Vec<String> = [
         "list in",
         "list --json in",
@@ -362,17 +413,42 @@ fn private_bytes_leave_no_trace() {
     assert!(one == other && !one.is_empty());
 }
 
+/// A frame whose type was damaged, so that it looks like one without private fields and every other
+/// check but the sum's suits it: M201 to M101 by one byte, to M102 by two. No sum of it is shown.
+#[test]
+fn a_damaged_type_shows_no_sum() {
+    let reasons = [
+        "the body of an M101 could hold anything",
+        "with the right one it would not read either",
+    ];
+    for ((frame, _), reason) in damaged_frames("Q").iter().zip(reasons) {
+        let folder = Folder::new().with("in", frame);
+        run(&folder, &["explain", "in", "0"]).quiet(
+            1,
+            &format!(
+                "in: place 0: refused, 5 (sum): its CheckSum differs from the sum of its bytes
+the sums are not shown: {reason}
+no frame reads after it: the walk stops
+the ledger of channel 100 then has floor 0, top 0
+"
+            ),
+        );
+    }
+}
+
 /// Generated pairs of captures of all types, up to 64 KiB, that the second program finds to differ
 /// in private fields and checksums alone (CR 13). `month` over the pair itself is compared where
-/// neither is clean: it counts clean captures alone (13.8).
+/// neither is clean: it counts clean captures alone (13.8). `check` is where both have the same first
+/// place that scrubbing changes, since it tells that place; `explain` at places where the walk reads.
 #[test]
 fn generated_pairs_are_told_alike() {
-    let mut left_out = 0;
+    let (mut left_out, mut checked, mut explained) = (0, 0, 0);
     for (case, about) in [(0, 300), (1, 3_000), (2, 20_000), (3, 60_000)] {
         let mut d = oracle::made::Dice::new(13, case);
         let (one, other) = oracle::alike::pair_of_captures(&mut d, about, 600);
         assert!(oracle::alike::captures_alike(&one, &other) && one != other);
-        let clean = [&one, &other].map(|capture| first_unclean(capture).is_none());
+        let unclean = [&one, &other].map(|capture| first_unclean(capture));
+        let clean = unclean.map(|place| place.is_none());
         let folders = [one, other].map(|capture| Folder::new().with("in", &capture));
         for line in [
             "list in",
@@ -385,9 +461,21 @@ fn generated_pairs_are_told_alike() {
             "scrub in -o out",
             "scrub in -o -",
             "list out",
+            "check out",
             "month --channels 100,101 out",
         ] {
             told_alike(&folders, line);
+        }
+        if unclean[0] == unclean[1] {
+            told_alike(&folders, "check in");
+            checked += 1;
+        }
+        let listed = run(&folders[0], &["list", "in"]);
+        let rows: Vec<_> = listed.out().lines().collect();
+        for row in rows[..rows.len() - 1].iter().step_by(1 + rows.len() / 12) {
+            let place = row.split(' ').next().unwrap();
+            told_alike(&folders, &format!("explain in {place}"));
+            explained += 1;
         }
         if clean == [false; 2] {
             let ran = run(&folders[0], &["month", "--channels", "100,101", "in"]);
@@ -400,6 +488,7 @@ fn generated_pairs_are_told_alike() {
         assert!(one == other, "case {case}: what scrub wrote");
     }
     assert!(left_out > 1, "most pairs have no clean one: {left_out}");
+    assert!(checked > 0 && explained > 20, "{checked} {explained}");
 }
 
 /// `month` counts clean captures alone, so it tells a clean one from its unscrubbed pair:

@@ -4,7 +4,7 @@ mod common;
 
 use std::fs::{self, OpenOptions};
 use std::io::{BufRead, BufReader, Write};
-use std::process::{Child, ChildStdout, Command, Stdio};
+use std::process::{Child, ChildStdout, Stdio};
 
 use common::*;
 
@@ -79,17 +79,9 @@ for line in sys.stdin:
               | map(if . == null then \"None\" else tostring end) | join(\" \") \
               else . as $o | [\"frames\", \"refused\", \"floor\", \"top\", \"missing\"] \
               | map(. + \" \" + ($o[.] | tostring)) | join(\" \") end";
-    [("python3", ["-c", python]), ("jq", ["-r", jq])].map(|(program, words)| {
-        let mut command = Command::new(program);
-        if command.arg("--version").output().is_err() {
-            println!("no {program} on this machine: not tried");
-            return None;
-        }
-        let mut command = Command::new(program);
-        command.args(words);
-        let ran = finish(command, objects);
-        assert_eq!((ran.status, ran.error()), (Some(0), ""), "{program}");
-        Some(ran.out().replace(" None ", " ---- "))
+    [["python3", "-c", python], ["jq", "-r", jq]].map(|words| {
+        let printed = json_program(&words, objects)?;
+        Some(printed.replace(" None ", " ---- "))
     })
 }
 
@@ -153,12 +145,17 @@ fn files_of_another_kind() {
             &["explain", "-", "3"],
             &["scrub", "-", "-o", "-"],
             &["scrub", "-", "-o", "-", "--whole"],
+            &["gaps"],
+            &["month", "--channels", "100", "-"],
+            &["market", "-"],
         ] {
             let ran = run_on(&folder, words, &bytes);
             let said = format!("rietknoest: standard input: this looks like {what}");
             assert_eq!(ran.error().matches("this looks like").count(), 1);
             assert!(ran.error().starts_with(&said), "{words:?}: {}", ran.error());
             assert_eq!(ran.status, Some(1));
+            // scrubbing makes no capture of it, and no line says so
+            assert!(!ran.error().contains("makes it clean"), "{words:?}");
         }
     }
     // the STEP line's commands know their own, and the others

@@ -12,6 +12,7 @@ use std::thread;
 use std::time::Duration;
 
 use common::*;
+use rietknoest_host::step;
 
 /// The signals by which people end a program.
 const SIGNALS: [(&str, i32); 4] = [("HUP", 1), ("INT", 2), ("QUIT", 3), ("TERM", 15)];
@@ -63,8 +64,12 @@ enum Way {
 
 /// Runs `scrub` from a pipe to a file, in one of the two ways.
 fn scrub(folder: &Folder, library: &PathBuf, way: Way, out: &str) -> Child {
+    scrub_with(folder, library, way, &["scrub", "-", "-o", out])
+}
+
+fn scrub_with(folder: &Folder, library: &PathBuf, way: Way, words: &[&str]) -> Child {
     let mut command = command(folder);
-    command.args(["scrub", "-", "-o", out]);
+    command.args(words);
     if way == Way::Named {
         command.env("LD_PRELOAD", library);
     }
@@ -116,39 +121,91 @@ fn a_signal_leaves_nothing() {
     }
 }
 
-/// At random moments, over a pipe that is slow: the file is there whole, or as it was.
+/// A heartbeat of the STEP line.
+fn step_heartbeat(number: usize) -> Vec<u8> {
+    let number = format!("34={number}");
+    let fields = ["49=A", "56=B", &number, "52=20260121-09:30:00.123"];
+    let fields: Vec<_> = fields
+        .iter()
+        .flat_map(|f| [f, "\x01"].concat().into_bytes())
+        .collect();
+    let mut out = vec![0; step::LONGEST];
+    let len = step::write(b'0', &fields, &mut out).unwrap();
+    out.truncate(len);
+    out
+}
+
+/// How the runs in one of the ways ended.
+#[derive(Debug, Default)]
+struct Ends {
+    /// By the signal, while the file was there, with a name or without one.
+    with_a_file: usize,
+    /// By themselves.
+    whole: usize,
+}
+
+/// At random moments, up to a tenth of a second, over a pipe that is slow: the file is there whole,
+/// or as it was. In each way some runs end by the signal while they write, and some by themselves.
 #[test]
 fn a_signal_at_any_moment() {
+    let beats = heartbeats(200);
+    at_any_moment(4, &["scrub", "-", "-o", "out"], &beats, &beats);
+}
+
+#[test]
+fn a_signal_at_any_moment_of_the_step_line() {
+    let frames: Vec<_> = (1..=40).map(step_heartbeat).collect();
+    let scrubbed = frames.iter().map(|frame| {
+        let mut frame = frame.clone();
+        step::scrub(&mut frame).unwrap();
+        frame
+    });
+    let scrubbed: Vec<_> = scrubbed.collect();
+    let words = ["scrub", "--step", "-", "-o", "out"];
+    at_any_moment(5, &words, &frames.concat(), &scrubbed.concat());
+}
+
+/// Six times the piece is written, of which the file has the scrubbed one.
+fn at_any_moment(seed: u64, words: &[&str], piece: &[u8], scrubbed: &[u8]) {
     let tools = Folder::new();
     let library = shim(&tools);
-    let dice = &mut Dice(4);
-    let pieces: Vec<_> = (0..6).map(|_| heartbeats(200)).collect();
-    let mut done = [0; 2];
-    for round in 0..120 {
+    let dice = &mut Dice(seed);
+    let mut ends = [Ends::default(), Ends::default()];
+    let seen = |ends: &Ends| ends.with_a_file > 0 && ends.whole > 0;
+    // where all is slow the moments become longer
+    for round in 0..2_000 {
+        if round >= 120 && ends.iter().all(seen) {
+            break;
+        }
         let way = [Way::Unnamed, Way::Named][round % 2];
         let (signal, number) = SIGNALS[dice.below(4)];
         let folder = Folder::new().with("out", b"old");
-        let mut child = scrub(&folder, &library, way, "out");
+        let mut child = scrub_with(&folder, &library, way, words);
         let mut input = child.stdin.take().unwrap();
         // up to so many pieces are written before it, and a moment passes
-        let (before, moment) = (dice.below(8), dice.below(1_500) as u64);
-        for piece in pieces.iter().take(before) {
+        let longest = 1 << (4 + dice.below(14 + round / 200));
+        let (before, moment) = (dice.below(9), dice.below(longest) as u64);
+        for _ in 0..before.min(6) {
             input.write_all(piece).unwrap();
-            thread::sleep(Duration::from_micros(moment / 4));
+            thread::sleep(Duration::from_micros(moment / 8));
         }
-        if before >= pieces.len() {
+        if before >= 6 {
             drop(input);
         }
         thread::sleep(Duration::from_micros(moment));
+        let was_there = !open_files(child.id(), &folder).is_empty();
+        assert!(way == Way::Named || !beside(&folder), "it has a name");
         // it may have ended by itself
         if child.try_wait().unwrap().is_none() {
             send(signal, child.id());
         }
         let ended = child.wait().unwrap();
-        whole_or_not(&folder, ended, number, &pieces.concat());
-        done[usize::from(ended.success())] += 1;
+        whole_or_not(&folder, ended, number, &scrubbed.repeat(6));
+        let ends = &mut ends[round % 2];
+        ends.whole += usize::from(ended.success());
+        ends.with_a_file += usize::from(was_there && !ended.success());
     }
-    assert!(done[0] > 0, "none was broken off");
+    assert!(ends.iter().all(seen), "unnamed, named: {ends:?}");
 }
 
 fn whole_or_not(folder: &Folder, ended: ExitStatus, number: i32, all: &[u8]) {

@@ -119,9 +119,7 @@ fn an_output_right_behind_its_option() {
 /// A line of a shell on a terminal: its status, and what the terminal showed. None where `script`
 /// is not installed.
 fn on_terminal(folder: &Folder, line: &str) -> Option<Ran> {
-    let mut script = Command::new("script");
-    if script.arg("--version").output().is_err() {
-        println!("no script on this machine: not tried");
+    if !is_installed("script") {
         return None;
     }
     let line = line.replace("$0", env!("CARGO_BIN_EXE_rietknoest"));
@@ -187,6 +185,33 @@ fn progress_on_a_terminal() {
     assert!(ran.out().contains("/s"));
     let last = "\r\u{1b}[Krietknoest: standard input: kept 6000 frames, left out 0 bytes, 0 frames after damage\r\n";
     assert!(ran.out().ends_with(last), "{:?}", ran.out());
+}
+
+/// Of a file it is also said of how much: here of eight gigabytes that take no room on the disk, and
+/// much longer than the run is given.
+#[test]
+fn progress_over_a_file() {
+    let folder = Folder::new().with("large", &logon("", ""));
+    let large = fs::OpenOptions::new()
+        .write(true)
+        .open(folder.path("large"));
+    large.unwrap().set_len(8_000_000_000).unwrap();
+    let Some(ran) = on_terminal(&folder, "timeout -s INT 2.5 $0 check large") else {
+        return;
+    };
+    let shown = ran.out();
+    let line = shown.rsplit("rietknoest: large: ").next().unwrap();
+    let done_and_all = line.split_once(" of 8.0 GB, ");
+    let (done, speed) = done_and_all.unwrap_or_else(|| panic!("{shown:?}"));
+    for size in [done, speed.split("/s").next().unwrap()] {
+        let (number, unit) = size.split_once(' ').unwrap();
+        assert!(number.parse::<f64>().unwrap() > 0.0, "{shown:?}");
+        assert!(["B", "kB", "MB", "GB"].contains(&unit), "{shown:?}");
+    }
+    // asked not to, nothing
+    let quiet = "timeout -s INT 1.5 $0 check --quiet large";
+    let ran = on_terminal(&folder, quiet).unwrap();
+    assert_eq!(ran.out().trim_end().trim_start_matches("^C"), "");
 }
 
 /// What takes less than a second shows nothing.

@@ -48,7 +48,7 @@ impl Stream {
 
     /// One more cut, perhaps empty: the records of the readings that it decides, at the front of
     /// `records`; 8 if they do not fit. `records_room` of the bytes that wait and the cut's is
-    /// always enough.
+    /// always enough. See `rk_stream_feed` in rietknoest.h for the stack that it takes.
     pub fn feed(&mut self, cut: &[u8], records: &mut [u8]) -> Result<Fed, Refusal> {
         let mut fed = Fed::default();
         let (words, ledger, kept) = self.parts();
@@ -57,7 +57,7 @@ impl Stream {
     }
 
     /// Ends the stream: what waits is walked as the end of a capture. After 8 the stream is still
-    /// open.
+    /// open. See `rk_stream_close` in rietknoest.h for the stack that it takes.
     pub fn close(&mut self, records: &mut [u8]) -> Result<Fed, Refusal> {
         let mut fed = Fed::default();
         let (words, ledger, kept) = self.parts();
@@ -100,8 +100,7 @@ pub struct Scrubber {
 /// The result of a scrubber's call, of this call alone: how many bytes were written, how many
 /// frames they are, how many of these the search found after damage, and how many are M101 frames,
 /// whose bodies no rule judges. `place` is that of the first byte that waits, or of the next one to
-/// come;
-/// `waiting` is how many bytes wait.
+/// come; `waiting` is how many bytes wait.
 #[derive(Clone, Copy, Debug, Default, PartialEq, Eq)]
 #[must_use = "no later call says how many bytes this one wrote"]
 #[repr(C)]
@@ -123,7 +122,7 @@ impl Scrubber {
 
     /// One more cut, perhaps empty: the accepted frames that it decides, each scrubbed, at the
     /// front of `out`; 8 if they do not fit. As many bytes as wait and the cut has are always
-    /// enough.
+    /// enough. See `rk_stream_clean` in rietknoest.h for the stack that it takes.
     pub fn clean(&mut self, cut: &[u8], out: &mut [u8]) -> Result<Scrubbed, Refusal> {
         let mut scrubbed = Scrubbed::default();
         let (words, ledger, kept) = self.stream.parts();
@@ -131,7 +130,8 @@ impl Scrubber {
         result(answer, scrubbed)
     }
 
-    /// Ends it: what waits is cleaned as the end of a capture. After 8 it is still open.
+    /// Ends it: what waits is cleaned as the end of a capture. After 8 it is still open. See
+    /// `rk_stream_clean_close` in rietknoest.h for the stack that it takes.
     pub fn close(&mut self, out: &mut [u8]) -> Result<Scrubbed, Refusal> {
         let mut scrubbed = Scrubbed::default();
         let (words, ledger, kept) = self.stream.parts();

@@ -1272,7 +1272,8 @@ fn ten_lines_of_rust_drive_a_ledger() {
 #[test]
 fn the_header_is_for_cpp_too() {
     if Command::new("c++").arg("--version").output().is_err() {
-        println!("no c++ on this machine: not tried");
+        // past the test's own output, which is shown only of a test that fails
+        let _ = writeln!(std::io::stderr(), "not tried: no c++ on this machine");
         return;
     }
     let source = Path::new(env!("CARGO_TARGET_TMPDIR")).join("plus.cpp");

@@ -2,12 +2,14 @@
 
 #![allow(dead_code)] // each test program uses a part
 
+use std::collections::BTreeMap;
 use std::ffi::OsStr;
 use std::fs;
-use std::io::Write;
+use std::io::{self, Write};
 use std::path::{Path, PathBuf};
 use std::process::{self, Command, Stdio};
 use std::sync::atomic::{AtomicU32, Ordering};
+use std::sync::Mutex;
 
 use rietknoest_host::SessionNumber;
 
@@ -91,6 +93,37 @@ impl Ran {
             (Some(2), "", line.as_str())
         );
     }
+}
+
+/// Says what a test left out, and why: past the test's own output, which is shown only of a test
+/// that fails.
+pub fn not_tried(why: &str) {
+    let _ = writeln!(io::stderr(), "not tried: {why}");
+}
+
+/// Whether a program is installed; if not, that is said once.
+pub fn is_installed(program: &str) -> bool {
+    static KNOWN: Mutex<BTreeMap<String, bool>> = Mutex::new(BTreeMap::new());
+    let mut known = KNOWN.lock().unwrap();
+    *known.entry(program.to_string()).or_insert_with(|| {
+        let runs = Command::new(program).arg("--version").output().is_ok();
+        if !runs {
+            not_tried(&format!("no {program} on this machine"));
+        }
+        runs
+    })
+}
+
+/// What a program for JSON prints of an input, if it is installed. It finds no fault in it.
+pub fn json_program(words: &[&str], input: &[u8]) -> Option<String> {
+    if !is_installed(words[0]) {
+        return None;
+    }
+    let mut command = Command::new(words[0]);
+    command.args(&words[1..]);
+    let ran = finish(command, input);
+    assert_eq!((ran.status, ran.error()), (Some(0), ""), "{}", words[0]);
+    Some(ran.out().to_string())
 }
 
 /// The command, to be run in a folder.
