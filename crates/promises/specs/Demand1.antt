@@ -57,6 +57,7 @@ report-answers =
 -- reading
 seen-answers : Named
 seen-answers =
+    let blank-one-answer = reading.blank-one-answer in
     let see-one-answer = reading.see-one-answer in
     named
 
