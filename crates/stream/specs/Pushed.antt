@@ -23,7 +23,8 @@ use Rattle.stream.specs.declared.Ran.{Ran}
 use Rattle.stream.specs.Standing.{whole, storeOf, restOf, standsBehind, RanOver, Ready}
 use Rattle.stream.specs.StoreLaws.{rest-store}
 
--- next is the stream behind a cut, count says how many records it gave, and the buffer d is d′ later
+-- next is the stream behind a cut, count says how many records it gave, and the buffer d is d′
+-- later
 pub record PushedIs (x : Stream) (closing : Bool) (cut d d′ : List ℕ) (next : Stream) (count : ℕ) : Type 0 where
   pub stream : next ≡ behindOf x closing cut
   pub counted : count ≡ length (givenOf x closing cut)
