@@ -8,6 +8,7 @@ use lib.ListN.{length, getD, take}
 use borrow.Author.Tests.{ne-eqb}
 use Rattle.terms.specs.Paper.{Paper, one-number}
 use Rattle.terms.specs.Verdicts.{verdictNumber}
+use Rattle.octets.specs.Octets.{Bytes}
 use Rattle.clean_spec.specs.Clean.{cleanIn, cleanOf}
 use Rattle.stream_spec.specs.declared.Stream.{Stream}
 use Rattle.stream_spec.specs.State.{opened, StreamRules}
@@ -40,16 +41,17 @@ abbrev pub WashCalled : Lent → Call → List ℕ → List ℕ → ℕ → Lent
 WashCalled k call was d n k′ row d′ =
     Tells (washTold k call (length d)) was n row × ((k′ ≡ washAfter k call (length d)) × (d′ ≡ leaves (streamIn k) call d))
 
--- k comes of these calls, each meeting its promise, on what a call of rk_stream_open left
+-- k comes of these calls, each meeting its promise, by which a cut has bytes alone, on what a call
+-- of rk_stream_open left
 pub data Washes : Calls → Lent → Type 0 where
   opening : {k : Lent} → k ≡ lentOf opened → Washes none k
-  one-more : {calls : Calls} {k : Lent} (call : Call) (was d : List ℕ) (n : ℕ) (k′ : Lent) (row d′ : List ℕ) → Washes calls k → WashCalled k call was d n k′ row d′
+  one-more : {calls : Calls} {k : Lent} (call : Call) (was d : List ℕ) (n : ℕ) (k′ : Lent) (row d′ : List ℕ) → Washes calls k → Bytes (cutOf call) → WashCalled k call was d n k′ row d′
       → Washes (calls ▸ record { call = call; room = length d }) k′
 
 -- what a host then has, if behind each call answered 0 it sets aside as many bytes as are told
 abbrev pub washHeard : {calls : Calls} {k : Lent} → Washes calls k → List ℕ
 washHeard (opening e) = []
-washHeard (one-more call was d n k′ row d′ w p) = washHeard w ++ take (getD (seen n row .values) 0 0) d′
+washHeard (one-more call was d n k′ row d′ w b p) = washHeard w ++ take (getD (seen n row .values) 0 0) d′
 
 pub record HostWashes (calls : Calls) (k : Lent) (has : List ℕ) : Type 0 where
   -- words and bytes are those of the stream after the calls, and keep the rules

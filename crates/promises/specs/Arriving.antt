@@ -55,6 +55,7 @@ ties calls =
     let opened-is-opening = Opened.opened-is-opening in
     let cut-goes-on = Promised.cut-goes-on {calls = calls} in
     let end-goes-on = Promised.end-goes-on {calls = calls} in
-    let host-clean = Follow.clean-is-call in
-    let host-clean-close = Follow.clean-close-is-call in
+    let host-opening = Follow.open-is-wash-opening in
+    let host-clean = Follow.clean-goes-on {calls = calls} in
+    let host-clean-close = Follow.clean-close-goes-on {calls = calls} in
     named
