@@ -24,3 +24,4 @@ pub mod Channels
 pub mod Month
 pub mod Arriving
 pub mod HostHeard
+pub mod CheckedByPieces
