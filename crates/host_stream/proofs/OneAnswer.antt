@@ -32,13 +32,13 @@ pub rk-stream-open-refused-keeps : RefusedKeeps _ rk-stream-open-kinds.ps rk-str
 rk-stream-open-refused-keeps κs a x s p w = absurd (w (p .0))
 
 pub rk-stream-feed-one-answer : OneAnswer _ rk-stream-feed-kinds.ps rk-stream-feed-kinds.r rk-stream-feed.Post
-rk-stream-feed-one-answer κs a x y s t p q = p .0 .answered ∙ sym (q .0 .answered)
+rk-stream-feed-one-answer κs a x y s t p q = p .0 .0 .answered ∙ sym (q .0 .0 .answered)
 
 pub rk-stream-feed-one-buffer : OneBuffer _ rk-stream-feed-kinds.ps rk-stream-feed-kinds.r rk-stream-feed.Post (λ κs s. both (now (s .1 .1 .1 .1 .1 .0)) (asOne (lent (now (s .0)) (now (s .1 .0)) (now (s .1 .1 .0))) (now (s .1 .1 .1 .1 .0))))
-rk-stream-feed-one-buffer κs a x y s t p q = ap₂ both (p .0 .told ∙ sym (q .0 .told)) (ap₂ asOne (p .1 .0 ∙ sym (q .1 .0)) (p .1 .1 ∙ sym (q .1 .1)))
+rk-stream-feed-one-buffer κs a x y s t p q = ap₂ both (p .0 .0 .told ∙ sym (q .0 .0 .told)) (ap₂ asOne (p .0 .1 .0 ∙ sym (q .0 .1 .0)) (p .0 .1 .1 ∙ sym (q .0 .1 .1)))
 
 pub rk-stream-feed-refused-keeps : RefusedKeeps _ rk-stream-feed-kinds.ps rk-stream-feed-kinds.r rk-stream-feed.Post (λ κs x. Refuses x) (λ κs a. both (now (a .1 .1 .1 .1 .1 .0)) (asOne (lent (now (a .0)) (now (a .1 .0)) (now (a .1 .1 .0))) (now (a .1 .1 .1 .1 .0)))) (λ κs s. both (now (s .1 .1 .1 .1 .1 .0)) (asOne (lent (now (s .0)) (now (s .1 .0)) (now (s .1 .1 .0))) (now (s .1 .1 .1 .1 .0))))
-rk-stream-feed-refused-keeps κs a x s p w = refused-keeps (lent (now (a .0)) (now (a .1 .0)) (now (a .1 .1 .0))) (Feed (now (a .1 .1 .1 .0))) _ (now (a .1 .1 .1 .1 .0)) x _ _ _ p w
+rk-stream-feed-refused-keeps κs a x s p w = refused-keeps (lent (now (a .0)) (now (a .1 .0)) (now (a .1 .1 .0))) (Feed (now (a .1 .1 .1 .0))) _ (now (a .1 .1 .1 .1 .0)) x _ _ _ (p .0) w
 
 pub rk-stream-close-one-answer : OneAnswer _ rk-stream-close-kinds.ps rk-stream-close-kinds.r rk-stream-close.Post
 rk-stream-close-one-answer κs a x y s t p q = p .0 .answered ∙ sym (q .0 .answered)
@@ -50,13 +50,13 @@ pub rk-stream-close-refused-keeps : RefusedKeeps _ rk-stream-close-kinds.ps rk-s
 rk-stream-close-refused-keeps κs a x s p w = refused-keeps (lent (now (a .0)) (now (a .1 .0)) (now (a .1 .1 .0))) Close _ (now (a .1 .1 .1 .0)) x _ _ _ p w
 
 pub rk-stream-clean-one-answer : OneAnswer _ rk-stream-clean-kinds.ps rk-stream-clean-kinds.r rk-stream-clean.Post
-rk-stream-clean-one-answer κs a x y s t p q = p .0 .answered ∙ sym (q .0 .answered)
+rk-stream-clean-one-answer κs a x y s t p q = p .0 .0 .answered ∙ sym (q .0 .0 .answered)
 
 pub rk-stream-clean-one-buffer : OneBuffer _ rk-stream-clean-kinds.ps rk-stream-clean-kinds.r rk-stream-clean.Post (λ κs s. both (now (s .1 .1 .1 .1 .1 .0)) (asOne (lent (now (s .0)) (now (s .1 .0)) (now (s .1 .1 .0))) (now (s .1 .1 .1 .1 .0))))
-rk-stream-clean-one-buffer κs a x y s t p q = ap₂ both (p .0 .told ∙ sym (q .0 .told)) (ap₂ asOne (p .1 .0 ∙ sym (q .1 .0)) (p .1 .1 ∙ sym (q .1 .1)))
+rk-stream-clean-one-buffer κs a x y s t p q = ap₂ both (p .0 .0 .told ∙ sym (q .0 .0 .told)) (ap₂ asOne (p .0 .1 .0 ∙ sym (q .0 .1 .0)) (p .0 .1 .1 ∙ sym (q .0 .1 .1)))
 
 pub rk-stream-clean-refused-keeps : RefusedKeeps _ rk-stream-clean-kinds.ps rk-stream-clean-kinds.r rk-stream-clean.Post (λ κs x. Refuses x) (λ κs a. both (now (a .1 .1 .1 .1 .1 .0)) (asOne (lent (now (a .0)) (now (a .1 .0)) (now (a .1 .1 .0))) (now (a .1 .1 .1 .1 .0)))) (λ κs s. both (now (s .1 .1 .1 .1 .1 .0)) (asOne (lent (now (s .0)) (now (s .1 .0)) (now (s .1 .1 .0))) (now (s .1 .1 .1 .1 .0))))
-rk-stream-clean-refused-keeps κs a x s p w = wash-refused-keeps (lent (now (a .0)) (now (a .1 .0)) (now (a .1 .1 .0))) (Feed (now (a .1 .1 .1 .0))) _ (now (a .1 .1 .1 .1 .0)) x _ _ _ p w
+rk-stream-clean-refused-keeps κs a x s p w = wash-refused-keeps (lent (now (a .0)) (now (a .1 .0)) (now (a .1 .1 .0))) (Feed (now (a .1 .1 .1 .0))) _ (now (a .1 .1 .1 .1 .0)) x _ _ _ (p .0) w
 
 pub rk-stream-clean-close-one-answer : OneAnswer _ rk-stream-clean-close-kinds.ps rk-stream-clean-close-kinds.r rk-stream-clean-close.Post
 rk-stream-clean-close-one-answer κs a x y s t p q = p .0 .answered ∙ sym (q .0 .answered)

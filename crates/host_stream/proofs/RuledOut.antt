@@ -105,7 +105,7 @@ rk-stream-feed-wrong =
 
 pub rk-stream-feed-rules-out : RulesOut (Kept _ rk-feed-kinds.ps rk-feed-kinds.r rk-feed.Post) (λ c. (lent (now (c .args .0)) (now (c .args .1 .0)) (now (c .args .1 .1 .0)), (Feed (now (c .args .1 .1 .1 .0)), (now (c .args .1 .1 .1 .1 .0), now (c .args .1 .1 .1 .1 .1 .0))))) (λ c. shown (c .result) (now (c .exit .1 .1 .1 .1 .1 .0)) (lent (now (c .exit .0)) (now (c .exit .1 .0)) (now (c .exit .1 .1 .0))) (now (c .exit .1 .1 .1 .1 .0))) rk-stream-feed-wrong
 unfolding frameA startOfA frameB checked readOf bodyRead numeral digitsOf laid sum8 sumOf kindOf suits measureOf p001Ok fieldsOk realTime realParts daysIn leap judgeOf viewOf Bits.valueOf Bits.mapOf rotated rangeRules mapRules soundOf Book.ownNumber Book.checkedOf Book.numberTo Book.raised Book.done Book.nextOf Book.fresh bookOf ledgerOf after next found noted joined eachOf Account.accountOf firstHalf secondHalf recordOf blankOf refusalOf seenOf saysOf callsBy offering offerOf madeOf recordBy bookBy accepts refuses opened State.headOf State.isSeeking State.meantBy State.valueOf State.allZero State.waitsRight State.soundOf Tally.tallyWith Tally.recordAt Tally.tallyAfter Tally.ledgerRight Tally.tallyRight Calls.givenOf Calls.behindOf Calls.numberFor Calls.answerFor Calls.nextFor Calls.leavesFor Cuts.feedOf Waits.waits Waits.ranOf wordsOf pendingIn ledgerIn toldBy stateOf waitingIn streamIn keptBeside lentAfter
-rk-stream-feed-rules-out = ruled (beside numbers (beside lists (beside lists lists))) answered-by (λ c p. said p) _ refl
+rk-stream-feed-rules-out = ruled (beside numbers (beside lists (beside lists lists))) answered-by (λ c p. said (p .0)) _ refl
 
 abbrev waiting : Lent
 waiting = lentAfter (lentOf opened) (Feed (A ++ take 20 frameB)) 64
@@ -140,7 +140,7 @@ rk-stream-clean-wrong =
 
 pub rk-stream-clean-rules-out : RulesOut (Kept _ rk-clean-kinds.ps rk-clean-kinds.r rk-clean.Post) (λ c. (lent (now (c .args .0)) (now (c .args .1 .0)) (now (c .args .1 .1 .0)), (Feed (now (c .args .1 .1 .1 .0)), (now (c .args .1 .1 .1 .1 .0), now (c .args .1 .1 .1 .1 .1 .0))))) (λ c. shown (c .result) (now (c .exit .1 .1 .1 .1 .1 .0)) (lent (now (c .exit .0)) (now (c .exit .1 .0)) (now (c .exit .1 .1 .0))) (now (c .exit .1 .1 .1 .1 .0))) rk-stream-clean-wrong
 unfolding plainOf frameOf checked readOf bodyRead numeral digitsOf laid laidIfRoom painted summed scrubbed sum8 sumOf kindOf suits measureOf p002Ok fieldsOk realTime realParts daysIn leap judgeOf viewOf Bits.valueOf Bits.mapOf rotated rangeRules mapRules soundOf Book.ownNumber Book.checkedOf Book.numberTo Book.raised Book.done Book.nextOf Book.fresh bookOf ledgerOf after next found noted joined eachOf Account.accountOf firstHalf secondHalf recordOf blankOf refusalOf seenOf saysOf callsBy offering offerOf madeOf recordBy bookBy accepts refuses opened State.headOf State.isSeeking State.meantBy State.valueOf State.allZero State.waitsRight State.soundOf Tally.tallyWith Tally.recordAt Tally.tallyAfter Tally.ledgerRight Tally.tallyRight Calls.givenOf Calls.behindOf Calls.numberFor Calls.answerFor Calls.nextFor Calls.leavesFor Cuts.feedOf Waits.waits Waits.ranOf wordsOf pendingIn ledgerIn toldBy stateOf waitingIn streamIn keptBeside lentAfter Calls.mayTake Wash.washed Wash.unjudgedBy Wash.plus Wash.oneOf Wash.sumsOf Wash.lays Clean.readsFor Clean.washBehind Clean.numberFor Clean.answerFor Clean.nextFor Clean.leavesFor washAfter
-rk-stream-clean-rules-out = ruled (beside numbers (beside lists (beside lists lists))) cleaned-by (λ c p. said p) _ refl
+rk-stream-clean-rules-out = ruled (beside numbers (beside lists (beside lists lists))) cleaned-by (λ c p. said (p .0)) _ refl
 
 abbrev pub rk-stream-clean-close-wrong : List (Row Input Outcome)
 rk-stream-clean-close-wrong =

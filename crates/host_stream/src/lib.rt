@@ -6,6 +6,7 @@ ghost use Prim.Native.Nat.{ℕ};
 ghost use mathlib.Core.Path.{_≡_};
 ghost use mathlib.Core.List.{List};
 ghost use lib.ListN.{length};
+ghost use Rattle.octets.specs.Octets.{Bytes};
 ghost use Rattle.stream_spec.specs.State.{opened};
 ghost use Rattle.stream_spec.specs.Calls.{Feed, Close, leaves, fedPaper};
 ghost use Rattle.terms.specs.Verdicts.{verdictNumber};
@@ -170,9 +171,10 @@ pub extern "C" fn rk_stream_feed(
     records: &mut [u8],
     told: &mut [u64; 5],
 ) -> u32
-    ensures { λ r. ⌜ Tells (callTold (lent (now (state .entry)) (now (ledger .entry)) (now (kept .entry))) (Feed (now (cut .entry))) (length (now (records .entry)))) (now (told .entry)) r (now (told .exit))
+    ensures { λ r. ⌜ (Tells (callTold (lent (now (state .entry)) (now (ledger .entry)) (now (kept .entry))) (Feed (now (cut .entry))) (length (now (records .entry)))) (now (told .entry)) r (now (told .exit))
         × ((lent (now (state .exit)) (now (ledger .exit)) (now (kept .exit)) ≡ lentAfter (lent (now (state .entry)) (now (ledger .entry)) (now (kept .entry))) (Feed (now (cut .entry))) (length (now (records .entry))))
-        × (now (records .exit) ≡ leaves (streamIn (lent (now (state .entry)) (now (ledger .entry)) (now (kept .entry)))) (Feed (now (cut .entry))) (now (records .entry)))) ⌝ }
+        × (now (records .exit) ≡ leaves (streamIn (lent (now (state .entry)) (now (ledger .entry)) (now (kept .entry)))) (Feed (now (cut .entry))) (now (records .entry)))))
+        × Bytes (now (cut .entry)) ⌝ }
 {
     let done = stream::feed(standing_in(state, ledger), kept, cut, records);
     settle(state, ledger, told, done)
@@ -242,9 +244,10 @@ pub extern "C" fn rk_stream_clean(
     out: &mut [u8],
     told: &mut [u64; 6],
 ) -> u32
-    ensures { λ r. ⌜ Tells (washTold (lent (now (state .entry)) (now (ledger .entry)) (now (kept .entry))) (Feed (now (cut .entry))) (length (now (out .entry)))) (now (told .entry)) r (now (told .exit))
+    ensures { λ r. ⌜ (Tells (washTold (lent (now (state .entry)) (now (ledger .entry)) (now (kept .entry))) (Feed (now (cut .entry))) (length (now (out .entry)))) (now (told .entry)) r (now (told .exit))
         × ((lent (now (state .exit)) (now (ledger .exit)) (now (kept .exit)) ≡ washAfter (lent (now (state .entry)) (now (ledger .entry)) (now (kept .entry))) (Feed (now (cut .entry))) (length (now (out .entry))))
-        × (now (out .exit) ≡ Clean.leaves (streamIn (lent (now (state .entry)) (now (ledger .entry)) (now (kept .entry)))) (Feed (now (cut .entry))) (now (out .entry)))) ⌝ }
+        × (now (out .exit) ≡ Clean.leaves (streamIn (lent (now (state .entry)) (now (ledger .entry)) (now (kept .entry)))) (Feed (now (cut .entry))) (now (out .entry)))))
+        × Bytes (now (cut .entry)) ⌝ }
 {
     let washed = stream_clean::clean_cut(stream_in(state, ledger, kept), cut, out);
     settle_washed(state, ledger, kept, told, washed)

@@ -9,6 +9,7 @@ use native.Mathlib.Omega.{arith}
 use lib.Dec.{eqb}
 use lib.ListN.{length}
 use Rattle.terms.specs.Cases.{two}
+use Rattle.octets.specs.Octets.{Bytes}
 use Rattle.tick_map.specs.Bits.{mapOf}
 use Rattle.ledger.specs.State.{ledgerOf}
 use Rattle.walk_laws.specs.Walk.{Sight}
@@ -20,11 +21,11 @@ use Rattle.stream_spec.specs.declared.Stream.{Stream}
 use Rattle.stream_spec.specs.declared.Tally.{Tally}
 use Rattle.stream_spec.specs.Tally.{tallyWith, recordAt, tallyAfter}
 use Rattle.stream_spec.specs.State.{meantBy, valueOf, opened, StreamRules}
-use Rattle.stream_spec.specs.Calls.{Call, cutOf, closes, share, behindOf, answerFor, nextFor, leavesFor, numberTo, answerTo, nextOf, leaves}
-use Rattle.stream_spec.specs.Trace.{Calls, none, _▸_, after, given, taken, ended}
+use Rattle.stream_spec.specs.Calls.{Call, Feed, cutOf, closes, share, behindOf, answerFor, nextFor, leavesFor, numberTo, answerTo, nextOf, leaves}
+use Rattle.stream_spec.specs.Trace.{Asked, Calls, none, _▸_, after, accepted, given, taken, ended}
 use Rattle.stream_spec.specs.Words.{numberTold, Closed}
 use Rattle.stream_spec.proofs.Rules.{rules-facts}
-use Rattle.stream_spec.proofs.Cuttings.{every-cutting, closing-call}
+use Rattle.stream_spec.proofs.Cuttings.{every-cutting, closing-call, bytes-more}
 use Rattle.host_words.specs.Told.{Tells, toldBy}
 use Rattle.host_words.specs.Words.{wordsOf}
 use Rattle.host_stream_spec.specs.Lent.{Lent, wordOf, stateOf, lentOf, streamIn}
@@ -96,8 +97,21 @@ rules calls = rules-facts (after calls) (every-cutting calls .rules)
 -- what is lent is the stream after the calls
 pub followed-is : {calls : Calls} {k : Lent} → Followed calls k → k ≡ lentOf (after calls)
 followed-is (opening e) = e
-followed-is (one-more {calls} {k} call was d n k′ row d′ f p) =
+followed-is (one-more {calls} {k} call was d n k′ row d′ f b p) =
     is-call (after calls) (four calls) (rules calls) call was d n k′ row d′ (rw (followed-is f) at p) .left
+
+-- what is taken are bytes
+pub followed-bytes : {calls : Calls} {k : Lent} → Followed calls k → Bytes (taken calls)
+unfolding taken
+followed-bytes (opening e) = λ i. omega arith
+followed-bytes (one-more {calls} {k} call was d n k′ row d′ f b p) = bytes-more (taken calls) (cutOf call) (accepted calls (record { call = call; room = length d })) (followed-bytes f) b
+
+-- so is the cut of a call that is refused: no row of calls has 300 for a byte
+last-bytes : {calls : Calls} {a : Asked} {k : Lent} → Followed (calls ▸ a) k → Bytes (cutOf (a .call))
+last-bytes (one-more call was d n k′ row d′ f b p) = b
+
+pub no-such-byte : {calls : Calls} {room : ℕ} {k : Lent} → Followed (calls ▸ record { call = Feed (300 ∷ []); room = room }) k → ⊥
+no-such-byte f = omega (arith, last-bytes f 0)
 
 ended-words : (s : List ℕ) (x : Stream) → Closed s x → x .place + x .len ≡ length s → x .closed ≡ true → Ended s (lentOf x)
 unfolding stateOf

@@ -4,12 +4,13 @@ use mathlib.Core.Path.{_≡_, refl, sym, ap, ap₂, _∙_}
 use mathlib.Core.Bool.{Bool, true, false}
 use mathlib.Core.Logic.{⊎-elim}
 use mathlib.Core.List.{List, [], _∷_, _++_}
+use native.Mathlib.Omega.{arith}
 use lib.Dec.{eqb}
 use lib.ListN.{length, getD, take}
 use borrow.Author.Tests.{eq-eqb, eqb-true, eqb-false, ne-eqb}
 use Rattle.terms.specs.Paper.{pick, one-number}
 use Rattle.terms.specs.Cases.{two}
-use Rattle.octets.specs.Octets.{laid}
+use Rattle.octets.specs.Octets.{laid, Bytes}
 use Rattle.octets.specs.Overlays.{take-front}
 use Rattle.tick_map.specs.Bits.{mapOf}
 use Rattle.ledger.specs.State.{ledgerOf}
@@ -18,6 +19,7 @@ use Rattle.stream_spec.specs.State.{valueOf, opened, StreamRules}
 use Rattle.stream_spec.specs.Calls.{Call, cutOf, closes}
 use Rattle.stream_spec.specs.Trace.{Calls, none, _▸_}
 use Rattle.stream_spec.proofs.Rules.{rules-facts}
+use Rattle.stream_spec.proofs.Cuttings.{bytes-more}
 use Rattle.stream_clean_spec.specs.declared.Sums.{Sums}
 use Rattle.stream_clean_spec.specs.Wash.{noSums, plus, sumsOf}
 use Rattle.stream_clean_spec.specs.Calls.{countsIn, readsFor, washedFor, sumsFor, washBehind, numberTo, nextFor, nextOf, answerFor, answerTo, leavesFor, leaves}
@@ -85,18 +87,24 @@ module _ (x : Stream) (four-words : Four x) (r : StreamRules x) (call : Call) (w
 
 washes-is : {calls : Calls} {k : Lent} → Washes calls k → k ≡ lentOf (after calls)
 washes-is (opening e) = e
-washes-is (one-more {calls} {k} call was d n k′ row d′ f p) = left (after calls) (four calls) (rules calls) call was d n k′ row d′ (rw (washes-is f) at p)
+washes-is (one-more {calls} {k} call was d n k′ row d′ f b p) = left (after calls) (four calls) (rules calls) call was d n k′ row d′ (rw (washes-is f) at p)
+
+-- what is taken are bytes
+pub washes-bytes : {calls : Calls} {k : Lent} → Washes calls k → Bytes (taken calls)
+unfolding taken
+washes-bytes (opening e) = λ i. omega arith
+washes-bytes (one-more {calls} {k} call was d n k′ row d′ f b p) = bytes-more (taken calls) (cutOf call) (accepted calls (record { call = call; room = length d })) (washes-bytes f) b
 
 heard-written : {calls : Calls} {k : Lent} (f : Washes calls k) → washHeard f ≡ written calls
 unfolding written
 heard-written (opening e) = refl
-heard-written (one-more {calls} {k} call was d n k′ row d′ f p) =
+heard-written (one-more {calls} {k} call was d n k′ row d′ f b p) =
     ap₂ (λ (a b : List ℕ). a ++ b) (heard-written f) (bytes-told (after calls) (four calls) (rules calls) call was d n k′ row d′ (rw (washes-is f) at p) _ refl)
 
 counted-is : {calls : Calls} {k : Lent} (f : Washes calls k) → washCounted f ≡ counted calls
 unfolding counted
 counted-is (opening e) = refl
-counted-is (one-more {calls} {k} call was d n k′ row d′ f p) =
+counted-is (one-more {calls} {k} call was d n k′ row d′ f b p) =
     ap₂ plus (counted-is f) (counts-told (after calls) (four calls) (rules calls) call was d n k′ row d′ (rw (washes-is f) at p) _ refl)
 
 -- OF EVERY ROW OF CALLS THROUGH THE HOST

@@ -5,22 +5,23 @@ use mathlib.Core.Path.{_≡_}
 use mathlib.Core.Bool.{true}
 use mathlib.Core.List.{List, [], _∷_, _++_}
 use lib.ListN.{length, getD, replicate}
-use Rattle.octets.specs.Octets.{laid}
+use Rattle.octets.specs.Octets.{laid, Bytes}
 use Rattle.ledger.specs.State.{ledgerOf}
 use Rattle.record.specs.declared.Record.{Record}
 use Rattle.walk_spec.specs.Walk.{sights, walkOf, framesOf, refusedOf, tableOf}
 use Rattle.stream_spec.specs.State.{opened, StreamRules}
-use Rattle.stream_spec.specs.Calls.{Call, share}
+use Rattle.stream_spec.specs.Calls.{Call, cutOf, share}
 use Rattle.stream_spec.specs.Trace.{Calls, none, _▸_, after, given, taken, ended}
 use Rattle.stream_spec.specs.Words.{decided, numberTold}
 use Rattle.host_words.specs.Words.{wordsOf}
 use Rattle.host_stream_spec.specs.Lent.{Lent, lentOf, streamIn}
 use Rattle.host_stream_spec.specs.Calls.{Called}
 
--- k comes of these calls, each meeting its promise, on what a call of rk_stream_open left
+-- k comes of these calls, each meeting its promise, by which a cut has bytes alone, on what a call
+-- of rk_stream_open left
 pub data Followed : Calls → Lent → Type 0 where
   opening : {k : Lent} → k ≡ lentOf opened → Followed none k
-  one-more : {calls : Calls} {k : Lent} (call : Call) (was d : List ℕ) (n : ℕ) (k′ : Lent) (row d′ : List ℕ) → Followed calls k → Called k call was d n k′ row d′
+  one-more : {calls : Calls} {k : Lent} (call : Call) (was d : List ℕ) (n : ℕ) (k′ : Lent) (row d′ : List ℕ) → Followed calls k → Bytes (cutOf call) → Called k call was d n k′ row d′
       → Followed (calls ▸ record { call = call; room = length d }) k′
 
 -- after the closing call: frames, refused readings and ledger are those of the closed walk over s,

@@ -8,6 +8,7 @@ use lib.ListN.{length, getD, take}
 use borrow.Author.Tests.{ne-eqb}
 use Rattle.terms.specs.Paper.{Paper, answer, one-number}
 use Rattle.terms.specs.Verdicts.{verdictNumber}
+use Rattle.octets.specs.Octets.{Bytes}
 use Rattle.walk_spec.specs.Walk.{framesOf}
 use Rattle.clean_spec.specs.Clean.{cleanIn, cleanOf, foundIn, cleanAnswer}
 use Rattle.stream_spec.specs.declared.Stream.{Stream}
@@ -43,21 +44,22 @@ abbrev pub WashCalled : Lent → Call → List ℕ → List ℕ → ℕ → Lent
 WashCalled k call was d n k′ row d′ =
     Tells (washTold k call (length d)) was n row × ((k′ ≡ washAfter k call (length d)) × (d′ ≡ leaves (streamIn k) call d))
 
--- k comes of these calls, each meeting its promise, on what a call of rk_stream_open left
+-- k comes of these calls, each meeting its promise, by which a cut has bytes alone, on what a call
+-- of rk_stream_open left
 pub data Washes : Calls → Lent → Type 0 where
   opening : {k : Lent} → k ≡ lentOf opened → Washes none k
-  one-more : {calls : Calls} {k : Lent} (call : Call) (was d : List ℕ) (n : ℕ) (k′ : Lent) (row d′ : List ℕ) → Washes calls k → WashCalled k call was d n k′ row d′
+  one-more : {calls : Calls} {k : Lent} (call : Call) (was d : List ℕ) (n : ℕ) (k′ : Lent) (row d′ : List ℕ) → Washes calls k → Bytes (cutOf call) → WashCalled k call was d n k′ row d′
       → Washes (calls ▸ record { call = call; room = length d }) k′
 
 -- what a host then has, if behind each call answered 0 it sets aside as many bytes as are told
 abbrev pub washHeard : {calls : Calls} {k : Lent} → Washes calls k → List ℕ
 washHeard (opening e) = []
-washHeard (one-more call was d n k′ row d′ w p) = washHeard w ++ take (getD (seen n row .values) 0 0) d′
+washHeard (one-more call was d n k′ row d′ w b p) = washHeard w ++ take (getD (seen n row .values) 0 0) d′
 
 -- and has counted, if it adds up what each such call tells
 abbrev pub washCounted : {calls : Calls} {k : Lent} → Washes calls k → Sums
 washCounted (opening e) = noSums
-washCounted (one-more call was d n k′ row d′ w p) = plus (washCounted w) (countsIn (seen n row .values))
+washCounted (one-more call was d n k′ row d′ w b p) = plus (washCounted w) (countsIn (seen n row .values))
 
 pub record HostWashes (calls : Calls) (k : Lent) (has : List ℕ) (sums : Sums) : Type 0 where
   -- words and bytes are those of the stream after the calls, and keep the rules

@@ -9,7 +9,6 @@ use mathlib.Core.Bool.{true}
 use mathlib.Core.List.{List, _++_}
 use native.Mathlib.Omega.{arith}
 use lib.ListN.{length, drop}
-use Rattle.octets.specs.Octets.{Bytes}
 use Rattle.ledger.specs.State.{bookOf, ledgerOf}
 use Rattle.listing_text.specs.Text.{summaryOf}
 use Rattle.frame_spec.specs.Frame.{readOf}
@@ -32,7 +31,7 @@ use Rattle.stream_spec.specs.Answers.{refused-leaves, refused-stream}
 use Rattle.stream_spec.specs.Trace.{Calls, after, given, taken, ended, Row, heard}
 use Rattle.stream_spec.specs.Words.{waitAt, decided, numberTold}
 use Rattle.stream_spec.proofs.Rules.{rules-facts}
-use Rattle.stream_spec.proofs.Cuttings.{every-cutting, one-state, ran-is, waits-there, waits-first}
+use Rattle.stream_spec.proofs.Cuttings.{every-cutting, one-state, ran-is, ran-bytes, waits-there, waits-first}
 use Rattle.stream_spec.proofs.Promised as Opened
 use Rattle.stream.proofs.Promised as Promised
 use Rattle.host_stream_spec.specs.Lent.{Lent}
@@ -80,13 +79,13 @@ module _ {calls : Calls} {x : Stream} (row : Row calls x) where
     same-listing = ap (λ (w : Walk). linesOf (w .records) ++ summaryOf (lastAt (w .frames) (w .refused) (w .ledger))) same-walk
 
     -- and so is the text that `listing_text::put_listing` makes of the bytes that the host has
-    pub same-text : Bytes (taken calls) → listingOf (heard row) (lastAt (x .tally .frames) (x .tally .refused) (bookOf (x .tally .ledger))) ≡ listedOf (taken calls)
-    same-text bytes =
+    pub same-text : listingOf (heard row) (lastAt (x .tally .frames) (x .tally .refused) (bookOf (x .tally .ledger))) ≡ listedOf (taken calls)
+    same-text =
         let s = taken calls in
         let last = lastAt (x .tally .frames) (x .tally .refused) (bookOf (x .tally .ledger)) in
         let g : literalWalk s .records ≡ given calls = ap (λ (w : Walk). w .records) (sym same-walk) in
         ap (λ (b : List ℕ). listingOf b last) same-records
-        ∙ listing-table (literalWalk s .records) last (walk-fits s bytes taken-fits)
+        ∙ listing-table (literalWalk s .records) last (walk-fits s (ran-bytes row) taken-fits)
         ∙ rw g same-listing
 
   -- "at most 8,191 bytes" wait between calls: the last of the bytes taken
@@ -130,6 +129,6 @@ ties calls =
     let feed-goes-on = Promised.feed-goes-on {calls = calls} in
     let close-goes-on = Promised.close-goes-on {calls = calls} in
     let host-opening = Follow.open-is-opening in
-    let host-feed = Follow.feed-is-call in
-    let host-close = Follow.close-is-call in
+    let host-feed = Follow.feed-goes-on {calls = calls} in
+    let host-close = Follow.close-goes-on {calls = calls} in
     named

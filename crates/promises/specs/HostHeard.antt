@@ -16,7 +16,7 @@ use lib.Dec.{eqb}
 use lib.ListN.{length, getD, take, drop}
 use borrow.Author.Tests.{eqb-true, eqb-false, eq-eqb, ne-eqb}
 use Rattle.terms.specs.Paper.{pick}
-use Rattle.octets.specs.Octets.{Bytes, laid}
+use Rattle.octets.specs.Octets.{laid}
 use Rattle.octets.specs.Overlays.{take-front, laid-front}
 use Rattle.ledger.specs.State.{ledgerOf}
 use Rattle.record.specs.Record.{recordOf}
@@ -26,8 +26,6 @@ use Rattle.walk_laws.specs.Frames.{joined, eachOf, each-joined, each-long}
 use Rattle.walk_spec.specs.Walk.{walkOf, tableOf, framesOf, sights}
 use Rattle.walk_spec.specs.Literal.{Walk, literalWalk}
 use Rattle.walk_spec.specs.LiteralLaws.{literal-walk}
-use Rattle.listing_text.specs.Laws.{listing-table}
-use Rattle.listing_text.specs.Fit.{walk-fits}
 use Rattle.listing_text.specs.Listed.{listedOf}
 use Rattle.stream_spec.specs.State.{lastPlace}
 use Rattle.stream_spec.specs.Calls.{Call, share, numberTo}
@@ -39,16 +37,16 @@ use Rattle.host_words.specs.Told.{seen}
 use Rattle.host_stream_spec.specs.Lent.{Lent}
 use Rattle.host_stream_spec.specs.Calls.{Called}
 use Rattle.host_stream_spec.specs.Rows.{Followed, opening, one-more, Gives}
-use Rattle.host_stream_spec.proofs.Cuttings.{every-host-cutting}
+use Rattle.host_stream_spec.proofs.Cuttings.{every-host-cutting, followed-bytes}
 use Rattle.host_captures.specs.Listed.{textOf, HostWalked, Lends, HostListed}
-use Rattle.host_captures.proofs.Listed.{rk-listing-lists}
+use Rattle.host_captures.proofs.Listed.{text-listed, rk-listing-lists}
 use Rattle.host_captures.proofs.rk_listing.Reads as listing
 use Rattle.host_captures.proofs.rk_listing.Kinds as listing-kinds
 
 -- what a host then has, if behind each call answered 0 it sets aside 64 bytes for each record told
 abbrev pub heardBy : {calls : Calls} {k : Lent} → Followed calls k → List ℕ
 heardBy (opening e) = []
-heardBy (one-more call was d n k′ row d′ f p) = heardBy f ++ take (64 * getD (seen n row .values) 0 0) d′
+heardBy (one-more call was d n k′ row d′ f b p) = heardBy f ++ take (64 * getD (seen n row .values) 0 0) d′
 
 -- one call's part of it
 module _ {calls : Calls} {k : Lent} (f : Followed calls k) (call : Call) (was d : List ℕ) (n : ℕ) (k′ : Lent) (row d′ : List ℕ) (p : Called k call was d n k′ row d′) where
@@ -68,7 +66,7 @@ module _ {calls : Calls} {k : Lent} (f : Followed calls k) (call : Call) (was d 
 pub host-given : {calls : Calls} {k : Lent} (f : Followed calls k) → heardBy f ≡ tableOf (given calls)
 unfolding given joined eachOf
 host-given (opening e) = refl
-host-given (one-more {calls} {k} call was d n k′ row d′ f p) =
+host-given (one-more {calls} {k} call was d n k′ row d′ f b p) =
     ap₂ (λ (a b : List ℕ). a ++ b) (host-given f) (part-by f call was d n k′ row d′ p _ refl) ∙ sym (each-joined recordOf (given calls) _)
 
 pub host-so-far : {calls : Calls} {k : Lent} (f : Followed calls k) → heardBy f ≡ tableOf (decided (ended calls) (taken calls))
@@ -102,16 +100,15 @@ module _ {calls : Calls} {k : Lent} (f : Followed calls k) (e : ended calls ≡ 
         buffer = host-heard ∙ sym (none-behind (tableOf (walk .records)));
       }
 
-  -- so rk_listing, lent these, writes the listing of that walk
-  pub host-lists : (κs : Lfts 4) (a : Dens κs listing-kinds.ps) (y : resT listing-kinds.r κs .Denot) (s : AtExit (endedOf 4 listing-kinds.ps listing-kinds.r) κs) → listing.Post κs a y s
-      → Lends (heardBy f) (k .ledger) (length (walk .records) ∷ getD (k .state) 4 0 ∷ getD (k .state) 5 0 ∷ []) (now (a .0)) (a .1 .0) (a .1 .1 .0) (now (a .1 .1 .1 .0))
-      → length (textOf walk) ≤ length (now (a .1 .1 .1 .1 .0)) → HostListed (textOf walk) (now (a .1 .1 .1 .1 .0)) y (now (s .1 .1 .1 .1 .0)) (now (s .1 .1 .1 .1 .1 .0))
-  host-lists κs a y s p l room = rk-listing-lists (taken calls) host-walked κs a y s p l room
-
-  -- which is document 01's text, where what was taken are bytes
+  -- the listing of that walk is document 01's of the bytes taken
   taken-fits : length (taken calls) < 256 ^ 8
   taken-fits = omega (arith, every-cutting calls .places, rules-facts (after calls) (every-cutting calls .rules) .places)
 
-  pub host-text : Bytes (taken calls) → textOf walk ≡ listedOf (taken calls)
-  unfolding textOf listedOf
-  host-text bytes = listing-table (walk .records) _ (walk-fits (taken calls) bytes taken-fits)
+  pub host-text : textOf walk ≡ listedOf (taken calls)
+  host-text = text-listed (taken calls) (followed-bytes f) taken-fits
+
+  -- so rk_listing, lent these, writes it
+  pub host-lists : (κs : Lfts 4) (a : Dens κs listing-kinds.ps) (y : resT listing-kinds.r κs .Denot) (s : AtExit (endedOf 4 listing-kinds.ps listing-kinds.r) κs) → listing.Post κs a y s
+      → Lends (heardBy f) (k .ledger) (length (walk .records) ∷ getD (k .state) 4 0 ∷ getD (k .state) 5 0 ∷ []) (now (a .0)) (a .1 .0) (a .1 .1 .0) (now (a .1 .1 .1 .0))
+      → length (listedOf (taken calls)) ≤ length (now (a .1 .1 .1 .1 .0)) → HostListed (listedOf (taken calls)) (now (a .1 .1 .1 .1 .0)) y (now (s .1 .1 .1 .1 .0)) (now (s .1 .1 .1 .1 .1 .0))
+  host-lists κs a y s p l room = rw (← host-text) (rk-listing-lists (taken calls) host-walked κs a y s p l (rw host-text room))

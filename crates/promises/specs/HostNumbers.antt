@@ -129,7 +129,7 @@ rk-stream-open-numbered κs a x s p = done (p .0)
 
 pub rk-stream-feed-numbered : Promises _ rk-stream-feed-kinds.ps rk-stream-feed-kinds.r rk-stream-feed.Post (λ κs a x s. Numbered x)
 rk-stream-feed-numbered κs a x s p =
-    rw (p .0 .answered) (calling-stream (streamIn (lent (now (a .0)) (now (a .1 .0)) (now (a .1 .1 .0)))) (stream-calls.Feed (now (a .1 .1 .1 .0))) (length (now (a .1 .1 .1 .1 .0))))
+    rw (p .0 .0 .answered) (calling-stream (streamIn (lent (now (a .0)) (now (a .1 .0)) (now (a .1 .1 .0)))) (stream-calls.Feed (now (a .1 .1 .1 .0))) (length (now (a .1 .1 .1 .1 .0))))
 
 pub rk-stream-close-numbered : Promises _ rk-stream-close-kinds.ps rk-stream-close-kinds.r rk-stream-close.Post (λ κs a x s. Numbered x)
 rk-stream-close-numbered κs a x s p =

@@ -7,3 +7,4 @@ pub mod Parts
 pub mod Pieces
 pub mod Arriving
 pub mod HostHeard
+pub mod CheckedByPieces

@@ -48,13 +48,13 @@ refused-both st kept store closing cut d d′ r p w =
 -- what is lent: the store, of 8,191 bytes, and the buffer behind it
 
 pub feed-one-answer : OneAnswer _ feed-kinds.ps feed-kinds.r feed.Post
-feed-one-answer κs a x y s t p q = answered-one x y _ _ (p .0 ∙ sym (q .0)) (p .1 .0 ∙ sym (q .1 .0))
+feed-one-answer κs a x y s t p q = answered-one x y _ _ (p .0 .0 ∙ sym (q .0 .0)) (p .0 .1 .0 ∙ sym (q .0 .1 .0))
 
 pub feed-one-buffer : OneBuffer _ feed-kinds.ps feed-kinds.r feed.Post (λ κs s. now (s .1 .0) ++ now (s .1 .1 .1 .0))
-feed-one-buffer κs a x y s t p q = ap₂ _++_ (ap (λ (z : Stream). z .kept) (p .1 .0 ∙ sym (q .1 .0))) (p .1 .1 ∙ sym (q .1 .1))
+feed-one-buffer κs a x y s t p q = ap₂ _++_ (ap (λ (z : Stream). z .kept) (p .0 .1 .0 ∙ sym (q .0 .1 .0))) (p .0 .1 .1 ∙ sym (q .0 .1 .1))
 
 pub feed-refused-keeps : RefusedKeeps _ feed-kinds.ps feed-kinds.r feed.Post (λ κs x. x .answer ≡ Fine → ⊥) (λ κs a. now (a .1 .0) ++ now (a .1 .1 .1 .0)) (λ κs s. now (s .1 .0) ++ now (s .1 .1 .1 .0))
-feed-refused-keeps κs a x s p w = refused-both (a .0) _ _ false (now (a .1 .1 .0)) _ _ x p w
+feed-refused-keeps κs a x s p w = refused-both (a .0) _ _ false (now (a .1 .1 .0)) _ _ x (p .0) w
 
 pub close-one-answer : OneAnswer _ close-kinds.ps close-kinds.r close.Post
 close-one-answer κs a x y s t p q = answered-one x y _ _ (p .0 ∙ sym (q .0)) (p .1 .0 ∙ sym (q .1 .0))

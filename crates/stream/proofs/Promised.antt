@@ -4,6 +4,7 @@ use Prim.Native.Nat.{ℕ, _*_, _≤_}
 use mathlib.Core.Path.{_≡_, refl, sym, ap, ap₂, _∙_}
 use mathlib.Core.Bool.{Bool, true, false}
 use mathlib.Core.List.{List, [], _++_}
+use native.Mathlib.Omega.{arith}
 use borrow.Fn.Kinds.{Dens, endedOf, resT}
 use contract.Lifetimes.{Lfts}
 use denote.Ref.{now}
@@ -38,11 +39,11 @@ use Rattle.stream.proofs.close.Kinds as close-kinds
 
 pub feed-goes-on : {calls : Calls} (κs : Lfts 3) (a : Dens κs feed-kinds.ps) (x : resT feed-kinds.r κs .Denot) (s : AtExit (endedOf 3 feed-kinds.ps feed-kinds.r) κs) → Row calls (whole (a .0) (now (a .1 .0))) → feed.Post κs a x s
     → Row (calls ▸ record { call = Feed (now (a .1 .1 .0)); room = length (now (a .1 .1 .1 .0)) }) (whole (x .next) (now (s .1 .0)))
-feed-goes-on κs a x s row p = one-more (Feed (now (a .1 .1 .0))) (now (a .1 .1 .1 .0)) (now (s .1 .1 .1 .0)) (fedOf x (now (s .1 .0))) row p
+feed-goes-on κs a x s row p = one-more (Feed (now (a .1 .1 .0))) (now (a .1 .1 .1 .0)) (now (s .1 .1 .1 .0)) (fedOf x (now (s .1 .0))) row (p .1) (p .0)
 
 pub close-goes-on : {calls : Calls} (κs : Lfts 2) (a : Dens κs close-kinds.ps) (x : resT close-kinds.r κs .Denot) (s : AtExit (endedOf 2 close-kinds.ps close-kinds.r) κs) → Row calls (whole (a .0) (now (a .1 .0))) → close.Post κs a x s
     → Row (calls ▸ record { call = Close; room = length (now (a .1 .1 .0)) }) (whole (x .next) (now (s .1 .0)))
-close-goes-on κs a x s row p = one-more Close (now (a .1 .1 .0)) (now (s .1 .1 .0)) (fedOf x (now (s .1 .0))) row p
+close-goes-on κs a x s row p = one-more Close (now (a .1 .1 .0)) (now (s .1 .1 .0)) (fedOf x (now (s .1 .0))) row (λ i. omega arith) p
 
 -- ---- what a call says it wrote, and what stands in its buffer
 
@@ -61,7 +62,7 @@ module _ (x : Stream) (call : Call) (d d′ : List ℕ) (r : Fed) (p : Promised 
 heard-given : {calls : Calls} {x : Stream} (row : Row calls x) → heard row ≡ tableOf (given calls)
 unfolding given joined eachOf
 heard-given (opening e) = refl
-heard-given (one-more {calls} {x} call d d′ r row p) =
+heard-given (one-more {calls} {x} call d d′ r row b p) =
     ap₂ (λ (a b : List ℕ). a ++ b) (heard-given row) (found-by x call d d′ r p _ refl ∙ rw (ran-is row))
     ∙ sym (each-joined recordOf (given calls) _)
 

@@ -153,7 +153,7 @@ unfolding frameA startOfA frameB plainOf frameOf checked readOf bodyRead numeral
     opened State.headOf State.isSeeking State.meantBy State.valueOf State.allZero State.waitsRight State.soundOf Tally.tallyWith Tally.recordAt Tally.tallyAfter Tally.ledgerRight Tally.tallyRight Calls.givenOf Calls.behindOf Calls.numberFor Calls.answerFor Calls.nextFor Calls.leavesFor Cuts.feedOf Waits.waits Waits.ranOf
 feed-rules-out =
     ruled (beside papers (beside lists lists)) (λ (i : Stream × (List ℕ × List ℕ)). shown (answerTo (i .0) (Feed (i .1 .0)) (length (i .1 .1))) (nextOf (i .0) (Feed (i .1 .0)) (length (i .1 .1))) (leaves (i .0) (Feed (i .1 .0)) (i .1 .1)))
-    (λ c p. both p)
+    (λ c p. both (p .0))
     _
     refl
 

@@ -6,7 +6,7 @@ ghost use mathlib.Core.List.{List, _++_};
 ghost use Prim.Native.Nat.{ℕ, _+_, _-_, _*_, _/_, _≤_, _<_, _^_};
 ghost use lib.Dec.{leb};
 ghost use lib.ListN.{length, take, drop, replicate};
-ghost use Rattle.octets.specs.Octets.{laid};
+ghost use Rattle.octets.specs.Octets.{laid, Bytes};
 ghost use Rattle.walk_spec.specs.Tables.{writtenFrom};
 ghost use Rattle.stream_spec.specs.Tally.{tallyWith, tallyRight, ledgerRight};
 ghost use Rattle.reading.specs.Seen.{seenOf};
@@ -432,9 +432,10 @@ fn call(st: Standing, kept: &mut [u8], cut: &[u8], closing: bool, records: &mut 
 
 // One more cut, perhaps of no bytes: the records that it decides. Refusals 13, 19, 29, 8.
 pub fn feed(st: Standing, kept: &mut [u8; 8191], cut: &[u8], records: &mut [u8]) -> Answered
-    ensures { λ r. ⌜ (fedPaper (fedOf r (now (kept .exit))) ≡ answerTo (whole st (now (kept .entry))) (Feed (now (cut .entry))) (length (now (records .entry))))
+    ensures { λ r. ⌜ ((fedPaper (fedOf r (now (kept .exit))) ≡ answerTo (whole st (now (kept .entry))) (Feed (now (cut .entry))) (length (now (records .entry))))
         × ((fedOf r (now (kept .exit)) .stream ≡ nextOf (whole st (now (kept .entry))) (Feed (now (cut .entry))) (length (now (records .entry))))
-        × (now (records .exit) ≡ leaves (whole st (now (kept .entry))) (Feed (now (cut .entry))) (now (records .entry)))) ⌝ }
+        × (now (records .exit) ≡ leaves (whole st (now (kept .entry))) (Feed (now (cut .entry))) (now (records .entry)))))
+        × Bytes (now (cut .entry)) ⌝ }
 {
     call(st, kept, cut, false, records)
 }

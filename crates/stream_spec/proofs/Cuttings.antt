@@ -1,7 +1,7 @@
 -- CR 1: every row of calls, refusals among them, gives what the closed walk gives over the joined
 -- bytes of the calls not refused. It rests on frame laws 1 to 3 (`seen-kept`, `seen-fits`,
 -- `seen-enough`), not on the text of reading. Assumes nothing.
-use Prim.Native.Nat.{ℕ, zero, _+_, _-_, _/_, _≤_, _<_}
+use Prim.Native.Nat.{ℕ, zero, suc, _+_, _-_, _/_, _≤_, _<_}
 use mathlib.Core.Path.{_≡_, refl, sym, ap, ap₂, _∙_}
 use mathlib.Core.Bool.{Bool, true, false, not}
 use mathlib.Core.Logic.{⊎-elim}
@@ -13,6 +13,7 @@ use lib.ListN.{length, drop, replicate, length-append}
 use borrow.Author.Tests.{eqb-true, lt-leb, le-leb}
 use Rattle.terms.specs.Paper.{pick}
 use Rattle.terms.specs.Cases.{two, less}
+use Rattle.octets.specs.Octets.{Bytes}
 use Rattle.ledger_spec.specs.State.{orElse, Book}
 use Rattle.ledger_spec.specs.Calls.{fresh}
 use Rattle.ledger_spec.proofs.Steps.{fresh-rules}
@@ -338,4 +339,19 @@ one-state calls others t e = same calls .stream ∙ rw (t, e) (sym (same others 
 
 pub ran-is : {calls : Calls} {x : Stream} → Row calls x → x ≡ after calls
 ran-is (opening e) = e
-ran-is (one-more {calls} {x} call d d′ r row p) = p .1 .0 ∙ ap (λ (y : Stream). nextOf y call (length d)) (ran-is row)
+ran-is (one-more {calls} {x} call d d′ r row b p) = p .1 .0 ∙ ap (λ (y : Stream). nextOf y call (length d)) (ran-is row)
+
+-- bytes behind bytes are bytes, and what is taken are cuts of bytes, joined
+bytes-behind : (s t : List ℕ) → Bytes s → Bytes t → Bytes (s ++ t)
+bytes-behind [] t p q i = q i
+bytes-behind (x ∷ xs) t p q zero = p zero
+bytes-behind (x ∷ xs) t p q (suc i) = bytes-behind xs t (λ j. p (suc j)) q i
+
+pub bytes-more : (s cut : List ℕ) (t : Bool) → Bytes s → Bytes cut → Bytes (s ++ pick t cut [])
+bytes-more s cut true p q = bytes-behind s cut p q
+bytes-more s cut false p q = bytes-behind s [] p (λ i. omega arith)
+
+pub ran-bytes : {calls : Calls} {x : Stream} → Row calls x → Bytes (taken calls)
+unfolding taken
+ran-bytes (opening e) = λ i. omega arith
+ran-bytes (one-more {calls} {x} call d d′ r row b p) = bytes-more (taken calls) (cutOf call) (accepted calls (record { call = call; room = length d })) (ran-bytes row) b

@@ -8,6 +8,7 @@ use mathlib.Core.List.{List, [], _++_}
 use lib.Dec.{eqb}
 use lib.ListN.{length, take}
 use Rattle.terms.specs.Paper.{pick}
+use Rattle.octets.specs.Octets.{Bytes}
 use Rattle.ledger_spec.specs.State.{orElse}
 use Rattle.record.specs.declared.Record.{Record}
 use Rattle.stream_spec.specs.declared.Stream.{Stream}
@@ -51,14 +52,15 @@ unfoldable pub ended : Calls → Bool
 ended none = false
 ended (calls ▸ a) = orElse (ended calls) (accepted calls a && closes (a .call))
 
--- x comes of calls of the code on a stream that it opened, each meeting its promise
+-- x comes of calls of the code on a stream that it opened, each meeting its promise, by which a cut
+-- has bytes alone
 pub data Row : Calls → Stream → Type 0 where
   opening : {x : Stream} → x ≡ opened → Row none x
-  one-more : {calls : Calls} {x : Stream} (call : Call) (d d′ : List ℕ) (r : Fed) → Row calls x → Promised x (closes call) (cutOf call) d d′ r
+  one-more : {calls : Calls} {x : Stream} (call : Call) (d d′ : List ℕ) (r : Fed) → Row calls x → Bytes (cutOf call) → Promised x (closes call) (cutOf call) d d′ r
       → Row (calls ▸ record { call = call; room = length d }) (r .stream)
 
 -- what a host then has, if it sets aside what each call says it wrote: the first 64 bytes of its
 -- buffer for each record, joined
 abbrev pub heard : {calls : Calls} {x : Stream} → Row calls x → List ℕ
 heard (opening e) = []
-heard (one-more call d d′ r row p) = heard row ++ take (64 * r .records) d′
+heard (one-more call d d′ r row b p) = heard row ++ take (64 * r .records) d′

@@ -18,7 +18,7 @@ same-length : tie.Need-same-length
 same-length c = search needs
 
 returns : tie.Need-returns
-returns c = wash-settled _ (Feed _) _ _ (c .before .before .before .before .before .before .before .clean-cut .result) _ (c .before .before .before .before .before .before .before .before .before .stream-in .ensures) (c .before .before .before .before .before .before .before .clean-cut .ensures) (c .settle-washed .ensures)
+returns c = (wash-settled _ (Feed _) _ _ (c .before .before .before .before .before .before .before .clean-cut .result) _ (c .before .before .before .before .before .before .before .before .before .stream-in .ensures) (c .before .before .before .before .before .before .before .clean-cut .ensures) (c .settle-washed .ensures), λ i. c .before .before .before .before .before .before .before .before .before .before .before .before .before .before .shared-slice-known .given i .fits)
 
 pub rk-stream-clean-spec : {M : Type 1} → statement M
 rk-stream-clean-spec =

@@ -10,7 +10,7 @@ same-length : tie.Need-same-length
 same-length c = search needs
 
 returns : tie.Need-returns
-returns c = c .before .before .call .ensures
+returns c = (c .before .before .call .ensures, λ i. c .before .before .before .before .before .before .shared-slice-known .given i .fits)
 
 pub feed-spec : {M : Type 1} → statement M
 feed-spec = tie.close (tie.spec call-requires same-length returns)
