@@ -1,4 +1,5 @@
 pub mod TwoCaptures
 pub mod TwoCapturesHold
 pub mod TwoCapturesCalls
+pub mod TwoCapturesArriving
 pub mod Witness

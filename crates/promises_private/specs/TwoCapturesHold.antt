@@ -174,7 +174,7 @@ module _ (s t : List ℕ) (c : TwoCaptures s t) where
       ∙ seen-alike-sights (c .frames) (c .others) a b (seen-pairwise (c .frames) (c .others) (c .pairs))
       ∙ ap sights (sym (c .second-is))
 
-  same-long : length s ≡ length t
+  pub same-long : length s ≡ length t
   same-long = rw (c .first-is, c .second-is) (long-pairwise (c .frames) (c .others) (c .pairs))
 
   pub same-scrubbed : cleanOf s ≡ cleanOf t

@@ -68,7 +68,7 @@ below-by w b x xs e true = ap (recordBy b x ∷_) e
 below-by w b x xs e false = refl
 
 -- records are cut off where their readings are
-below-records : (w : ℕ) (b : Book) (xs : List (Sight Seen)) → accountOf recordBy bookBy b (below w xs) .records ≡ recordsBelow w (accountOf recordBy bookBy b xs .records)
+pub below-records : (w : ℕ) (b : Book) (xs : List (Sight Seen)) → accountOf recordBy bookBy b (below w xs) .records ≡ recordsBelow w (accountOf recordBy bookBy b xs .records)
 unfolding accountOf below recordsBelow
 below-records w b [] = refl
 below-records w b (x ∷ xs) =
