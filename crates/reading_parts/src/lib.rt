@@ -65,6 +65,7 @@ fn is_cut(begun: &[u8], first: usize, second: usize) -> bool
     second < wanted - first
 }
 
+// How many bytes the frame wants that a part begins: 24, and with its header all of it.
 fn wanted_by(begun: &[u8]) -> usize
     ensures { λ r. ⌜ r ≡ wantedBy (now (begun .entry)) ⌝ }
 {
