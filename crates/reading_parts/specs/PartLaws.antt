@@ -184,7 +184,7 @@ read-still k s (inr c) l = cut-still k s c l
 blank-one : (s : List ℕ) → readOf s .number ≡ 1 → seenOf s ≡ blank (refusalOf 1)
 blank-one s z = seen-blank s (λ (e : readOf s .number ≡ 0). omega arith) ∙ ap (λ (x : ℕ). blank (refusalOf x)) z
 
--- where bytes are missing for it, and all has no more than it wants, they are missing for all
+-- where bytes are missing for it, and all has fewer than it wants, they are missing for all
 seen-still : (k : ℕ) (h s : List ℕ) → h ≡ take k s → seenNumber (seenOf h) ≡ 1 → length s < wantedBy h → seenOf h ≡ seenOf s
 seen-still k h s e z l =
     let z′ : readOf h .number ≡ 1 = sym (seen-answer h) ∙ z in

@@ -6,10 +6,9 @@ ghost use Prim.Native.Nat.{_+_, _*_, _≤_, min};
 ghost use lib.Dec.{eqb, ltb};
 ghost use lib.ListN.{length, take, drop};
 ghost use Rattle.octets.specs.Octets.{be, sum8};
-ghost use Rattle.rules.specs.Table.{kindOf};
 ghost use Rattle.rules.specs.Fields.{entryOk, entriesOk, m102Ok, fieldsOk};
 ghost use Rattle.rules.specs.Sizes.{Wide};
-ghost use Rattle.frame_spec.specs.Frame.{msgType, bodyLength, body};
+ghost use Rattle.frame_spec.specs.Frame.{bodyLength, body};
 ghost use Rattle.reading.specs.Seen.{seenOf, seenNumber};
 ghost use Rattle.reading_parts.specs.Parts.{wantedBy, Gathers, Long, isM102};
 use reading::Seen;
@@ -65,6 +64,7 @@ fn is_cut(begun: &[u8], first: usize, second: usize) -> bool
     second < wanted - first
 }
 
+// How many bytes the frame wants that a part begins: 24, and with its header all of it.
 fn wanted_by(begun: &[u8]) -> usize
     ensures { λ r. ⌜ r ≡ wantedBy (now (begun .entry)) ⌝ }
 {
