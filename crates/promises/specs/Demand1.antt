@@ -163,7 +163,9 @@ fields-answers : Named
 fields-answers =
     let judge-one-answer = rules.judge-one-answer in
     let fields-ok-one-answer = rules.fields-ok-one-answer in
+    let m102-fixed-ok-one-answer = rules.m102-fixed-ok-one-answer in
     let entry-size-one-answer = rules.entry-size-one-answer in
+    let entry-ok-one-answer = rules.entry-ok-one-answer in
     named
 
 -- frame
@@ -253,6 +255,7 @@ view-answers =
 -- reading
 seen-answers : Named
 seen-answers =
+    let blank-one-answer = reading.blank-one-answer in
     let see-one-answer = reading.see-one-answer in
     named
 

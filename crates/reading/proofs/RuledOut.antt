@@ -1,5 +1,5 @@
--- Wrong answers that the promise of `see` rules out, as a table of what is given and what is then
--- wrong. Assumes nothing.
+-- For each public function: wrong answers that its promise rules out, as tables of what is given
+-- and what is then wrong. Assumes nothing.
 use Prim.Native.Nat.{ℕ}
 use mathlib.Core.Path.{refl, ap}
 use mathlib.Core.List.{List, [], _∷_, _++_}
@@ -7,6 +7,8 @@ use denote.Ref.{now}
 use lib.ListN.{drop, replicate}
 use Rattle.terms.specs.RuledOut.{Row, _never_, _only_, Kept, RulesOut, ruled, lists}
 use Rattle.terms.specs.Refusals.{refusalOf}
+use Rattle.terms.specs.declared.Refusal.{Refusal}
+use Rattle.terms.specs.declared.Refusal.the-variants.{Sum, Field}
 use Rattle.octets.specs.Octets.{numeral, digitsOf, sum8, sumOf}
 use Rattle.calendar.specs.Calendar.{leap, daysIn, realParts, realTime}
 use Rattle.rules.specs.Table.{kindOf, suits, measureOf}
@@ -16,14 +18,27 @@ use Rattle.frame_spec.specs.Write.{plainOf, frameOf}
 use Rattle.frame_spec.specs.Examples.{resend}
 use Rattle.frame_view.specs.View.{viewOf}
 use Rattle.reading.specs.declared.Seen.{Seen}
-use Rattle.reading.specs.Seen.{seenOf, seenNumber}
+use Rattle.reading.specs.Seen.{blank, seenOf, seenNumber}
+use Rattle.reading.proofs.blank.Reads as blanked
+use Rattle.reading.proofs.blank.Kinds as blanked-kinds
 use Rattle.reading.proofs.see.Reads as see
 use Rattle.reading.proofs.see.Kinds as see-kinds
 
 -- all that is seen: answer, MsgType, MsgSeqNum, channel, tick number, resend status,
 -- BodyLength, length
-abbrev shown : Seen → List ℕ
+abbrev pub shown : Seen → List ℕ
 shown x = seenNumber x ∷ x .«msg_type» ∷ x .seq .0 ∷ x .channel .0 ∷ x .tick .0 ∷ x .status ∷ x .«body_len» ∷ x .size ∷ []
+
+-- a refusal
+abbrev pub blank-wrong : List (Row Refusal (List ℕ))
+blank-wrong =
+    Sum only (5 ∷ 0x20202020 ∷ 0 ∷ 0 ∷ 0 ∷ 0 ∷ 0 ∷ 0 ∷ [])
+    ∷ Field never (5 ∷ 0x20202020 ∷ 0 ∷ 0 ∷ 0 ∷ 0 ∷ 0 ∷ 0 ∷ [])  -- one number for every refusal
+    ∷ Field never (6 ∷ 0 ∷ 0 ∷ 0 ∷ 0 ∷ 0 ∷ 0 ∷ 0 ∷ [])  -- no spaces for the type
+    ∷ []
+
+pub blank-rules-out : RulesOut (Kept _ blanked-kinds.ps blanked-kinds.r blanked.Post) (λ c. c .args .0) (λ c. shown (c .result)) blank-wrong
+blank-rules-out = ruled lists (λ (w : Refusal). shown (blank w)) (λ c p. ap shown p) _ refl
 
 -- bytes and a place
 abbrev pub see-wrong : List (Row (List ℕ × ℕ) (List ℕ))

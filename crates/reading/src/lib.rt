@@ -22,8 +22,8 @@ pub struct Seen {
     pub size: usize,
 }
 
-// A refused reading: why, four spaces, and zeros. No byte of it is handed on.
-fn blank(why: Refusal) -> Seen
+// What a refused reading shows: why, four spaces, and zeros. No byte of it is handed on.
+pub fn blank(why: Refusal) -> Seen
     ensures { λ r. ⌜ r ≡ blank why ⌝ }
 {
     Seen {

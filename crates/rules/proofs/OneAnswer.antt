@@ -15,6 +15,10 @@ use Rattle.rules.proofs.suits_tail.Reads as suits-tail
 use Rattle.rules.proofs.suits_tail.Kinds as suits-tail-kinds
 use Rattle.rules.proofs.fields_ok.Reads as fields-ok
 use Rattle.rules.proofs.fields_ok.Kinds as fields-ok-kinds
+use Rattle.rules.proofs.m102_fixed_ok.Reads as m102-fixed-ok
+use Rattle.rules.proofs.m102_fixed_ok.Kinds as m102-fixed-ok-kinds
+use Rattle.rules.proofs.entry_ok.Reads as entry-ok
+use Rattle.rules.proofs.entry_ok.Kinds as entry-ok-kinds
 use Rattle.rules.proofs.entry_size.Reads as entry-size
 use Rattle.rules.proofs.entry_size.Kinds as entry-size-kinds
 use Rattle.rules.proofs.judge.Reads as judge
@@ -43,3 +47,9 @@ fields-ok-one-answer κs a x y s t p q = p ∙ sym q
 
 pub entry-size-one-answer : OneAnswer _ entry-size-kinds.ps entry-size-kinds.r entry-size.Post
 entry-size-one-answer κs a x y s t p q = p ∙ sym q
+
+pub m102-fixed-ok-one-answer : OneAnswer _ m102-fixed-ok-kinds.ps m102-fixed-ok-kinds.r m102-fixed-ok.Post
+m102-fixed-ok-one-answer κs a x y s t p q = p ∙ sym q
+
+pub entry-ok-one-answer : OneAnswer _ entry-ok-kinds.ps entry-ok-kinds.r entry-ok.Post
+entry-ok-one-answer κs a x y s t p q = p ∙ sym q

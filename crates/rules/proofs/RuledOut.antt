@@ -3,14 +3,14 @@
 use Prim.Native.Nat.{ℕ}
 use mathlib.Core.Path.{refl, ap}
 use mathlib.Core.Bool.{Bool, true, false}
-use mathlib.Core.List.{List, [], _∷_}
+use mathlib.Core.List.{List, [], _∷_, _++_}
 use Rattle.terms.specs.Paper.{Paper, answer, refusal}
 use Rattle.terms.specs.RuledOut.{Row, _never_, _only_, Kept, RulesOut, ruled, numbers, bools, papers}
 use Rattle.rules.specs.declared.Kind.{Kind}
 use Rattle.rules.specs.declared.Kind.the-variants.{S003, M101, M102, M201, Unknown, S001, P001, P002}
 use Rattle.rules.specs.declared.Layout.{Layout}
 use Rattle.rules.specs.declared.Layout.the-variants.{Order, Trade, Other}
-use Rattle.rules.specs.Fields.{layoutOf, suitsTail, s001Ok, p001Ok, p002Ok, tailOk, m201Ok, m102ValuesOk, entrySize, entryOk, entriesOk, m102Ok, fieldsOk, judgeOf}
+use Rattle.rules.specs.Fields.{layoutOf, suitsTail, s001Ok, p001Ok, p002Ok, tailOk, m201Ok, m102ValuesOk, m102FixedOk, entrySize, entryOk, entriesOk, m102Ok, fieldsOk, judgeOf}
 use Rattle.rules.specs.Table.{kindPaper, kindOf, typeOf, known, suits, measureOf}
 use Rattle.terms.specs.Verdicts.{verdictNumber}
 use Rattle.rules.proofs.kind_of.Reads as kind-of
@@ -24,12 +24,16 @@ use Rattle.rules.proofs.layout_of.Kinds as layout-of-kinds
 use Rattle.rules.proofs.suits_tail.Reads as suits-tail
 use Rattle.rules.proofs.suits_tail.Kinds as suits-tail-kinds
 use denote.Ref.{now}
-use lib.ListN.{replicate}
-use Rattle.octets.specs.Octets.{numeral, digitsOf}
+use lib.ListN.{take, replicate}
+use Rattle.octets.specs.Octets.{numeral, digitsOf, bytesOf}
 use Rattle.calendar.specs.Calendar.{leap, daysIn, realParts, realTime}
 use Rattle.rules.specs.Bodies.{channelBody, resendBody, snapshotBody, tickOn}
 use Rattle.rules.proofs.fields_ok.Reads as fields-ok
 use Rattle.rules.proofs.fields_ok.Kinds as fields-ok-kinds
+use Rattle.rules.proofs.m102_fixed_ok.Reads as m102-fixed-ok
+use Rattle.rules.proofs.m102_fixed_ok.Kinds as m102-fixed-ok-kinds
+use Rattle.rules.proofs.entry_ok.Reads as entry-ok
+use Rattle.rules.proofs.entry_ok.Kinds as entry-ok-kinds
 use Rattle.rules.proofs.entry_size.Reads as entry-size
 use Rattle.rules.proofs.entry_size.Kinds as entry-size-kinds
 use Rattle.rules.proofs.judge.Reads as judge
@@ -163,3 +167,35 @@ entry-size-wrong =
 pub entry-size-rules-out : RulesOut (Kept _ entry-size-kinds.ps entry-size-kinds.r entry-size.Post) (λ c. c .args .0) (λ c. c .result) entry-size-wrong
 unfolding entrySize
 entry-size-rules-out = ruled numbers entrySize (λ c p. p) _ refl
+
+-- a body
+abbrev pub m102-fixed-ok-wrong : List (Row (List ℕ) Bool)
+m102-fixed-ok-wrong =
+    snapshotBody 1 0x4D44303031 1 2 only true
+    ∷ snapshotBody 1 0x4D44333031 1 2 never true  -- SecurityType 1 with MD301
+    ∷ snapshotBody 1 0x4D44303031 1 10000000000000 only true  -- an entry judged
+    ∷ take 71 (snapshotBody 1 0x4D44303031 1 2) only true  -- refused for its length
+    ∷ [] only false  -- fields that are not there taken for right
+    ∷ []
+
+pub m102-fixed-ok-rules-out : RulesOut (Kept _ m102-fixed-ok-kinds.ps m102-fixed-ok-kinds.r m102-fixed-ok.Post) (λ c. now (c .args .0)) (λ c. c .result) m102-fixed-ok-wrong
+unfolding numeral digitsOf m102ValuesOk
+m102-fixed-ok-rules-out = ruled bools m102FixedOk (λ c p. p) _ refl
+
+-- an entry of type 5, by its price, size and position, and its width
+abbrev entryWith : ℕ → ℕ → ℕ → List ℕ
+entryWith price size position = bytesOf 2 5 ++ (bytesOf 8 price ++ (bytesOf 8 size ++ (position ∷ [])))
+
+abbrev pub entry-ok-wrong : List (Row (List ℕ × ℕ) Bool)
+entry-ok-wrong =
+    (entryWith 9999999999999 999999999999 99, 19) only true
+    ∷ (entryWith 10000000000000 1 1, 19) never true  -- a price of 14 digits
+    ∷ (entryWith 1 1000000000000 1, 19) never true  -- a size of 13 digits
+    ∷ (entryWith 1 1 100, 19) never true  -- a position of three digits
+    ∷ (entryWith 10000000000000 1 1, 10) never true  -- the price of a short one not judged
+    ∷ (entryWith 1 1000000000000 100, 10) only true  -- what stands behind a short one judged
+    ∷ []
+
+pub entry-ok-rules-out : RulesOut (Kept _ entry-ok-kinds.ps entry-ok-kinds.r entry-ok.Post) (λ c. (now (c .args .0), c .args .1 .0)) (λ c. c .result) entry-ok-wrong
+unfolding numeral digitsOf entryOk
+entry-ok-rules-out = ruled bools (λ (i : List ℕ × ℕ). entryOk (i .1) 0 (i .0)) (λ c p. p) _ refl

@@ -81,6 +81,10 @@ m102ValuesOk b =
     && digits 16 (be 8 47 b))
     && digits 16 (be 8 55 b)
 
+-- the fixed part, but for the number of entries
+abbrev pub m102FixedOk : List ℕ → Bool
+m102FixedOk b = pairOk (be 1 0 b) (be 5 10 b) && m102ValuesOk b
+
 -- the bytes of an entry of a stream: 10 for MD001, else 19
 unfoldable pub entrySize : ℕ → ℕ
 entrySize s = pick (eqb s (spelled "MD001")) 10 19
@@ -96,7 +100,7 @@ entriesOk (suc n) w b = entriesOk n w b && entryOk w (73 + n * w) b
 
 unfoldable pub m102Ok : List ℕ → Bool
 m102Ok b =
-    ((pairOk (be 1 0 b) (be 5 10 b) && m102ValuesOk b) && eqb (length b) (73 + be 2 71 b * entrySize (be 5 10 b)))
+    (m102FixedOk b && eqb (length b) (73 + be 2 71 b * entrySize (be 5 10 b)))
     && entriesOk (be 2 71 b) (entrySize (be 5 10 b)) b
 
 unfoldable pub fieldsOk : Kind → List ℕ → Bool

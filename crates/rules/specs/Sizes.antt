@@ -15,7 +15,7 @@ use Rattle.terms.specs.Paper.{pick}
 use Rattle.terms.specs.Cases.{less}
 use Rattle.octets.specs.Octets.{be}
 use Rattle.octets.specs.Numerals.{numeral-take, numeral-drop}
-use Rattle.rules.specs.Fields.{entrySize, entryOk, entriesOk, pairOk, m102ValuesOk, m102Ok}
+use Rattle.rules.specs.Fields.{entrySize, entryOk, entriesOk, pairOk, m102ValuesOk, m102FixedOk, m102Ok}
 
 pub entries-more : (n w : ℕ) (b : List ℕ) → entriesOk (n + 1) w b ≡ (entriesOk n w b && entryOk w (73 + n * w) b)
 unfolding entriesOk
@@ -109,11 +109,11 @@ m102-short b h =
     let k = be 2 71 b * entrySize (be 5 10 b) in
     m102-length b (ne-eqb (length b) (73 + k) (λ (e : length b ≡ 73 + k). omega (arith, e, h)))
 
-pub m102-fields : (b : List ℕ) → (pairOk (be 1 0 b) (be 5 10 b) && m102ValuesOk b) ≡ false → false ≡ m102Ok b
+pub m102-fields : (b : List ℕ) → m102FixedOk b ≡ false → false ≡ m102Ok b
 unfolding m102Ok
 m102-fields b h = rw h
 
-pub m102-entries : (b : List ℕ) (n w : ℕ) → (pairOk (be 1 0 b) (be 5 10 b) && m102ValuesOk b) ≡ true → eqb (length b) (73 + be 2 71 b * entrySize (be 5 10 b)) ≡ true → n ≡ be 2 71 b → w ≡ entrySize (be 5 10 b) → entriesOk n w b ≡ m102Ok b
+pub m102-entries : (b : List ℕ) (n w : ℕ) → m102FixedOk b ≡ true → eqb (length b) (73 + be 2 71 b * entrySize (be 5 10 b)) ≡ true → n ≡ be 2 71 b → w ≡ entrySize (be 5 10 b) → entriesOk n w b ≡ m102Ok b
 unfolding m102Ok
 m102-entries b n w h k x y = rw (h, k, x, y)
 

@@ -3,7 +3,7 @@
 ghost use mathlib.Core.Path.{_≡_};
 ghost use Rattle.rules.specs.Table.{kindPaper, typeOf, known, suits, measureOf};
 ghost use Rattle.terms.specs.Verdicts.{verdictNumber};
-ghost use Rattle.rules.specs.Fields.{layoutOf, suitsTail, s001Ok, s002Ok, p001Ok, p002Ok, tailOk, m201Ok, pairOk, m102ValuesOk, entrySize, entryOk, entriesOk, m102Ok, fieldsOk, judgeOf};
+ghost use Rattle.rules.specs.Fields.{layoutOf, suitsTail, s001Ok, s002Ok, p001Ok, p002Ok, tailOk, m201Ok, pairOk, m102ValuesOk, m102FixedOk, entrySize, entryOk, entriesOk, m102Ok, fieldsOk, judgeOf};
 use terms::Refusal;
 use terms::Verdict;
 ghost use Rattle.rules.specs.Sizes.{Entries};
@@ -262,6 +262,17 @@ fn m102_values_ok(b: &[u8]) -> bool
         & (total_value_traded < 10000000000000000)
 }
 
+// Whether the first 71 bytes of an M102 body keep their rules: its stream goes with its security
+// type, and no number is too wide. How many entries follow, and whether these are right, is not
+// asked: so the front of a body that is not at hand as a whole can be judged.
+pub fn m102_fixed_ok(b: &[u8]) -> bool
+    ensures { λ r. ⌜ r ≡ m102FixedOk (now (b .entry)) ⌝ }
+{
+    let pair = pair_ok(octets::u8_at(b, 0), octets::u40_at(b, 10));
+    let values = m102_values_ok(b);
+    pair & values
+}
+
 // How many bytes an M102 entry has whose stream's five letters are this number: 10 for MD001.
 pub fn entry_size(s: u64) -> usize
     ensures { λ r. ⌜ r ≡ entrySize s ⌝ }
@@ -269,8 +280,9 @@ pub fn entry_size(s: u64) -> usize
     if s == 0x4D44303031 { 10 } else { 19 }
 }
 
-// The widths of an entry of w bytes, lent alone. The short one has a price alone.
-fn entry_ok(e: &[u8], w: usize) -> bool
+// Whether an M102 entry of w bytes, lent alone, keeps its widths. The short one, of 10 bytes, has a
+// price alone: what stands behind it is not looked at.
+pub fn entry_ok(e: &[u8], w: usize) -> bool
     ensures { λ r. ⌜ r ≡ entryOk w 0 (now (e .entry)) ⌝ }
 {
     let price = octets::u64_at(e, 2);
@@ -313,9 +325,7 @@ fn m102_ok(b: &[u8]) -> bool
     if b.len() != 73 + n * w {
         return false;
     }
-    let pair = pair_ok(octets::u8_at(b, 0), stream);
-    let values = m102_values_ok(b);
-    if !(pair & values) {
+    if !m102_fixed_ok(b) {
         return false;
     }
     if w == 10 {

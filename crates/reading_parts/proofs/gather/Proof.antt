@@ -2,7 +2,7 @@
 use native.Mathlib.Omega.{arith}
 use mathlib.Core.Path.{sym}
 use lib.Seq.{length-take-le}
-use Rattle.reading_parts.specs.PartLaws.{gathered-inside, gathered}
+use Rattle.reading_parts.specs.PartLaws.{gathered}
 use borrow.Author.Needs.{needs}
 use Rattle.reading_parts.proofs.gather.Statement.{statement}
 use Rattle.reading_parts.proofs.gather.Tie as tie
@@ -39,10 +39,8 @@ returns c =
     let w = c .before .before in
     let l = w .before .before .before .before .before in
     let b = l .before .before .before in
-    let a = b .before in (
-      gathered-inside _ _ _ _ _ _ _ (a .lower .ensures) (b .lower2 .ensures) (l .lay .ensures .1) (w .lay2 .ensures .1),
-      gathered _ _ _ _ _ _ _ (a .lower .ensures) (b .lower2 .ensures) (l .lay .ensures .1) (w .lay2 .ensures .1),
-    )
+    let a = b .before in
+    gathered _ _ _ _ _ _ _ (a .lower .ensures) (b .lower2 .ensures) (l .lay .ensures .1) (w .lay2 .ensures .1)
 
 pub gather-spec : {M : Type 1} → statement M
 gather-spec =

@@ -3,14 +3,14 @@
 use native.Mathlib.Omega.{arith}
 use Prim.Native.Nat.{ℕ, _+_, _*_, _≤_}
 use mathlib.Core.Path.{_≡_, refl, sym, ap, _∙_}
-use mathlib.Core.Bool.{true, false, _&&_}
+use mathlib.Core.Bool.{true, false}
 use mathlib.Core.Logic.{inl, inr}
 use lib.Dec.{eqb}
 use lib.ListN.{length}
 use borrow.Author.Tests.{ne-eqb, eq-eqb, not-true, not-false}
 use Rattle.octets.specs.Octets.{be}
-use Rattle.rules.specs.Sizes.{size-small, size-wide, entries-small, wide-other, m102-length, m102-short, same-whole, same-both, m102-fields, m102-entries}
-use Rattle.rules.specs.Fields.{m102Ok, pairOk, m102ValuesOk, entrySize, entriesOk}
+use Rattle.rules.specs.Sizes.{size-small, size-wide, entries-small, wide-other, m102-length, m102-short, same-whole, m102-fields, m102-entries}
+use Rattle.rules.specs.Fields.{m102Ok, entrySize, entriesOk}
 use borrow.Author.Needs.{needs}
 use Rattle.rules.proofs.m102_ok.Statement.{statement}
 use Rattle.rules.proofs.m102_ok.Tie as tie
@@ -28,26 +28,22 @@ width c = c .entry-size .ensures ∙ ap entrySize (c .before .before .u40-at .en
 whole : (c : tie.After-entry-size) → 73 + c .before .u16-at .result * c .entry-size .result ≡ 73 + be 2 71 (start c .args .b .now) * entrySize (be 5 10 (start c .args .b .now))
 whole c = same-whole _ _ _ _ (c .before .u16-at .ensures) (width c)
 
--- the pair and the values
-both : (c : tie.After-m102-values-ok) → (c .before .pair-ok .result && c .m102-values-ok .result) ≡ (pairOk (be 1 0 (start (c .before .before .before .before) .args .b .now)) (be 5 10 (start (c .before .before .before .before) .args .b .now)) && m102ValuesOk (start (c .before .before .before .before) .args .b .now))
-both c = same-both _ _ _ _ _ _ _ (c .before .pair-ok .ensures) (c .before .before .u8-at .ensures) (c .before .before .before .before .before .before .u40-at .ensures) (c .m102-values-ok .ensures)
-
 -- behind all tests
-passed : (c : tie.Else3) → eqb (length (start (c .before .before .before .before .before) .args .b .now)) (73 + be 2 71 (start (c .before .before .before .before .before) .args .b .now) * entrySize (be 5 10 (start (c .before .before .before .before .before) .args .b .now))) ≡ true
-passed c = eq-eqb _ _ (c .before .before .before .before .if2 .left ∙ whole (c .before .before .before .before .before))
+passed : (c : tie.Else3) → eqb (length (start (c .before .before .before) .args .b .now)) (73 + be 2 71 (start (c .before .before .before) .args .b .now) * entrySize (be 5 10 (start (c .before .before .before) .args .b .now))) ≡ true
+passed c = eq-eqb _ _ (c .before .before .if2 .left ∙ whole (c .before .before .before))
 
 -- where an entry has w bytes they fill the body
-filled : (c : tie.Else3) (w : ℕ) → c .before .before .before .before .before .entry-size .result ≡ w → length (start (c .before .before .before .before .before) .args .b .now) ≡ 73 + c .before .before .before .before .before .before .u16-at .result * w
-filled c w e = c .before .before .before .before .if2 .left ∙ ap (λ (x : ℕ). 73 + c .before .before .before .before .before .before .u16-at .result * x) e
+filled : (c : tie.Else3) (w : ℕ) → c .before .before .before .entry-size .result ≡ w → length (start (c .before .before .before) .args .b .now) ≡ 73 + c .before .before .before .before .u16-at .result * w
+filled c w e = c .before .before .if2 .left ∙ ap (λ (x : ℕ). 73 + c .before .before .before .before .u16-at .result * x) e
 
 -- and they alone decide
-decides : (c : tie.Else3) (w : ℕ) → c .before .before .before .before .before .entry-size .result ≡ w → entriesOk (c .before .before .before .before .before .before .u16-at .result) w (start (c .before .before .before .before .before) .args .b .now) ≡ m102Ok (start (c .before .before .before .before .before) .args .b .now)
+decides : (c : tie.Else3) (w : ℕ) → c .before .before .before .entry-size .result ≡ w → entriesOk (c .before .before .before .before .u16-at .result) w (start (c .before .before .before) .args .b .now) ≡ m102Ok (start (c .before .before .before) .args .b .now)
 decides c w e =
-    let k = c .before .before .before .before .before in
-    m102-entries _ _ w (sym (both (c .before)) ∙ not-false _ (c .if3 .left)) (passed c) (k .before .u16-at .ensures) (sym e ∙ width k)
+    let k = c .before .before .before in
+    m102-entries _ _ w (sym (c .before .m102-fixed-ok .ensures) ∙ not-false _ (c .if3 .left)) (passed c) (k .before .u16-at .ensures) (sym e ∙ width k)
 
-nineteen : (c : tie.Else4) → c .before .before .before .before .before .before .entry-size .result ≡ 19
-nineteen c = let k = c .before .before .before .before .before .before in wide-other _ (rw (k .entry-size .ensures) (size-wide _)) (c .if4 .left)
+nineteen : (c : tie.Else4) → c .before .before .before .before .entry-size .result ≡ 19
+nineteen c = let k = c .before .before .before .before in wide-other _ (rw (k .entry-size .ensures) (size-wide _)) (c .if4 .left)
 
 returns : tie.Need-returns
 returns c = m102-short _ (c .if1 .taken)
@@ -73,17 +69,11 @@ add-if2 c = omega (arith, small c)
 returns-2 : tie.Need-returns-2
 returns-2 c = m102-length _ (ne-eqb _ _ (λ e. c .if2 .taken (e ∙ sym (whole (c .before)))))
 
-u8-at-requires : tie.Need-u8-at-requires
-u8-at-requires c κs = search needs
-
-pair-ok-requires : tie.Need-pair-ok-requires
-pair-ok-requires c κs = search needs
-
-m102-values-ok-requires : tie.Need-m102-values-ok-requires
-m102-values-ok-requires c κs = search needs
+m102-fixed-ok-requires : tie.Need-m102-fixed-ok-requires
+m102-fixed-ok-requires c κs = search needs
 
 returns-3 : tie.Need-returns-3
-returns-3 c = m102-fields _ (sym (both (c .before)) ∙ not-true _ (c .if3 .taken))
+returns-3 c = m102-fields _ (sym (c .before .m102-fixed-ok .ensures) ∙ not-true _ (c .if3 .taken))
 
 entries-ok-requires : tie.Need-entries-ok-requires
 entries-ok-requires c κs = (inl refl, filled (c .before) 10 (c .if4 .taken))
@@ -109,9 +99,7 @@ m102-ok-spec =
     mul-if2
     add-if2
     returns-2
-    u8-at-requires
-    pair-ok-requires
-    m102-values-ok-requires
+    m102-fixed-ok-requires
     returns-3
     entries-ok-requires
     returns-4
