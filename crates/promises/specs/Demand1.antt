@@ -96,6 +96,7 @@ flow-answers =
 -- stream
 stream-answers : Named
 stream-answers =
+    let keep-rest-one-answer = stream.keep-rest-one-answer in
     let may-take-one-answer = stream.may-take-one-answer in
     let keep-rest-one-answer = stream.keep-rest-one-answer in
     let feed-one-answer = stream.feed-one-answer in
