@@ -5,6 +5,7 @@ use mathlib.Core.Path.{refl, ap}
 use mathlib.Core.List.{List, [], _∷_, _++_}
 use denote.Ref.{now}
 use lib.ListN.{replicate}
+use Rattle.terms.specs.Letters.{spelled}
 use Rattle.terms.specs.RuledOut.{Row, _never_, _only_, Kept, RulesOut, ruled, lists}
 use Rattle.octets.specs.Octets.{numeral, digitsOf}
 use Rattle.rules.specs.declared.Kind.{Kind}
@@ -33,12 +34,12 @@ broken-field-wrong =
     ∷ (P002, resendBody 7 6 0 0x20) only (1 ∷ 11 ∷ 8 ∷ 3 ∷ 0 ∷ [])  -- a request that ends below its start said of ApplBegSeqNum
     ∷ (P002, resendBody 0 0 1 0x41) only (1 ∷ 3 ∷ 8 ∷ 2 ∷ 0 ∷ [])  -- the place counted from the frame's front, or RejectText told
     ∷ (S001, replicate 64 0x41 ++ replicate 10 0) only (1 ∷ 64 ∷ 2 ∷ 2 ∷ 0 ∷ [])  -- a CompID told
-    ∷ (M102, snapshotBody 7 0x4D44303031 1 2) only (1 ∷ 0 ∷ 1 ∷ 0 ∷ 0 ∷ [])  -- a SecurityType that no stream has said of MDStreamID
-    ∷ (M102, snapshotBody 1 0x4D44333031 1 2) only (1 ∷ 10 ∷ 5 ∷ 4 ∷ 0 ∷ [])  -- SecurityType 1 with MD301 said of SecurityType
-    ∷ (M102, snapshotBody 1 0x4D44303031 1 10000000000000) only (1 ∷ 85 ∷ 8 ∷ 14 ∷ 2 ∷ [])  -- the second entry's price said of the first
-    ∷ (M102, snapshotBody 1 0x4D44303032 1 2) only (1 ∷ 71 ∷ 2 ∷ 12 ∷ 0 ∷ [])  -- entries of 10 bytes where 19 are due, and none told
-    ∷ (M201, tickOn 0x4D44323131 0x30 (replicate 138 0)) only (1 ∷ 45 ∷ 138 ∷ 9 ∷ 0 ∷ [])  -- a tail that does not suit told as nothing
-    ∷ (M201, tickOn 0x4D44323131 0x30 []) only (1 ∷ 45 ∷ 0 ∷ 9 ∷ 0 ∷ [])  -- an empty one too
+    ∷ (M102, snapshotBody 7 (spelled "MD001") 1 2) only (1 ∷ 0 ∷ 1 ∷ 0 ∷ 0 ∷ [])  -- a SecurityType that no stream has said of MDStreamID
+    ∷ (M102, snapshotBody 1 (spelled "MD301") 1 2) only (1 ∷ 10 ∷ 5 ∷ 4 ∷ 0 ∷ [])  -- SecurityType 1 with MD301 said of SecurityType
+    ∷ (M102, snapshotBody 1 (spelled "MD001") 1 10000000000000) only (1 ∷ 85 ∷ 8 ∷ 14 ∷ 2 ∷ [])  -- the second entry's price said of the first
+    ∷ (M102, snapshotBody 1 (spelled "MD002") 1 2) only (1 ∷ 71 ∷ 2 ∷ 12 ∷ 0 ∷ [])  -- entries of 10 bytes where 19 are due, and none told
+    ∷ (M201, tickOn (spelled "MD211") 0x30 (replicate 138 0)) only (1 ∷ 45 ∷ 138 ∷ 9 ∷ 0 ∷ [])  -- a tail that does not suit told as nothing
+    ∷ (M201, tickOn (spelled "MD211") 0x30 []) only (1 ∷ 45 ∷ 0 ∷ 9 ∷ 0 ∷ [])  -- an empty one too
     ∷ (S003, []) only nothing
     ∷ []
 

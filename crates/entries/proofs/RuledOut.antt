@@ -6,6 +6,7 @@ use mathlib.Core.Path.{_≡_, refl, ap, ap₂}
 use mathlib.Core.List.{List, [], _∷_}
 use denote.Ref.{RefT, now}
 use lib.ListN.{take}
+use Rattle.terms.specs.Letters.{spelled}
 use Rattle.terms.specs.Paper.{Paper, answer, refusal}
 use Rattle.terms.specs.RuledOut.{Row, _never_, _only_, Kept, RulesOut, ruled, numbers, lists, papers, beside}
 use Rattle.octets.specs.Octets.{numeral, digitsOf}
@@ -25,7 +26,7 @@ use Rattle.entries.proofs.step_from.Kinds as step-from-kinds
 -- a snapshot of stream MD001: the SecurityType, and two entries of 10 bytes, of types 5 and 6 and
 -- prices 7 and 8
 abbrev body : ℕ → List ℕ
-body type = snapshotBody type 0x4D44303031 7 8
+body type = snapshotBody type (spelled "MD001") 7 8
 
 -- OPENING
 

@@ -7,6 +7,7 @@ use contract.Lifetimes.{Lfts}
 use base.Fml.{GName}
 use denote.Ref.{RefT, now}
 use lib.ListN.{length, take, drop, replicate}
+use Rattle.terms.specs.Letters.{spelled}
 use Rattle.terms.specs.Paper.{Paper, answer, refusal}
 use Rattle.terms.specs.RuledOut.{Row, _never_, _only_, Kept, Allows, RulesOut, ruled, lists, papers, Left, left, lefts, left-is}
 use Rattle.octets.specs.Octets.{numeral, digitsOf, laid, sum8, sumOf}
@@ -33,7 +34,7 @@ use Rattle.frame.proofs.search.Kinds as search-kinds
 
 -- what document 01's frame A, an S003, reads as; and the body of its frame B, a P001
 abbrev readA : Paper
-readA = answer 0 (0x53303033 ∷ 0x0047FA7908DACB40 ∷ 1 ∷ 0 ∷ [])
+readA = answer 0 (spelled "S003" ∷ 0x0047FA7908DACB40 ∷ 1 ∷ 0 ∷ [])
 
 abbrev bodyB : List ℕ
 bodyB = 0x0D ∷ 0x00 ∷ 0x64 ∷ 0 ∷ 0 ∷ 0 ∷ 0 ∷ 0 ∷ 0 ∷ 0 ∷ 3 ∷ 0x4E ∷ []
@@ -54,11 +55,11 @@ read-at-wrong =
     ∷ (startOfA ++ four 0 1, 0) only refusal 4  -- 1 for the whole length before 4: an S003 header with BodyLength 1
     ∷ (take 24 frameB ++ (12 ∷ drop 25 frameB), 0) only refusal 5  -- 6 before 5: SecurityType 12, with the sum of 13
     ∷ (0xFF ∷ A, 1) only readA  -- not read at the front, whatever the place
-    ∷ (timed month13 0x53303033 [], 0) only refusal 7  -- month 13 taken
-    ∷ (timed 20260431093000000 0x53303033 [], 0) only refusal 7  -- day 31 taken in April
-    ∷ (take 27 (timed month13 0x53303033 []) ++ (0 ∷ []), 0) only refusal 5  -- 7 answered before 5
-    ∷ (timed month13 0x50303031 (channelBody 12 0x59), 0) only refusal 7  -- 6 answered before 7
-    ∷ (framed 0x50303031 (channelBody 12 0x59), 0) only refusal 6  -- 7 for every frame that is refused behind its sum
+    ∷ (timed month13 (spelled "S003") [], 0) only refusal 7  -- month 13 taken
+    ∷ (timed 20260431093000000 (spelled "S003") [], 0) only refusal 7  -- day 31 taken in April
+    ∷ (take 27 (timed month13 (spelled "S003") []) ++ (0 ∷ []), 0) only refusal 5  -- 7 answered before 5
+    ∷ (timed month13 (spelled "P001") (channelBody 12 0x59), 0) only refusal 7  -- 6 answered before 7
+    ∷ (framed (spelled "P001") (channelBody 12 0x59), 0) only refusal 6  -- 7 for every frame that is refused behind its sum
     ∷ []
 
 pub read-at-rules-out : RulesOut (Kept _ read-at-kinds.ps read-at-kinds.r read-at.Post) (λ c. (now (c .args .0), c .args .1 .0)) (λ c. readPaper (c .result)) read-at-wrong
@@ -92,16 +93,16 @@ search-rules-out = ruled papers (λ (i : List ℕ × ℕ). searchOf (i .0) (i .1
 
 -- WRITE: a message and a lent buffer; the answer, and the buffer then
 abbrev messageB : Message
-messageB = message 0x50303031 0x0047FA7908DACB40 2 bodyB
+messageB = message (spelled "P001") 0x0047FA7908DACB40 2 bodyB
 
 abbrev pub write-wrong : List (Row (Message × List ℕ) Left)
 write-wrong =
     (messageB, replicate 41 7) only left (answer 0 (40 ∷ [])) (frameB ++ (7 ∷ []))  -- not refused, all of B, and the byte behind it kept
     ∷ (messageB, replicate 39 7) only left (refusal 8) (replicate 39 7)  -- nothing stored before 8
-    ∷ (message 0x50303031 0 2 [], replicate 40 7) only left (refusal 4) (replicate 40 7)  -- 4 is told before 7, and before 8 is looked for
-    ∷ (message 0x50303031 month13 2 bodyB, replicate 40 7) only left (refusal 7) (replicate 40 7)  -- a writer that does not look at the time
-    ∷ (message 0x50303031 month13 2 (channelBody 12 0x59), []) only left (refusal 7) []  -- 6 or 8 told before 7
-    ∷ (message 0x50303031 0x0047FA7908DACB40 2 (channelBody 12 0x59), []) only left (refusal 6) []  -- 8 told before 6
+    ∷ (message (spelled "P001") 0 2 [], replicate 40 7) only left (refusal 4) (replicate 40 7)  -- 4 is told before 7, and before 8 is looked for
+    ∷ (message (spelled "P001") month13 2 bodyB, replicate 40 7) only left (refusal 7) (replicate 40 7)  -- a writer that does not look at the time
+    ∷ (message (spelled "P001") month13 2 (channelBody 12 0x59), []) only left (refusal 7) []  -- 6 or 8 told before 7
+    ∷ (message (spelled "P001") 0x0047FA7908DACB40 2 (channelBody 12 0x59), []) only left (refusal 6) []  -- 8 told before 6
     ∷ []
 
 pub write-rules-out : RulesOut (Kept _ write-kinds.ps write-kinds.r write.Post) (λ c. (message (c .args .0) (c .args .1 .0) (c .args .1 .1 .0 .0) (now (c .args .1 .1 .1 .0)), now (c .args .1 .1 .1 .1 .0))) (λ c. left (writtenPaper (c .result)) (now (c .exit .1 .1 .1 .1 .0))) write-wrong
@@ -116,7 +117,7 @@ unfolding frameA startOfA checked readOf numeral sum8 sumOf kindOf suits measure
 read-at-allows κs at name =
     let bytes : RefT (List ℕ) = record { ptr = at; name = name; now = A } in
     record {
-      call = record { lifetimes = κs; args = (bytes, (0, tt)); result = Frame 0x53303033 0x0047FA7908DACB40 (sessionOf 1) 0; exit = (bytes, (0, tt)) };
+      call = record { lifetimes = κs; args = (bytes, (0, tt)); result = Frame (spelled "S003") 0x0047FA7908DACB40 (sessionOf 1) 0; exit = (bytes, (0, tt)) };
       given = refl;
       outcome = refl;
       promised = refl;

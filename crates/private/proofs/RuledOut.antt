@@ -5,6 +5,7 @@ use mathlib.Core.Path.{refl, ap}
 use mathlib.Core.List.{List, [], _∷_, _++_}
 use denote.Ref.{now}
 use lib.ListN.{replicate}
+use Rattle.terms.specs.Letters.{spelled}
 use Rattle.terms.specs.Paper.{Paper, answer, refusal}
 use Rattle.terms.specs.RuledOut.{Row, _never_, _only_, Kept, RulesOut, ruled, lists, papers}
 use Rattle.rules.specs.declared.Kind.{Kind}
@@ -23,7 +24,7 @@ use Rattle.private.proofs.private_span.Kinds as private-span-kinds
 
 -- an order of MD211 with ExecType 0
 abbrev order : List ℕ
-order = tickOn 0x4D44323131 0x30 (replicate 139 0x41)
+order = tickOn (spelled "MD211") 0x30 (replicate 139 0x41)
 
 -- PRIVATE_SPAN: a MsgType, a body, and the number of a span. Where a span starts, how many bytes it
 -- has, the byte that replaces each.
@@ -32,31 +33,31 @@ span place len fill = answer 0 (place ∷ len ∷ fill ∷ [])
 
 abbrev pub private-span-wrong : List (Row (ℕ × (List ℕ × ℕ)) Paper)
 private-span-wrong =
-    (0x53303031, (replicate 74 0x41, 0)) only span 0 32 0x20  -- SenderCompID, all of it, and painted with spaces, not zeros
-    ∷ (0x53303031, (replicate 74 0x41, 1)) only span 32 32 0x20  -- TargetCompID too
-    ∷ (0x53303031, (replicate 74 0x41, 2)) only span 0 0 0x20  -- and no public byte
-    ∷ (0x53303031, (replicate 10 0x41, 1)) never span 32 32 0x20  -- a span outside the body, which a C host would paint past its buffer
-    ∷ (0x53303031, (replicate 10 0x41, 0)) only refusal 4  -- nothing private told of a body that no S001 has
-    ∷ (0x58393939, ([], 0)) only refusal 2  -- a type of no table said to have nothing private
-    ∷ (0x4D323031, (replicate 8165 0x41, 0)) only refusal 3  -- a body that no frame has
-    ∷ (0x53303032, (replicate 260 0x41, 0)) never span 4 255 0x20  -- the last byte of Text missed
-    ∷ (0x50303032, (replicate 52 0x41, 0)) never span 0 0 0x20  -- nothing private in a P002
-    ∷ (0x50303032, (replicate 52 0x41, 0)) never span 19 33 0x20  -- ResendStatus, a public field, painted too
-    ∷ (0x4D323031, (replicate 50 0x41, 0)) never span 45 4 0x20  -- the last byte of a tail missed
-    ∷ (0x4D323031, (replicate 50 0x41, 0)) only span 45 5 0x20
-    ∷ (0x4D323031, (replicate 44 0x41, 0)) only refusal 4
-    ∷ (0x4D313032, (replicate 83 0x41, 0)) only span 0 0 0x20  -- nothing of a snapshot painted
-    ∷ (0x4D323031, (order, 0)) never span 45 139 0x20  -- the whole tail of an order, as document 01 had it
-    ∷ (0x4D323031, (order, 0)) never span 46 18 0x20  -- QuoteID
-    ∷ (0x4D323031, (order, 0)) only span 64 12 0x20  -- MemberID, with spaces, not zeros
-    ∷ (0x4D323031, (order, 1)) only span 76 12 0x20  -- TraderCode left
-    ∷ (0x4D323031, (order, 2)) never span 120 31 0x20  -- the last byte of InvestorName left
-    ∷ (0x4D323031, (order, 2)) only span 120 32 0x20
-    ∷ (0x4D323031, (order, 3)) only span 0 0 0x20  -- nothing else of an order
-    ∷ (0x4D323031, (tickOn 0x4D44323131 0x34 (replicate 139 0x41), 0)) only span 64 12 0x20  -- ExecType 4 not scrubbed
-    ∷ (0x4D323031, (tickOn 0x4D44323137 0x46 (replicate 53 0x41), 0)) only span 0 0 0x20  -- a trade painted
-    ∷ (0x4D323031, (tickOn 0x4D44323137 0x30 (replicate 139 0x41), 0)) only span 45 139 0x20  -- MD217 with 0 taken as an order
-    ∷ (0x4D323031, (tickOn 0x4D44323131 0x30 (replicate 138 0x41), 0)) only span 45 138 0x20  -- a length that does not suit: all of it
+    (spelled "S001", (replicate 74 0x41, 0)) only span 0 32 0x20  -- SenderCompID, all of it, and painted with spaces, not zeros
+    ∷ (spelled "S001", (replicate 74 0x41, 1)) only span 32 32 0x20  -- TargetCompID too
+    ∷ (spelled "S001", (replicate 74 0x41, 2)) only span 0 0 0x20  -- and no public byte
+    ∷ (spelled "S001", (replicate 10 0x41, 1)) never span 32 32 0x20  -- a span outside the body, which a C host would paint past its buffer
+    ∷ (spelled "S001", (replicate 10 0x41, 0)) only refusal 4  -- nothing private told of a body that no S001 has
+    ∷ (spelled "X999", ([], 0)) only refusal 2  -- a type of no table said to have nothing private
+    ∷ (spelled "M201", (replicate 8165 0x41, 0)) only refusal 3  -- a body that no frame has
+    ∷ (spelled "S002", (replicate 260 0x41, 0)) never span 4 255 0x20  -- the last byte of Text missed
+    ∷ (spelled "P002", (replicate 52 0x41, 0)) never span 0 0 0x20  -- nothing private in a P002
+    ∷ (spelled "P002", (replicate 52 0x41, 0)) never span 19 33 0x20  -- ResendStatus, a public field, painted too
+    ∷ (spelled "M201", (replicate 50 0x41, 0)) never span 45 4 0x20  -- the last byte of a tail missed
+    ∷ (spelled "M201", (replicate 50 0x41, 0)) only span 45 5 0x20
+    ∷ (spelled "M201", (replicate 44 0x41, 0)) only refusal 4
+    ∷ (spelled "M102", (replicate 83 0x41, 0)) only span 0 0 0x20  -- nothing of a snapshot painted
+    ∷ (spelled "M201", (order, 0)) never span 45 139 0x20  -- the whole tail of an order, as document 01 had it
+    ∷ (spelled "M201", (order, 0)) never span 46 18 0x20  -- QuoteID
+    ∷ (spelled "M201", (order, 0)) only span 64 12 0x20  -- MemberID, with spaces, not zeros
+    ∷ (spelled "M201", (order, 1)) only span 76 12 0x20  -- TraderCode left
+    ∷ (spelled "M201", (order, 2)) never span 120 31 0x20  -- the last byte of InvestorName left
+    ∷ (spelled "M201", (order, 2)) only span 120 32 0x20
+    ∷ (spelled "M201", (order, 3)) only span 0 0 0x20  -- nothing else of an order
+    ∷ (spelled "M201", (tickOn (spelled "MD211") 0x34 (replicate 139 0x41), 0)) only span 64 12 0x20  -- ExecType 4 not scrubbed
+    ∷ (spelled "M201", (tickOn (spelled "MD217") 0x46 (replicate 53 0x41), 0)) only span 0 0 0x20  -- a trade painted
+    ∷ (spelled "M201", (tickOn (spelled "MD217") 0x30 (replicate 139 0x41), 0)) only span 45 139 0x20  -- MD217 with 0 taken as an order
+    ∷ (spelled "M201", (tickOn (spelled "MD211") 0x30 (replicate 138 0x41), 0)) only span 45 138 0x20  -- a length that does not suit: all of it
     ∷ []
 
 pub private-span-rules-out : RulesOut (Kept _ private-span-kinds.ps private-span-kinds.r private-span.Post) (λ c. (c .args .0, (now (c .args .1 .0), c .args .1 .1 .0))) (λ c. toldPaper (c .result)) private-span-wrong
@@ -80,7 +81,7 @@ parts-in-wrong =
     ∷ (M201, order) never (64 ∷ 12 ∷ 0x20 ∷ 76 ∷ 12 ∷ 0x20 ∷ [])  -- InvestorName left
     ∷ (M201, order) never (45 ∷ 139 ∷ 0x20 ∷ [])  -- the whole tail of an order
     ∷ (M201, order) only (64 ∷ 12 ∷ 0x20 ∷ 76 ∷ 12 ∷ 0x20 ∷ 120 ∷ 32 ∷ 0x20 ∷ [])
-    ∷ (M201, tickOn 0x4D44323137 0x46 (replicate 53 0x41)) only []  -- a trade painted
+    ∷ (M201, tickOn (spelled "MD217") 0x46 (replicate 53 0x41)) only []  -- a trade painted
     ∷ (M201, replicate 50 0x41) only (45 ∷ 5 ∷ 0x20 ∷ [])  -- an unnamed tail left
     ∷ (Unknown, replicate 50 0x41) only []
     ∷ []

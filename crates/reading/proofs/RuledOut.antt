@@ -5,6 +5,7 @@ use mathlib.Core.Path.{refl, ap}
 use mathlib.Core.List.{List, [], _∷_, _++_}
 use denote.Ref.{now}
 use lib.ListN.{drop, replicate}
+use Rattle.terms.specs.Letters.{spelled}
 use Rattle.terms.specs.RuledOut.{Row, _never_, _only_, Kept, RulesOut, ruled, lists}
 use Rattle.terms.specs.Refusals.{refusalOf}
 use Rattle.terms.specs.declared.Refusal.{Refusal}
@@ -43,9 +44,9 @@ blank-rules-out = ruled lists (λ (w : Refusal). shown (blank w)) (λ c p. ap sh
 -- bytes and a place
 abbrev pub see-wrong : List (Row (List ℕ × ℕ) (List ℕ))
 see-wrong =
-    (resend 1 0x41, 0) only (0 ∷ 0x50303032 ∷ 1 ∷ 100 ∷ 3 ∷ 1 ∷ 52 ∷ 80 ∷ [])  -- nothing of its RejectText
+    (resend 1 0x41, 0) only (0 ∷ spelled "P002" ∷ 1 ∷ 100 ∷ 3 ∷ 1 ∷ 52 ∷ 80 ∷ [])  -- nothing of its RejectText
     ∷ (0xFF ∷ resend 1 0x41, 0) never (2 ∷ 0xFF503030 ∷ 0 ∷ 0 ∷ 0 ∷ 0 ∷ 0 ∷ 0 ∷ [])  -- a refused frame's first bytes copied
-    ∷ (0xFF ∷ resend 1 0x41, 0) only (2 ∷ 0x20202020 ∷ 0 ∷ 0 ∷ 0 ∷ 0 ∷ 0 ∷ 0 ∷ [])
+    ∷ (0xFF ∷ resend 1 0x41, 0) only (2 ∷ spelled "    " ∷ 0 ∷ 0 ∷ 0 ∷ 0 ∷ 0 ∷ 0 ∷ [])
     ∷ []
 
 pub see-rules-out : RulesOut (Kept _ see-kinds.ps see-kinds.r see.Post) (λ c. (now (c .args .0), c .args .1 .0)) (λ c. shown (c .result)) see-wrong

@@ -5,6 +5,7 @@ use mathlib.Core.Path.{refl, ap}
 use mathlib.Core.List.{List, [], _∷_, _++_}
 use denote.Ref.{now}
 use lib.ListN.{length, replicate}
+use Rattle.terms.specs.Letters.{spelled}
 use Rattle.terms.specs.Paper.{Paper, answer, refusal}
 use Rattle.terms.specs.Counters.{sessionOf, tickOf, channelOf}
 use Rattle.terms.specs.RuledOut.{Row, _never_, _only_, Kept, RulesOut, ruled, lists, papers, Left, left, lefts, left-is}
@@ -22,7 +23,7 @@ abbrev one : Record
 one =
     record {
       place = 1;
-      «msg_type» = 0x50303031;
+      «msg_type» = spelled "P001";
       answer = 2;
       seq = sessionOf 3;
       tick = tickOf 4;
@@ -35,7 +36,7 @@ one =
 -- the same bytes with two of the numbers given: floor and top, and a zero field
 abbrev bytes : ℕ → ℕ → ℕ → List ℕ
 bytes floor top zeros =
-    bytesOf 8 1 ++ (bytesOf 4 0x50303031 ++ (bytesOf 4 2 ++ (bytesOf 8 3 ++ (bytesOf 8 4 ++ (bytesOf 2 5 ++ (bytesOf 2 zeros ++ (bytesOf 4 6 ++ (bytesOf 8 floor ++ (bytesOf 8 top ++ bytesOf 8 0)))))))))
+    bytesOf 8 1 ++ (bytesOf 4 (spelled "P001") ++ (bytesOf 4 2 ++ (bytesOf 8 3 ++ (bytesOf 8 4 ++ (bytesOf 2 5 ++ (bytesOf 2 zeros ++ (bytesOf 4 6 ++ (bytesOf 8 floor ++ (bytesOf 8 top ++ bytesOf 8 0)))))))))
 
 -- a buffer, a place and a record; the answer, and the buffer then
 abbrev pub put-wrong : List (Row (List ℕ × (ℕ × Record)) Left)
@@ -56,8 +57,8 @@ shown r = r .place ∷ r .«msg_type» ∷ r .answer ∷ r .seq .0 ∷ r .tick .
 
 abbrev pub record-at-wrong : List (Row (List ℕ × ℕ) (List ℕ))
 record-at-wrong =
-    (9 ∷ bytes 7 8 0, 1) never (1 ∷ 0x50303031 ∷ 2 ∷ 3 ∷ 4 ∷ 5 ∷ 6 ∷ 8 ∷ 7 ∷ [])  -- floor and top swapped
-    ∷ (9 ∷ bytes 7 8 0, 1) only (1 ∷ 0x50303031 ∷ 2 ∷ 3 ∷ 4 ∷ 5 ∷ 6 ∷ 7 ∷ 8 ∷ [])
+    (9 ∷ bytes 7 8 0, 1) never (1 ∷ spelled "P001" ∷ 2 ∷ 3 ∷ 4 ∷ 5 ∷ 6 ∷ 8 ∷ 7 ∷ [])  -- floor and top swapped
+    ∷ (9 ∷ bytes 7 8 0, 1) only (1 ∷ spelled "P001" ∷ 2 ∷ 3 ∷ 4 ∷ 5 ∷ 6 ∷ 7 ∷ 8 ∷ [])
     ∷ []
 
 pub record-at-rules-out : RulesOut (Kept _ record-at-kinds.ps record-at-kinds.r record-at.Post) (λ c. (now (c .args .0), c .args .1 .0)) (λ c. shown (c .result)) record-at-wrong

@@ -5,6 +5,7 @@ use mathlib.Core.Path.{refl}
 use mathlib.Core.List.{List, [], _∷_, _++_}
 use denote.Ref.{now}
 use lib.ListN.{length, take, drop, replicate}
+use Rattle.terms.specs.Letters.{spelled}
 use Rattle.terms.specs.Paper.{Paper, answer, refusal}
 use Rattle.terms.specs.RuledOut.{Row, _never_, _only_, Kept, RulesOut, ruled, Left, left, lefts, left-is}
 use Rattle.octets.specs.Octets.{numeral, digitsOf, laid, sum8, sumOf}
@@ -46,12 +47,12 @@ scrub-wrong =
     ∷ order 0x31 0x51 0x41 0x42 0x43 never frame 212 (order 0x31 0x51 0x20 0x42 0x20)  -- TraderCode left
     ∷ order 0x31 0x51 0x41 0x42 0x43 never frame 212 (order 0x31 0x20 0x20 0x20 0x20)  -- QuoteID painted
     ∷ order 0x31 0x51 0x41 0x42 0x43 never frame 212 (order 0x20 0x51 0x20 0x20 0x20)  -- Side painted
-    ∷ order 0x31 0x51 0x41 0x42 0x43 never frame 212 (tickOf 0x4D44323131 0x30 (replicate 139 0x20))  -- the whole tail of an order painted
+    ∷ order 0x31 0x51 0x41 0x42 0x43 never frame 212 (tickOf (spelled "MD211") 0x30 (replicate 139 0x20))  -- the whole tail of an order painted
     ∷ order 0x31 0x51 0x41 0x42 0x43 never frame 212 (order 0x31 0x51 0x41 0x42 0x43)  -- nothing of an order painted
     ∷ order 0x31 0x51 0x41 0x42 0x43 never frame 212 (order 0x31 0x51 0 0 0)  -- private text filled with 0
     ∷ order 0x31 0x51 0x41 0x42 0x43 only frame 212 (order 0x31 0x51 0x20 0x20 0x20)
-    ∷ tickOf 0x4D44323137 0x46 (replicate 53 0x41) only frame 126 (tickOf 0x4D44323137 0x46 (replicate 53 0x41))  -- a trade painted
-    ∷ tickOf 0x4D44323137 0x30 (0x41 ∷ 0x42 ∷ []) only frame 75 (tickOf 0x4D44323137 0x30 (0x20 ∷ 0x20 ∷ []))  -- an unnamed tail left as sent
+    ∷ tickOf (spelled "MD217") 0x46 (replicate 53 0x41) only frame 126 (tickOf (spelled "MD217") 0x46 (replicate 53 0x41))  -- a trade painted
+    ∷ tickOf (spelled "MD217") 0x30 (0x41 ∷ 0x42 ∷ []) only frame 75 (tickOf (spelled "MD217") 0x30 (0x20 ∷ 0x20 ∷ []))  -- an unnamed tail left as sent
     ∷ ending 1 0x8E only left (refusal 5) (ending 1 0x8E)  -- scrubbed by its header's word, without reading: the sum's first three bytes not compared
     ∷ (0xFF ∷ tick (0x41 ∷ [])) only left (refusal 2) (0xFF ∷ tick (0x41 ∷ []))  -- a frame that is refused at the front is not scrubbed a byte later
     ∷ []

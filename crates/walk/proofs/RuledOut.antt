@@ -6,6 +6,7 @@ use mathlib.Core.List.{List, [], _∷_, _++_}
 use denote.Ref.{now}
 use lib.Count.{trailingZeros}
 use lib.ListN.{length, drop, replicate}
+use Rattle.terms.specs.Letters.{spelled}
 use Rattle.terms.specs.Paper.{Paper, answer}
 use Rattle.terms.specs.Refusals.{refusalOf}
 use Rattle.terms.specs.RuledOut.{Row, _never_, _only_, Kept, RulesOut, ruled, lists, papers, beside}
@@ -55,15 +56,15 @@ damaged = frameA (four 0 41) (four 0 0x8E) ++ (0xFF ∷ frameB)
 -- the record of tick 3 on channel 100 at a place, with an answer
 abbrev tickAt : ℕ → ℕ → Record
 tickAt place why =
-    record { place = place; «msg_type» = 0x4D323031; answer = why; seq = sessionOf 1; tick = tickOf 3; channel = channelOf 100; «body_len» = 45; floor = tickOf 0; top = tickOf 3 }
+    record { place = place; «msg_type» = spelled "M201"; answer = why; seq = sessionOf 1; tick = tickOf 3; channel = channelOf 100; «body_len» = 45; floor = tickOf 0; top = tickOf 3 }
 
 -- tick 1 of channel 100, and its record with a floor
 abbrev firstTick : List ℕ
-firstTick = framed 0x4D323031 (13 ∷ bytesOf 2 100 ++ (bytesOf 8 1 ++ (replicate 17 0x30 ++ (0x30 ∷ replicate 16 0))))
+firstTick = framed (spelled "M201") (13 ∷ bytesOf 2 100 ++ (bytesOf 8 1 ++ (replicate 17 0x30 ++ (0x30 ∷ replicate 16 0))))
 
 abbrev firstAt : ℕ → Record
 firstAt floor =
-    record { place = 0; «msg_type» = 0x4D323031; answer = 0; seq = sessionOf 1; tick = tickOf 1; channel = channelOf 100; «body_len» = 45; floor = tickOf floor; top = tickOf 1 }
+    record { place = 0; «msg_type» = spelled "M201"; answer = 0; seq = sessionOf 1; tick = tickOf 1; channel = channelOf 100; «body_len» = 45; floor = tickOf floor; top = tickOf 1 }
 
 -- a capture (document 01's 69 bytes A, FF, B, the damaged one, or ticks) and a lent buffer
 abbrev pub walk-wrong : List (Row (List ℕ × List ℕ) Outcome)

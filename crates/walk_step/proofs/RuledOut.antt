@@ -4,6 +4,7 @@ use Prim.Native.Nat.{ℕ}
 use mathlib.Core.Path.{_≡_, refl, ap, ap₂}
 use mathlib.Core.List.{List, [], _∷_, _++_}
 use lib.Count.{trailingZeros}
+use Rattle.terms.specs.Letters.{spelled}
 use Rattle.terms.specs.Counters.{sessionOf, tickOf, channelOf}
 use Rattle.terms.specs.declared.Verdict.the-variants.{Fine}
 use Rattle.terms.specs.RuledOut.{Row, _never_, _only_, Kept, RulesOut, ruled, numbers, lists, beside}
@@ -56,11 +57,11 @@ shown n l = (n, seen (bookOf l))
 
 abbrev pub offer-wrong : List (Row (Book × Seen) (ℕ × List ℕ))
 offer-wrong =
-    (book 0 0, frame 0x4D323031 100) only (0, 1 ∷ 1 ∷ 0 ∷ [])  -- an M201 is a tick
-    ∷ (book 0 0, frame 0x50303031 100) never (0, 1 ∷ 1 ∷ 0 ∷ [])  -- a P001 taken for a tick
-    ∷ (book 0 0, frame 0x50303031 100) only (0, 0 ∷ 1 ∷ 0 ∷ [])  -- it announces
-    ∷ (book 0 0, frame 0x50303032 100) only (0, 0 ∷ 0 ∷ 0 ∷ [])  -- a P002 is not offered
-    ∷ (book 0 0, frame 0x4D323031 101) only (18, 0 ∷ 0 ∷ 0 ∷ [])  -- another channel's tick is not taken
+    (book 0 0, frame (spelled "M201") 100) only (0, 1 ∷ 1 ∷ 0 ∷ [])  -- an M201 is a tick
+    ∷ (book 0 0, frame (spelled "P001") 100) never (0, 1 ∷ 1 ∷ 0 ∷ [])  -- a P001 taken for a tick
+    ∷ (book 0 0, frame (spelled "P001") 100) only (0, 0 ∷ 1 ∷ 0 ∷ [])  -- it announces
+    ∷ (book 0 0, frame (spelled "P002") 100) only (0, 0 ∷ 0 ∷ 0 ∷ [])  -- a P002 is not offered
+    ∷ (book 0 0, frame (spelled "M201") 101) only (18, 0 ∷ 0 ∷ 0 ∷ [])  -- another channel's tick is not taken
     ∷ []
 
 pub offer-rules-out : RulesOut (Kept _ offer-kinds.ps offer-kinds.r offer.Post) (λ c. (bookOf (c .args .0), c .args .1 .0)) (λ c. shown (c .result .answer) (c .result .ledger)) offer-wrong
@@ -70,16 +71,16 @@ offer-rules-out = ruled (beside numbers lists) (λ (i : Book × Seen). shown (of
 -- MADE: a place, what is seen there, and of the ledger after it: the number answered, its floor and
 -- its top. The record's nine numbers.
 abbrev tick : Seen
-tick = record { answer = Fine; «msg_type» = 0x4D323031; seq = sessionOf 2; channel = channelOf 100; tick = tickOf 3; status = 0; «body_len» = 45; size = 73 }
+tick = record { answer = Fine; «msg_type» = spelled "M201"; seq = sessionOf 2; channel = channelOf 100; tick = tickOf 3; status = 0; «body_len» = 45; size = 73 }
 
 abbrev noted : Record → List ℕ
 noted r = r .place ∷ r .«msg_type» ∷ r .answer ∷ r .seq .0 ∷ r .tick .0 ∷ r .channel .0 ∷ r .«body_len» ∷ r .floor .0 ∷ r .top .0 ∷ []
 
 abbrev pub made-wrong : List (Row (ℕ × (Seen × (ℕ × (ℕ × ℕ)))) (List ℕ))
 made-wrong =
-    (7, (tick, (12, (4, 5)))) never (7 ∷ 0x4D323031 ∷ 0 ∷ 2 ∷ 3 ∷ 100 ∷ 45 ∷ 4 ∷ 5 ∷ [])  -- the reading's answer for the ledger's
-    ∷ (7, (tick, (12, (4, 5)))) never (7 ∷ 0x4D323031 ∷ 12 ∷ 2 ∷ 3 ∷ 100 ∷ 45 ∷ 5 ∷ 5 ∷ [])  -- the top where the floor belongs
-    ∷ (7, (tick, (12, (4, 5)))) only (7 ∷ 0x4D323031 ∷ 12 ∷ 2 ∷ 3 ∷ 100 ∷ 45 ∷ 4 ∷ 5 ∷ [])
+    (7, (tick, (12, (4, 5)))) never (7 ∷ spelled "M201" ∷ 0 ∷ 2 ∷ 3 ∷ 100 ∷ 45 ∷ 4 ∷ 5 ∷ [])  -- the reading's answer for the ledger's
+    ∷ (7, (tick, (12, (4, 5)))) never (7 ∷ spelled "M201" ∷ 12 ∷ 2 ∷ 3 ∷ 100 ∷ 45 ∷ 5 ∷ 5 ∷ [])  -- the top where the floor belongs
+    ∷ (7, (tick, (12, (4, 5)))) only (7 ∷ spelled "M201" ∷ 12 ∷ 2 ∷ 3 ∷ 100 ∷ 45 ∷ 4 ∷ 5 ∷ [])
     ∷ []
 
 pub made-rules-out : RulesOut (Kept _ made-kinds.ps made-kinds.r made.Post) (λ c. (c .args .0, (c .args .1 .0, (c .args .1 .1 .0 .answer, (c .args .1 .1 .0 .ledger .floor .0, c .args .1 .1 .0 .ledger .top .0))))) (λ c. noted (c .result)) made-wrong
