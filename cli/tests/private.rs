@@ -421,8 +421,8 @@ fn leaves_no_trace(captures: [Vec<u8>; 2]) {
 }
 
 /// A frame whose type was damaged, so that it looks like one without private fields and every other
-/// check up to the sum's suits it: M201 to M101 by one byte, to M102 by two. Or an M102 whose length
-/// was, so that it reaches over the next frame. No sum of it is shown.
+/// check up to the sum's suits it: M201 to M101 by one byte, to M102 by two. Or an M102 whose
+/// length was, so that it reaches over the next frame. No sum of it is shown.
 #[test]
 fn a_damaged_type_or_length_shows_no_sum() {
     let reasons = [
@@ -446,8 +446,9 @@ the sums are not shown: {reason}
 
 /// Generated pairs of captures of all types, up to 64 KiB, that the second program finds to differ
 /// in private fields and checksums alone (CR 13). `month` over the pair itself is compared where
-/// neither is clean: it counts clean captures alone (13.8). `check` is where both have the same first
-/// place that scrubbing changes, since it tells that place; `explain` at places where the walk reads.
+/// neither is clean: it counts clean captures alone (13.8). `check` is where both have the same
+/// first place that scrubbing changes, since it tells that place; `explain` at places where the
+/// walk reads.
 #[test]
 fn generated_pairs_are_told_alike() {
     let (mut left_out, mut checked, mut explained) = (0, 0, 0);
