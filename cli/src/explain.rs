@@ -130,8 +130,8 @@ impl Spot {
         (text, status)
     }
 
-    /// The public fields of a frame that the walk reads. After damage it was found by the search, or
-    /// follows one that was without a gap: then those that a listing has too.
+    /// The public fields of a frame that the walk reads. After damage it was found by the search,
+    /// or follows one that was without a gap: then those that a listing has too.
     fn fields(&self, frame: &Frame) -> String {
         let mut text = format!(
             "MsgType {}, {}\n",
@@ -239,7 +239,7 @@ fn refused(refusal: Refusal) -> String {
     format!("refused, {answer}: {reason}")
 }
 
-/// The public fields of a body, and the names of the private ones: which these are the library says.
+/// The public fields of a body, and the names of the private ones, which the library says.
 fn body_fields(frame: &Frame, body: &[u8]) -> String {
     // the frame was read, so its length suits its type
     let private = private_spans(frame.msg_type as u32, body).unwrap_or_default();

@@ -263,8 +263,8 @@ mod tests {
         fields.collect()
     }
 
-    /// The fields fill a body, up to an M102's entries, which the library finds, and up to an M201's
-    /// extension.
+    /// The fields fill a body, up to an M102's entries, which the library finds, and up to an
+    /// M201's extension.
     #[test]
     fn the_fields_fill_a_body() {
         let width = |letters: &[u8; 4]| places(letters).iter().map(|field| field.2).sum::<usize>();

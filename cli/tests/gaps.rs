@@ -345,8 +345,8 @@ end"#;
     }
 }
 
-/// A capture of the sample's kind, damaged in any way: it agrees with the listing's channel 100, and
-/// counts as many far ticks as the listing has lines that answer 12.
+/// A capture of the sample's kind, damaged in any way: it agrees with the listing's channel 100,
+/// and counts as many far ticks as the listing has lines that answer 12.
 #[test]
 fn it_agrees_with_the_listing() {
     let folder = Folder::new();

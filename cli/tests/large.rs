@@ -63,8 +63,8 @@ fn two_gigabytes() {
     });
 }
 
-/// The other ways to read a capture, over one that is larger than the memory: they too read it piece by
-/// piece.
+/// The other ways to read a capture, over one that is larger than the memory: they too read it
+/// piece by piece.
 #[test]
 fn no_capture_is_held() {
     let folder = Folder::new();

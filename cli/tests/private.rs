@@ -329,8 +329,9 @@ fn told_alike(folders: &[Folder; 2], line: &str) {
 }
 
 /// Damaged frames full of private bytes, each with what reading answers: a wrong sum under a type
-/// that has no private field, a wrong length, a field that breaks its rule.
-fn damaged_frames(letter: &str) -> [(Vec<u8>, &'static str); 4] {
+/// that has no private field, by its letters or since it reaches over the next frame; a wrong
+/// length; a field that breaks its rule.
+fn damaged_frames(letter: &str) -> [(Vec<u8>, &'static str); 5] {
     let letters = |n: usize| letter.repeat(n);
     let named = |kind: &[u8; 4]| {
         let mut frame = order(1, &letters(12), &letters(12), &letters(32));
@@ -340,6 +341,11 @@ fn damaged_frames(letter: &str) -> [(Vec<u8>, &'static str); 4] {
     // the letters of both types have one sum: another byte is damaged too
     let mut snapshot = named(b"M102");
     *snapshot.last_mut().unwrap() ^= 1;
+    // the sample's first snapshot, its body longer by 256 bytes
+    let mut longer = sample()[285..416].to_vec();
+    longer[22] += 1;
+    longer.extend(order(1, &letters(12), &letters(12), &letters(32)));
+    longer.extend(logon(&letters(32), &letters(32)));
     let mut resting = logon(&letters(32), &letters(32));
     // HeartBtInt becomes 0, and the sum suits it
     let end = resting.len() - 4;
@@ -348,6 +354,7 @@ fn damaged_frames(letter: &str) -> [(Vec<u8>, &'static str); 4] {
     [
         (named(b"M101"), "5 (sum)"),
         (snapshot, "5 (sum)"),
+        (longer, "5 (sum)"),
         (named(b"S001"), "4 (length)"),
         (resting, "6 (field)"),
     ]
@@ -359,7 +366,7 @@ fn damaged_frames(letter: &str) -> [(Vec<u8>, &'static str); 4] {
 #[test]
 fn private_bytes_leave_no_trace() {
     leaves_no_trace(["Q", "z"].map(session));
-    for case in 0..4 {
+    for case in 0..damaged_frames("").len() {
         let captures = ["Q", "z"].map(|letter| {
             let (frame, answer) = &damaged_frames(letter)[case];
             let capture = [heartbeats(1), frame.clone(), session(letter)].concat();
@@ -414,32 +421,34 @@ fn leaves_no_trace(captures: [Vec<u8>; 2]) {
 }
 
 /// A frame whose type was damaged, so that it looks like one without private fields and every other
-/// check but the sum's suits it: M201 to M101 by one byte, to M102 by two. No sum of it is shown.
+/// check up to the sum's suits it: M201 to M101 by one byte, to M102 by two. Or an M102 whose
+/// length was, so that it reaches over the next frame. No sum of it is shown.
 #[test]
-fn a_damaged_type_shows_no_sum() {
+fn a_damaged_type_or_length_shows_no_sum() {
     let reasons = [
         "the body of an M101 could hold anything",
+        "with the right one it would not read either",
         "with the right one it would not read either",
     ];
     for ((frame, _), reason) in damaged_frames("Q").iter().zip(reasons) {
         let folder = Folder::new().with("in", frame);
-        run(&folder, &["explain", "in", "0"]).quiet(
-            1,
-            &format!(
-                "in: place 0: refused, 5 (sum): its CheckSum differs from the sum of its bytes
+        let ran = run(&folder, &["explain", "in", "0"]);
+        let lines = format!(
+            "in: place 0: refused, 5 (sum): its CheckSum differs from the sum of its bytes
 the sums are not shown: {reason}
-no frame reads after it: the walk stops
-the ledger of channel 100 then has floor 0, top 0
 "
-            ),
         );
+        assert_eq!((ran.status, ran.error()), (Some(1), ""));
+        assert!(ran.out().starts_with(&lines), "{}", ran.out());
+        assert_eq!(ran.out().lines().count(), 4);
     }
 }
 
 /// Generated pairs of captures of all types, up to 64 KiB, that the second program finds to differ
 /// in private fields and checksums alone (CR 13). `month` over the pair itself is compared where
-/// neither is clean: it counts clean captures alone (13.8). `check` is where both have the same first
-/// place that scrubbing changes, since it tells that place; `explain` at places where the walk reads.
+/// neither is clean: it counts clean captures alone (13.8). `check` is where both have the same
+/// first place that scrubbing changes, since it tells that place; `explain` at places where the
+/// walk reads.
 #[test]
 fn generated_pairs_are_told_alike() {
     let (mut left_out, mut checked, mut explained) = (0, 0, 0);

@@ -187,8 +187,8 @@ fn progress_on_a_terminal() {
     assert!(ran.out().ends_with(last), "{:?}", ran.out());
 }
 
-/// Of a file it is also said of how much: here of eight gigabytes that take no room on the disk, and
-/// much longer than the run is given.
+/// Of a file it is also said of how much: here of eight gigabytes that take no room on the disk,
+/// and much longer than the run is given.
 #[test]
 fn progress_over_a_file() {
     let folder = Folder::new().with("large", &logon("", ""));
