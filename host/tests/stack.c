@@ -97,6 +97,28 @@ static void *calls(void *unused) {
     rk_stream_open(RK_STREAM(&stream));
     CALL(rk_stream_clean, RK_STREAM(&stream), capture, len, out, sizeof out, &scrubbed);
     CALL(rk_stream_clean_close, RK_STREAM(&stream), out, sizeof out, &scrubbed);
+    /* a frame of 8,192 bytes, then the sample, in cuts that end within frames; each first without
+     * room, so that it is counted */
+    rk_write(RK_M101, 20260121093000000, 1, text, 8164, out, sizeof out, &number);
+    memmove(capture + number, capture, len);
+    memcpy(capture, out, (size_t)number);
+    len += (size_t)number;
+    rk_stream_open(RK_STREAM(&stream));
+    for (size_t at = 0; at < len; at += 5000) {
+        size_t cut = len - at < 5000 ? len - at : 5000;
+        CALL(rk_stream_feed, RK_STREAM(&stream), capture + at, cut, records, 0, &fed);
+        CALL(rk_stream_feed, RK_STREAM(&stream), capture + at, cut, records, sizeof records, &fed);
+    }
+    CALL(rk_stream_close, RK_STREAM(&stream), records, 0, &fed);
+    CALL(rk_stream_close, RK_STREAM(&stream), records, sizeof records, &fed);
+    rk_stream_open(RK_STREAM(&stream));
+    for (size_t at = 0; at < len; at += 5000) {
+        size_t cut = len - at < 5000 ? len - at : 5000;
+        CALL(rk_stream_clean, RK_STREAM(&stream), capture + at, cut, out, 0, &scrubbed);
+        CALL(rk_stream_clean, RK_STREAM(&stream), capture + at, cut, out, sizeof out, &scrubbed);
+    }
+    CALL(rk_stream_clean_close, RK_STREAM(&stream), out, 0, &scrubbed);
+    CALL(rk_stream_clean_close, RK_STREAM(&stream), out, sizeof out, &scrubbed);
     CALL(rk_step_read, logon, sizeof logon - 1, 0, &step);
     CALL(rk_step_field, logon, sizeof logon - 1, 0, &step_field);
     CALL(rk_step_write, '0', logon, 0, out, sizeof out, &number);
