@@ -7,6 +7,7 @@ use Prim.Native.Nat.{ℕ, _^_}
 use mathlib.Core.List.{List, [], _∷_, _++_}
 use lib.ListN.{replicate}
 use Rattle.terms.specs.Paper.{Paper, answer}
+use Rattle.terms.specs.Letters.{spelled}
 use Rattle.terms.specs.Counters.{tickOf, channelOf}
 use Rattle.terms.specs.RuledOut.{Row, _never_, _only_, Holds, AllHold, also, RulesOut, left}
 use Rattle.frame_spec.specs.Examples.{frameA, frameB, A, ending, four, logon, resend}
@@ -46,7 +47,7 @@ module _ {C I O : Type 0} {kept : C → Type 0} {sees : C → I} {shows : C → 
 
 -- what A reads as
 abbrev readA : Paper
-readA = answer 0 (0x53303033 ∷ 0x0047FA7908DACB40 ∷ 1 ∷ 0 ∷ [])
+readA = answer 0 (spelled "S003" ∷ 20260121093000000 ∷ 1 ∷ 0 ∷ [])
 
 -- a reader that refuses everything: A is read, as A
 refuses-everything : RuledBy frame.read-at-rules-out ((A, 0) only readA)
@@ -104,7 +105,7 @@ walks-by-length : RuledBy walk.walk-rules-out ((damaged, replicate 128 7) only (
 walks-by-length = by walk.walk-rules-out (later (later (later (later (later first)))))
 
 -- a refused frame's first bytes in its record: what is seen of it has four spaces for a type
-copies-refused : RuledBy reading.see-rules-out ((0xFF ∷ resend 1 0x41, 0) only (2 ∷ 0x20202020 ∷ 0 ∷ 0 ∷ 0 ∷ 0 ∷ 0 ∷ 0 ∷ []))
+copies-refused : RuledBy reading.see-rules-out ((0xFF ∷ resend 1 0x41, 0) only (2 ∷ spelled "    " ∷ 0 ∷ 0 ∷ 0 ∷ 0 ∷ 0 ∷ 0 ∷ []))
 copies-refused = by reading.see-rules-out (later (later first))
 
 -- map places used up for good: with 2 held, tick 1 takes the floor past both, and no place is held

@@ -226,11 +226,48 @@ fn see_front(front: &[u8], first: &[u8], second: &[u8]) -> Seen
     see_long(front, first, second)
 }
 
+// The reading of both parts, of which at most 1,024 bytes are laid together.
+fn see_wide(first: &[u8], second: &[u8]) -> Seen
+    ensures { λ r. ⌜ r ≡ seenOf (now (first .entry) ++ now (second .entry)) ⌝ }
+{
+    let mut front: [u8; 1024] = [0; 1024];
+    let m = gather(first, second, &mut front);
+    see_front(&front[..m], first, second)
+}
+
+// The reading of both parts, whose first bytes, up to 24, are lent as one.
+fn see_head(head: &[u8], first: &[u8], second: &[u8]) -> Seen
+    requires { ⌜ now head ≡ take 24 (now first ++ now second) ⌝ }
+    ensures { λ r. ⌜ r ≡ seenOf (now (first .entry) ++ now (second .entry)) ⌝ }
+{
+    let seen = reading::see(head, 0);
+    if !waits(seen) {
+        return seen;
+    }
+    if is_cut(head, first.len(), second.len()) {
+        return seen;
+    }
+    see_wide(first, second)
+}
+
+// The reading of both parts where the header may lie across them: it is laid together and looked at
+// before more is. A search passes over most places by their header.
+fn see_across(first: &[u8], second: &[u8]) -> Seen
+    ensures { λ r. ⌜ r ≡ seenOf (now (first .entry) ++ now (second .entry)) ⌝ }
+{
+    let mut head: [u8; 24] = [0; 24];
+    let m = gather(first, second, &mut head);
+    see_head(&head[..m], first, second)
+}
+
 // The reading at the front of two parts, one behind the other. Where the first tells, or where its
 // header tells that bytes are missing yet, nothing is copied.
 pub fn see(first: &[u8], second: &[u8]) -> Seen
     ensures { λ r. ⌜ r ≡ seenOf (now (first .entry) ++ now (second .entry)) ⌝ }
 {
+    if first.len() < 24 {
+        return see_across(first, second);
+    }
     let seen = reading::see(first, 0);
     if !waits(seen) {
         return seen;
@@ -238,7 +275,5 @@ pub fn see(first: &[u8], second: &[u8]) -> Seen
     if is_cut(first, first.len(), second.len()) {
         return seen;
     }
-    let mut front: [u8; 1024] = [0; 1024];
-    let m = gather(first, second, &mut front);
-    see_front(&front[..m], first, second)
+    see_wide(first, second)
 }

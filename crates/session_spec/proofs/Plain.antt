@@ -74,7 +74,7 @@ Sends s (Other number) dead due = ⊥
 Sends s (Faulty why) dead due = ⊥
 
 sends-of : {s : State} {e : Event} {dead due : Bool} → Does s e dead due → sends (kindIn (resolved dead due (rowOf s e))) ≡ true → Sends s e dead due
-sends-of (stays k d m) h = absurd (clash h (ap sends k))
+sends-of (stays k d m f) h = absurd (clash h (ap sends k))
 sends-of (shuts k d m) h = absurd (clash h (ap sends k))
 sends-of first h = tt
 sends-of answer h = absurd (clash h refl)
