@@ -2,7 +2,7 @@
 -- contents of the store and of the buffer lent, and a refusal leaves both as they were. Assumes
 -- nothing.
 use Prim.Native.Nat.{ℕ}
-use mathlib.Core.Path.{_≡_, sym, ap, ap₂, _∙_}
+use mathlib.Core.Path.{_≡_, refl, sym, ap, ap₂, _∙_}
 use mathlib.Core.Bool.{Bool, true, false}
 use mathlib.Core.List.{List, [], _++_}
 use denote.Ref.{now}
@@ -18,12 +18,20 @@ use Rattle.stream_spec.specs.Answers.{fed-one, refused-leaves, refused-stream}
 use Rattle.stream.specs.declared.Standing.{Standing}
 use Rattle.stream.specs.declared.Answered.{Answered}
 use Rattle.stream.specs.Standing.{whole, fedOf}
+use Rattle.stream.proofs.keep_rest.Reads as keep-rest
+use Rattle.stream.proofs.keep_rest.Kinds as keep-rest-kinds
 use Rattle.stream.proofs.may_take.Reads as may-take
 use Rattle.stream.proofs.may_take.Kinds as may-take-kinds
 use Rattle.stream.proofs.feed.Reads as feed
 use Rattle.stream.proofs.feed.Kinds as feed-kinds
 use Rattle.stream.proofs.close.Reads as close
 use Rattle.stream.proofs.close.Kinds as close-kinds
+
+pub keep-rest-one-answer : OneAnswer _ keep-rest-kinds.ps keep-rest-kinds.r keep-rest.Post
+keep-rest-one-answer κs a x y s t p q = refl
+
+pub keep-rest-one-buffer : OneBuffer _ keep-rest-kinds.ps keep-rest-kinds.r keep-rest.Post (λ κs s. now (s .0))
+keep-rest-one-buffer κs a x y s t p q = p ∙ sym q
 
 pub may-take-one-answer : OneAnswer _ may-take-kinds.ps may-take-kinds.r may-take.Post
 may-take-one-answer κs a x y s t p q = verdict-one x y (p ∙ sym q)

@@ -41,13 +41,31 @@ use Rattle.stream_spec.specs.Tally as Tally
 use Rattle.stream_spec.specs.Calls as Calls
 use Rattle.stream_spec.specs.Calls.{Feed, Close, fedPaper, answerTo, nextOf, leaves}
 use Rattle.terms.specs.Verdicts.{verdictNumber}
-use Rattle.stream.specs.Standing.{whole, fedOf}
+use Rattle.stream.specs.Standing.{whole, fedOf, hasRest, restOf}
+use Rattle.stream.proofs.keep_rest.Reads as keep-rest
+use Rattle.stream.proofs.keep_rest.Kinds as keep-rest-kinds
 use Rattle.stream.proofs.may_take.Reads as may-take
 use Rattle.stream.proofs.may_take.Kinds as may-take-kinds
 use Rattle.stream.proofs.feed.Reads as feed
 use Rattle.stream.proofs.feed.Kinds as feed-kinds
 use Rattle.stream.proofs.close.Reads as close
 use Rattle.stream.proofs.close.Kinds as close-kinds
+
+-- a store, how many bytes of it wait, a place, and the cut behind them; and the store then
+abbrev pub keep-rest-wrong : List (Row (List ℕ × (ℕ × (ℕ × List ℕ))) (List ℕ))
+keep-rest-wrong =
+    (1 ∷ 2 ∷ 3 ∷ 0 ∷ 0 ∷ [], (3, (1, 9 ∷ []))) only (2 ∷ 3 ∷ 9 ∷ 0 ∷ 0 ∷ [])  -- the cut left out, or laid in front of what waited
+    ∷ (1 ∷ 2 ∷ 3 ∷ 0 ∷ 0 ∷ [], (3, (2, []))) never (3 ∷ 2 ∷ 3 ∷ 0 ∷ 0 ∷ [])  -- bytes linger behind the kept ones
+    ∷ (1 ∷ 2 ∷ 3 ∷ 0 ∷ 0 ∷ [], (3, (4, 7 ∷ 8 ∷ 9 ∷ []))) only (8 ∷ 9 ∷ 0 ∷ 0 ∷ 0 ∷ [])  -- a place in the cut counted from the cut's front, or bytes that linger
+    ∷ (1 ∷ 2 ∷ 3 ∷ 4 ∷ 5 ∷ [], (3, (3, []))) only (0 ∷ 0 ∷ 0 ∷ 4 ∷ 5 ∷ [])  -- bytes behind those that waited are lost
+    ∷ (1 ∷ 2 ∷ 3 ∷ [], (3, (0, 9 ∷ []))) only (1 ∷ 2 ∷ 3 ∷ [])  -- a part kept of what the store does not take
+    ∷ (1 ∷ 2 ∷ 3 ∷ [], (3, (5, 9 ∷ []))) only (1 ∷ 2 ∷ 3 ∷ [])  -- a place behind the cut clears the store
+    ∷ (1 ∷ 2 ∷ 3 ∷ [], (4, (4, 9 ∷ []))) only (1 ∷ 2 ∷ 3 ∷ [])  -- bytes that the store does not have are taken as waiting
+    ∷ []
+
+pub keep-rest-rules-out : RulesOut (Kept _ keep-rest-kinds.ps keep-rest-kinds.r keep-rest.Post) (λ c. (now (c .args .0), (c .args .1 .0, (c .args .1 .1 .0, now (c .args .1 .1 .1 .0))))) (λ c. now (c .exit .0)) keep-rest-wrong
+unfolding hasRest restOf laid
+keep-rest-rules-out = ruled lists (λ (i : List ℕ × (ℕ × (ℕ × List ℕ))). restOf (i .1 .0) (i .1 .1 .0) (i .1 .1 .1) (i .0)) (λ c p. p) _ refl
 
 -- what is seen of a stream: its place, how many bytes are kept, frames and refused, and the whole
 -- store; and of a call: the answer, the stream then, and the buffer then

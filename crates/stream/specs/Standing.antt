@@ -2,9 +2,12 @@
 -- them.
 use Prim.Native.Nat.{ℕ, _+_, _-_, _≤_, _<_, _^_}
 use mathlib.Core.Path.{_≡_}
-use mathlib.Core.Bool.{Bool, true}
+use mathlib.Core.Bool.{Bool, true, _&&_}
 use mathlib.Core.List.{List, _++_}
-use lib.ListN.{length, drop, replicate}
+use lib.Dec.{leb}
+use lib.ListN.{length, take, drop, replicate}
+use Rattle.terms.specs.Paper.{pick}
+use Rattle.octets.specs.Octets.{laid}
 use Rattle.stream_spec.specs.declared.Stream.{Stream}
 use Rattle.stream_spec.specs.declared.Fed.{Fed}
 use Rattle.stream_spec.specs.State.{lastPlace, allZero, soundOf}
@@ -23,6 +26,19 @@ fedOf r kept = record { answer = r .answer; records = r .records; stream = whole
 -- a store of n bytes: these, and zeros behind them
 abbrev pub storeOf : ℕ → List ℕ → List ℕ
 storeOf n s = s ++ replicate (n - length s) 0
+
+-- a store whose first n bytes are 0 now
+abbrev pub blankTo : ℕ → List ℕ → List ℕ
+blankTo n kept = laid 0 (replicate n 0) kept
+
+-- a store of so much room has n bytes, and takes of them and m more those from a place on
+unfoldable pub hasRest : ℕ → ℕ → ℕ → ℕ → Bool
+hasRest room n at m = leb n room && (leb at (n + m) && leb (n + m) (at + room))
+
+-- of the first n bytes of a store and the cut behind them those from a place on are kept, in front
+-- of zeros up to n; the store as it was, where it has no such bytes or does not take them
+unfoldable pub restOf : ℕ → ℕ → List ℕ → List ℕ → List ℕ
+restOf n at cut kept = pick (hasRest (length kept) n at (length cut)) (laid 0 (drop at (take n kept ++ cut)) (blankTo n kept)) kept
 
 -- behind a run over a window of n bytes
 abbrev pub standsBehind : Standing → Ran → ℕ → Bool → Standing

@@ -1,26 +1,26 @@
 -- The lent store: bytes cleared, moved to its front and kept, with zeros behind them.
 use Prim.Native.Nat.{ℕ, zero, suc, _+_, _-_, _≤_, _<_}
 use mathlib.Core.Path.{_≡_, refl, sym, ap, ap₂, _∙_}
-use mathlib.Core.Bool.{true, _&&_}
+use mathlib.Core.Bool.{true, false, _&&_}
 use mathlib.Core.Logic.{⊎-elim}
 use mathlib.Core.List.{List, [], _∷_, _++_, append-assoc, append-nil}
 use native.Mathlib.Omega.{arith}
 use native.Mathlib.Nat.{zero-add}
-use lib.Dec.{eqb}
+use lib.Dec.{eqb, leb}
 use lib.Bits.{bitOr, or-zero-l, or-add-and, and-le-r}
 use lib.ListN.{length, take, drop, getD, set, replicate, length-append, length-drop, length-replicate, getD-replicate, replicate-append-replicate, take-append-drop, drop-of-length-le}
-use lib.Seq.{drop-drop, length-take-le, take-at, drop-at, drop-append-add, getD-append-add, getD-drop}
-use borrow.Author.Tests.{eqb-true, ne-eqb}
-use Rattle.terms.specs.Cases.{same}
+use lib.Seq.{drop-drop, length-take-le, take-all, take-at, drop-at, drop-append-le, drop-append-add, getD-append-add, getD-drop}
+use borrow.Author.Tests.{eqb-true, ne-eqb, le-leb, lt-leb, leb-true}
+use Rattle.terms.specs.Cases.{same, less}
 use Rattle.octets.specs.Octets.{laid}
-use Rattle.octets.specs.Overlays.{laid-nil, laid-front, laid-more, laid-all, length-laid}
-use Rattle.octets.specs.Papers.{laidIfRoom}
+use Rattle.octets.specs.Overlays.{laid-nil, laid-front, laid-more, laid-all, laid-next, length-laid}
+use Rattle.octets.specs.Papers.{laidIfRoom, lay-next}
 use Rattle.ledger_spec.proofs.Tests.{both}
 use Rattle.stream_spec.specs.State.{headOf, allZero}
 use Rattle.stream_spec.specs.StateLaws.{zero-step}
 use Rattle.stream_spec.specs.Window.{take-drop, padded, laid-in}
 use Rattle.stream_spec.specs.CutLaws.{head-take}
-use Rattle.stream.specs.Standing.{storeOf}
+use Rattle.stream.specs.Standing.{storeOf, blankTo, hasRest, restOf}
 
 -- ZEROS
 
@@ -43,10 +43,6 @@ blank-step all i s h = rw (or-blank all (getD s i 0)) (zero-step (eqb all 0) i s
 -- what lies behind n bytes of a store that is blank there
 blank-are : (n : ℕ) (s : List ℕ) → allZero (drop n s) ≡ true → drop n s ≡ replicate (length s - n) 0
 blank-are n s z = zeros-are (drop n s) z ∙ rw (length-drop n s)
-
--- its first n bytes, and zeros behind them
-pub blank-store : (n : ℕ) (s : List ℕ) → n ≤ length s → allZero (drop n s) ≡ true → s ≡ storeOf (length s) (take n s)
-blank-store n s h z = sym (take-append-drop n s) ∙ ap (λ (r : List ℕ). take n s ++ r) (blank-are n s z ∙ rw (length-take-le n s h))
 
 -- CLEARED
 
@@ -86,7 +82,21 @@ down-more a m i d w h k q =
 
 -- KEPT
 
-module _ (a e : ℕ) (d : List ℕ) (h : a ≤ e) (k : e ≤ length d) (z : allZero (drop e d) ≡ true) where
+-- bytes at the front of a store, and zeros behind them up to n
+over-blank : (r d : List ℕ) (n : ℕ) → length r ≤ n → laid 0 r (blankTo n d) ≡ r ++ (replicate (n - length r) 0 ++ drop n d)
+over-blank r d n h =
+    let m : length r + (n - length r) ≡ n = omega arith in
+    let z : replicate {A = ℕ} n 0 ≡ replicate (length r) 0 ++ replicate (n - length r) 0 = sym (replicate-append-replicate {A = ℕ} (length r) (n - length r) 0 ∙ rw m) in
+    let f : blankTo n d ≡ replicate (length r) 0 ++ (replicate (n - length r) 0 ++ drop n d) = laid-front (replicate n 0) d ∙ ap (λ (i : ℕ). replicate {A = ℕ} n 0 ++ drop i d) (length-replicate {A = ℕ} n 0) ∙ ap (λ (s : List ℕ). s ++ drop n d) z ∙ append-assoc (replicate (length r) 0) (replicate (n - length r) 0) (drop n d) in
+    laid-front r (blankTo n d) ∙ ap (λ (s : List ℕ). r ++ s) (ap (drop (length r)) f ∙ drop-at (replicate (length r) 0) (replicate (n - length r) 0 ++ drop n d) (length r) (length-replicate {A = ℕ} (length r) 0))
+
+-- the bytes behind them were blank: they stand in front of zeros
+pub front-store : (n : ℕ) (s d w : List ℕ) → n ≤ length d → allZero (drop n d) ≡ true → w ≡ laid 0 s (blankTo n d) → w ≡ storeOf (length d) s
+front-store n s d w h z q =
+    let b : n + (length d - n) ≡ length d = omega arith in
+    padded s (blankTo n d) w (length d) q (laid-front (replicate n 0) d ∙ rw (length-replicate {A = ℕ} n 0, blank-are n d z, replicate-append-replicate {A = ℕ} n (length d - n) 0, b))
+
+module _ (a e : ℕ) (d : List ℕ) (h : a ≤ e) (k : e ≤ length d) where
   abbrev rest : List ℕ
   rest = take (e - a) (drop a d)
 
@@ -94,31 +104,100 @@ module _ (a e : ℕ) (d : List ℕ) (h : a ≤ e) (k : e ≤ length d) (z : allZ
   rest-long = length-take-le (e - a) (drop a d) (omega (arith, length-drop a d))
 
   -- moved to the front and cleared behind
-  pub shifted : (v w : List ℕ) → v ≡ laid 0 rest d → w ≡ laid (e - a) (replicate (e - (e - a)) 0) v → w ≡ storeOf (length d) (drop a (take e d))
-  unfolding laid
+  pub shifted : (v w : List ℕ) → v ≡ laid 0 rest d → w ≡ laid (e - a) (replicate (e - (e - a)) 0) v → w ≡ laid 0 (drop a (take e d)) (blankTo e d)
   shifted v w p q =
       let l = rest-long in
-      let f : v ≡ rest ++ drop (e - a) d = p ∙ laid-front rest d ∙ rw l in
-      let n : length (replicate {A = ℕ} (e - (e - a)) 0) ≡ a = length-replicate (e - (e - a)) 0 ∙ omega arith in
-      let t : take (e - a) v ≡ rest = ap (take (e - a)) f ∙ take-at rest (drop (e - a) d) (e - a) l in
-      let x : e - a + length (replicate {A = ℕ} (e - (e - a)) 0) ≡ length rest + a = omega (arith, n, l) in
-      let y : e - a + a ≡ e = omega arith in
-      let u : drop (e - a + length (replicate {A = ℕ} (e - (e - a)) 0)) v ≡ replicate (length d - e) 0 = ap (λ (i : ℕ). drop i v) x ∙ ap (drop (length rest + a)) f ∙ drop-append-add rest (drop (e - a) d) a ∙ drop-drop a (e - a) d ∙ rw y (blank-are e d z) in
-      let b : e - (e - a) + (length d - e) ≡ length d - length rest = omega (arith, l) in
-      q ∙ rw (t, u, replicate-append-replicate {A = ℕ} (e - (e - a)) (length d - e) 0, b, ← take-drop a e d h)
+      let z : List ℕ = replicate (e - (e - a)) 0 in
+      let n : length (rest ++ z) ≡ e = length-append rest z ∙ omega (arith, l, length-replicate {A = ℕ} (e - (e - a)) 0) in
+      laid-next (e - a) rest z d v w q p l (omega arith)
+      ∙ laid-front (rest ++ z) d
+      ∙ ap (λ (i : ℕ). (rest ++ z) ++ drop i d) n
+      ∙ append-assoc rest z (drop e d)
+      ∙ ap (λ (i : ℕ). rest ++ (replicate (e - i) 0 ++ drop e d)) (sym l)
+      ∙ sym (over-blank rest d e (omega (arith, l)))
+      ∙ ap (λ (s : List ℕ). laid 0 s (blankTo e d)) (take-drop a e d h)
 
   -- nothing to move
-  pub shifted-none : a ≡ 0 → d ≡ storeOf (length d) (drop a (take e d))
-  shifted-none n = blank-store e d k z ∙ rw n
+  pub shifted-none : a ≡ 0 → d ≡ laid 0 (drop a (take e d)) (blankTo e d)
+  shifted-none z =
+      let l : length (take e d) ≡ e = length-take-le e d k in
+      let n : e - length (take e d) ≡ 0 = omega (arith, l) in
+      sym (ap (λ (i : ℕ). laid 0 (drop i (take e d)) (blankTo e d)) z ∙ over-blank (take e d) d e (omega (arith, l)) ∙ rw (n, take-append-drop e d))
 
 -- other bytes in place of the first n
-pub kept-instead : (n : ℕ) (s d v w : List ℕ) → n ≤ length d → allZero (drop n d) ≡ true → length s ≤ length d → v ≡ laid 0 (replicate (n - 0) 0) d → w ≡ laidIfRoom 0 s v → w ≡ storeOf (length d) s
-kept-instead n s d v w h z k p q =
+pub kept-instead : (n : ℕ) (s d v w : List ℕ) → n ≤ length d → length s ≤ length d → v ≡ laid 0 (replicate (n - 0) 0) d → w ≡ laidIfRoom 0 s v → w ≡ laid 0 s (blankTo n d)
+kept-instead n s d v w h k p q =
     let m : n - 0 ≡ n = omega arith in
-    let l = length-replicate {A = ℕ} n 0 in
-    let b : n + (length d - n) ≡ length d = omega arith in
-    let f : v ≡ replicate (length d) 0 = (rw m at p) ∙ laid-front (replicate n 0) d ∙ rw (l, blank-are n d z, replicate-append-replicate {A = ℕ} n (length d - n) 0, b) in
-    padded s v w (length d) (laid-in 0 s v w (omega (arith, k, ap length f, length-replicate {A = ℕ} (length d) 0)) q) f
+    let f : v ≡ blankTo n d = rw m at p in
+    let l : length v ≡ length d = ap length f ∙ length-laid 0 (replicate n 0) d (omega (arith, length-replicate {A = ℕ} n 0)) in
+    laid-in 0 s v w (omega (arith, k, l)) q ∙ rw f
+
+-- WHAT WAITS BEHIND A RUN
+
+-- all bytes from a place on
+pub tail-whole : (i : ℕ) (l : List ℕ) → take (length l - i) (drop i l) ≡ drop i l
+tail-whole i l = take-all (length l - i) (drop i l) (omega (arith, length-drop i l))
+
+same-test : (a b c d : ℕ) → (a ≤ b → c ≤ d) → (b < a → d < c) → leb a b ≡ leb c d
+same-test a b c d y n = ⊎-elim (λ (l : b < a). lt-leb a b l ∙ sym (lt-leb c d (n l))) (λ (l : a ≤ b). le-leb a b l ∙ sym (le-leb c d (y l))) (less b a)
+
+module _ (room n at m : ℕ) where
+  pub rest-lacks : room < n → false ≡ hasRest room n at m
+  unfolding hasRest
+  rest-lacks h = sym (rw (lt-leb n room h))
+
+  pub rest-before : n ≤ room → at ≤ n → leb m (room - (n - at)) ≡ hasRest room n at m
+  unfolding hasRest
+  rest-before h k = same-test m (room - (n - at)) (n + m) (at + room) (λ l. omega arith) (λ l. omega arith) ∙ sym (rw (le-leb n room h, le-leb at (n + m) (omega arith)))
+
+  pub rest-past : n ≤ room → n < at → m < at - n → false ≡ hasRest room n at m
+  unfolding hasRest
+  rest-past h k l = sym (rw (le-leb n room h, lt-leb at (n + m) (omega arith)))
+
+  pub rest-behind : n ≤ room → n < at → at - n ≤ m → leb (m - (at - n)) room ≡ hasRest room n at m
+  unfolding hasRest
+  rest-behind h k l = same-test (m - (at - n)) room (n + m) (at + room) (λ i. omega arith) (λ i. omega arith) ∙ sym (rw (le-leb n room h, le-leb at (n + m) (omega arith)))
+
+  pub rest-there : hasRest room n at m ≡ true → (n ≤ room) × ((at ≤ n + m) × (n + m ≤ at + room))
+  unfolding hasRest
+  rest-there e = let p = both (leb n room) _ e in let q = both (leb at (n + m)) _ (p .1) in (leb-true _ _ (p .0), (leb-true _ _ (q .0), leb-true _ _ (q .1)))
+
+module _ (n at : ℕ) (cut d : List ℕ) where
+  pub rest-none : hasRest (length d) n at (length cut) ≡ false → d ≡ restOf n at cut d
+  unfolding restOf
+  rest-none f = sym (rw f)
+
+  module _ (t : hasRest (length d) n at (length cut) ≡ true) where
+    rest-is : restOf n at cut d ≡ laid 0 (drop at (take n d ++ cut)) (blankTo n d)
+    unfolding restOf
+    rest-is = rw t
+
+    held : length (take n d) ≡ n
+    held = length-take-le n d (rest-there (length d) n at (length cut) t .0)
+
+    -- from a place among the n bytes on: the cut is laid behind what is left of them
+    pub rest-laid : at ≤ n → (v w : List ℕ) → v ≡ laid 0 (drop at (take n d)) (blankTo n d) → w ≡ laidIfRoom (n - at) cut v → w ≡ restOf n at cut d
+    rest-laid h v w p q =
+        let b = rest-there (length d) n at (length cut) t in
+        let l : length (drop at (take n d)) ≡ n - at = length-drop at (take n d) ∙ rw held in
+        let m : length (blankTo n d) ≡ length d = length-laid 0 (replicate n 0) d (omega (arith, length-replicate {A = ℕ} n 0, b .0)) in
+        lay-next (n - at) (drop at (take n d)) cut (blankTo n d) v w q p l (omega (arith, m, b .1 .1, b .0))
+        ∙ ap (λ (s : List ℕ). laid 0 s (blankTo n d)) (sym (drop-append-le at (take n d) cut (omega (arith, held))))
+        ∙ sym rest-is
+
+    -- from a place of the cut on
+    pub rest-kept : n < at → (s w : List ℕ) → s ≡ drop (at - n) cut → w ≡ laid 0 s (blankTo n d) → w ≡ restOf n at cut d
+    rest-kept h s w e q =
+        let i : at ≡ length (take n d) + (at - n) = omega (arith, held) in
+        let f : drop at (take n d ++ cut) ≡ s = ap (λ (k : ℕ). drop k (take n d ++ cut)) i ∙ drop-append-add (take n d) cut (at - n) ∙ sym e in
+        q ∙ sym (rest-is ∙ rw f)
+
+-- where the store is blank behind the n bytes, what is kept stands in front of zeros
+pub rest-store : (n at : ℕ) (cut d : List ℕ) → n ≤ length d → allZero (drop n d) ≡ true → at ≤ n + length cut → n + length cut ≤ at + length d → restOf n at cut d ≡ storeOf (length d) (drop at (headOf n d ++ cut))
+unfolding hasRest
+rest-store n at cut d h z k l =
+    let t : hasRest (length d) n at (length cut) ≡ true = rw (le-leb n (length d) h, le-leb at (n + length cut) k, le-leb (n + length cut) (at + length d) l) in
+    front-store n (drop at (take n d ++ cut)) d (restOf n at cut d) h z (rest-is n at cut d t) ∙ rw (head-take n d h)
 
 -- a whole store copied
 pub laid-whole : (s d e : List ℕ) → length s ≡ length d → e ≡ laidIfRoom 0 s d → e ≡ s

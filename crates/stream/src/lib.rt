@@ -14,7 +14,7 @@ ghost use Rattle.stream_spec.specs.Run.{waitsAt, passedOver, strideOf, accounte
 ghost use Rattle.stream_spec.specs.Calls.{Feed, Close, mayTake, givenOf, answerFor, nextFor, leavesFor, answerTo, nextOf, leaves, fedPaper, refusedBy};
 ghost use Rattle.terms.specs.Verdicts.{verdictNumber};
 ghost use Rattle.stream.specs.Pieces.{Piece};
-ghost use Rattle.stream.specs.Standing.{whole, fedOf, storeOf, standsBehind, Stored, Fits, Ready};
+ghost use Rattle.stream.specs.Standing.{whole, fedOf, standsBehind, blankTo, hasRest, restOf, Stored, Fits, Ready};
 ghost use Rattle.stream.specs.Pushed.{PushedIs};
 use ledger::Answer;
 use ledger::Ledger;
@@ -180,10 +180,10 @@ fn down(w: &mut [u8], a: usize, m: usize)
     }
 }
 
-// Of a store that is blank from e on, the bytes from a to e are kept: they move to the front.
+// The bytes from a to e move to the front, and those behind them, up to e, become 0.
 fn shift(kept: &mut [u8], a: usize, e: usize)
-    requires { ⌜ (a ≤ e) × ((e ≤ length (now kept)) × (allZero (drop e (now kept)) ≡ true)) ⌝ }
-    ensures { λ _. ⌜ now (kept .exit) ≡ storeOf (length (now (kept .entry))) (drop a (take e (now (kept .entry)))) ⌝ }
+    requires { ⌜ (a ≤ e) × (e ≤ length (now kept)) ⌝ }
+    ensures { λ _. ⌜ now (kept .exit) ≡ laid 0 (drop a (take e (now (kept .entry)))) (blankTo e (now (kept .entry))) ⌝ }
 {
     if 0 < a {
         down(kept, a, e - a);
@@ -191,13 +191,46 @@ fn shift(kept: &mut [u8], a: usize, e: usize)
     }
 }
 
-// In a store that is blank from n on, these bytes are kept in place of those before.
+// These bytes stand at the front, in place of the first n; behind them, up to n, all become 0.
 fn keep(kept: &mut [u8], n: usize, rest: &[u8])
-    requires { ⌜ (n ≤ length (now kept)) × ((allZero (drop n (now kept)) ≡ true) × (length (now rest) ≤ length (now kept))) ⌝ }
-    ensures { λ _. ⌜ now (kept .exit) ≡ storeOf (length (now (kept .entry))) (now (rest .entry)) ⌝ }
+    requires { ⌜ (n ≤ length (now kept)) × (length (now rest) ≤ length (now kept)) ⌝ }
+    ensures { λ _. ⌜ now (kept .exit) ≡ laid 0 (now (rest .entry)) (blankTo n (now (kept .entry))) ⌝ }
 {
     clear(kept, 0, n);
     octets::lay(kept, 0, rest);
+}
+
+// Whether a store of so much room has n bytes, and takes of them and m more those from a place on.
+fn has_rest(room: usize, n: usize, at: usize, m: usize) -> bool
+    ensures { λ r. ⌜ r ≡ hasRest room n at m ⌝ }
+{
+    if room < n {
+        return false;
+    }
+    if at <= n {
+        return m <= room - (n - at);
+    }
+    if m < at - n {
+        return false;
+    }
+    m - (at - n) <= room
+}
+
+// What waits behind a run is kept: of the first n bytes of a store and the cut behind them those
+// from a place on, at its front, with zeros behind them up to n. Nothing changes where the store
+// has no n bytes, does not take those, or the place is behind the cut.
+pub fn keep_rest(kept: &mut [u8], n: usize, at: usize, cut: &[u8])
+    ensures { λ _. ⌜ now (kept .exit) ≡ restOf n at (now (cut .entry)) (now (kept .entry)) ⌝ }
+{
+    if !has_rest(kept.len(), n, at, cut.len()) {
+        return;
+    }
+    if at <= n {
+        shift(kept, at, n);
+        octets::lay(kept, n - at, cut);
+        return;
+    }
+    keep(kept, n, &cut[at - n..]);
 }
 
 // A run over bytes that do not stand in the store: those that wait, and what came behind them.

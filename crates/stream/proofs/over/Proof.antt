@@ -10,6 +10,7 @@ use lib.Seq.{take-all}
 use borrow.Author.Needs.{needs}
 use Rattle.stream_spec.specs.Window.{kept-few}
 use Rattle.stream.specs.Standing.{storeOf}
+use Rattle.stream.specs.StoreLaws.{front-store}
 use Rattle.stream.specs.PieceLaws.{run-pushed}
 use Rattle.stream.proofs.over.Statement.{statement}
 use Rattle.stream.proofs.over.Tie as tie
@@ -42,7 +43,7 @@ keep-requires : tie.Need-keep-requires
 keep-requires c κs =
     let r = c .before .before .before .before in
     let p = start r .pre .0 in
-    (omega (arith, p .size, p .few), (p .blank, omega (arith, ap length (whole-rest r), few r, p .size)))
+    (omega (arith, p .size, p .few), omega (arith, ap length (whole-rest r), few r, p .size))
 
 behind-requires : tie.Need-behind-requires
 behind-requires c κs = search needs
@@ -57,7 +58,9 @@ returns : tie.Need-returns
 returns c = λ cut e.
     let r = c .before .before .before .before .before .before .before .before in
     let s = start r .args in
-    let k = rw (whole-rest r, start r .pre .0 .size) at (c .before .before .before .keep .ensures) in
+    let p = start r .pre .0 in
+    let f = front-store (s .st .len) (rest r) (s .kept .now) _ (omega (arith, p .size, p .few)) (p .blank) (rw (whole-rest r) at (c .before .before .before .keep .ensures)) in
+    let k = rw (p .size) at f in
     rw (c .behind .ensures) (run-pushed (s .st) (s .kept .now) false cut (s .w .now) e (s .k) (r .run .result) _ _ _ _ (r .run .ensures) k refl)
 
 pub over-spec : {M : Type 1} → statement M

@@ -9,7 +9,7 @@ use lib.ListN.{length, take}
 use borrow.Author.Needs.{needs}
 use Rattle.stream_spec.specs.State.{headOf}
 use Rattle.stream_spec.specs.Window.{joined-length}
-use Rattle.stream.specs.StoreLaws.{Joined, joined}
+use Rattle.stream.specs.StoreLaws.{Joined, joined, front-store}
 use Rattle.stream.specs.PieceLaws.{run-pushed}
 use Rattle.stream.proofs.push.Statement.{statement}
 use Rattle.stream.proofs.push.Tie as tie
@@ -50,7 +50,7 @@ run-requires c κs =
 shift-requires : tie.Need-shift-requires
 shift-requires c κs =
     let j = store (c .before .before .before .before .before .before .before .before) in
-    (inside (c .before .before .before), (omega (arith, j .long, start (c .before .before .before .before .before .before .before .before) .pre .0 .size, start (c .before .before .before .before .before .before .before .before) .pre .1 .0), j .blank))
+    (inside (c .before .before .before), omega (arith, j .long, start (c .before .before .before .before .before .before .before .before) .pre .0 .size, start (c .before .before .before .before .before .before .before .before) .pre .1 .0))
 
 behind-requires : tie.Need-behind-requires
 behind-requires c κs = (inside (c .before .before .before .before .before .before), start (c .before .before .before .before .before .before .before .before .before .before .before) .pre .1 .1 .places)
@@ -65,7 +65,8 @@ returns : tie.Need-returns
 returns c =
     let l = c .before .before .before .before .before .before .before .before .before .before .before .before in
     let s = start l .args in
-    let k = rw (store l .long, start l .pre .0 .size) at (c .before .before .before .shift .ensures) in
+    let f = front-store (end l) _ (l .lay .last .0) _ (omega (arith, store l .long, start l .pre .0 .size, start l .pre .1 .0)) (store l .blank) (c .before .before .before .shift .ensures) in
+    let k = rw (store l .long, start l .pre .0 .size) at f in
     rw (c .behind .ensures) (run-pushed (s .st) (s .kept .now) (s .closing) (s .piece .now) (take (end l) (l .lay .last .0)) (store l .window) (s .k) (c .before .before .before .before .before .before .before .run .result) _ _ _ _ (c .before .before .before .before .before .before .before .run .ensures) k (sym (size l)))
 
 pub push-spec : {M : Type 1} → statement M

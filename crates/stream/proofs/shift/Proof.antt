@@ -22,10 +22,10 @@ same-length : tie.Need-same-length
 same-length c = search needs
 
 returns : tie.Need-returns
-returns c = let s = c .before .before .before .before .before .before .before .before .before .before in shifted (s .args .a) (s .args .e) (s .args .kept .now) (s .pre .0) (s .pre .1 .0) (s .pre .1 .1) _ _ (c .before .before .before .before .before .before .down .ensures) (c .before .before .clear .ensures)
+returns c = let s = c .before .before .before .before .before .before .before .before .before .before in shifted (s .args .a) (s .args .e) (s .args .kept .now) (s .pre .0) (s .pre .1) _ _ (c .before .before .before .before .before .before .down .ensures) (c .before .before .clear .ensures)
 
 returns-2 : tie.Need-returns-2
-returns-2 c = let s = c .before .before in shifted-none (s .args .a) (s .args .e) (s .args .kept .now) (s .pre .0) (s .pre .1 .0) (s .pre .1 .1) (omega arith)
+returns-2 c = let s = c .before .before in shifted-none (s .args .a) (s .args .e) (s .args .kept .now) (s .pre .0) (s .pre .1) (omega arith)
 
 pub shift-spec : {M : Type 1} → statement M
 shift-spec = tie.close (tie.spec sub-down down-requires sub-clear clear-requires same-length returns returns-2)
