@@ -69,6 +69,7 @@ use Rattle.record.proofs.OneAnswer as «record»
 use Rattle.listing_text.proofs.OneAnswer as listing_text
 use Rattle.frame_view.proofs.OneAnswer as frame_view
 use Rattle.reading.proofs.OneAnswer as reading
+use Rattle.reading_parts.proofs.OneAnswer as reading_parts
 use Rattle.walk_step.proofs.OneAnswer as walk_step
 use Rattle.walk.proofs.OneAnswer as walk
 use Rattle.stream_spec.proofs.OneAnswer as stream_spec
@@ -253,6 +254,12 @@ view-answers =
 seen-answers : Named
 seen-answers =
     let see-one-answer = reading.see-one-answer in
+    named
+
+-- reading_parts
+parts-answers : Named
+parts-answers =
+    let see-one-answer = reading_parts.see-one-answer in
     named
 
 -- walk_step: an offer
