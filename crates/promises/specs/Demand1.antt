@@ -291,6 +291,7 @@ flow-answers =
 -- stream
 stream-answers : Named
 stream-answers =
+    let keep-rest-one-answer = stream.keep-rest-one-answer in
     let may-take-one-answer = stream.may-take-one-answer in
     let feed-one-answer = stream.feed-one-answer in
     let close-one-answer = stream.close-one-answer in
@@ -677,6 +678,7 @@ walk-buffers =
 
 stream-buffers : Named
 stream-buffers =
+    let keep-rest-one-buffer = stream.keep-rest-one-buffer in
     let feed-one-buffer = stream.feed-one-buffer in
     let feed-refused-keeps = stream.feed-refused-keeps in
     let close-one-buffer = stream.close-one-buffer in

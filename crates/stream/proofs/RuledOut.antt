@@ -104,7 +104,7 @@ closed = nextOf waiting Close 64
 abbrev moved : ℕ → ℕ → Stream
 moved place len = record { place = place; seeking = opened .seeking; closed = opened .closed; len = len; kept = opened .kept; tally = opened .tally }
 
--- a cut of two pieces: an M101 of 8,192 bytes, and A behind it; and the records of both
+-- a cut longer than the store: an M101 of 8,192 bytes, and A behind it; and the records of both
 abbrev longest : List ℕ
 longest = framed 0x4D313031 (replicate 8164 0)
 
@@ -139,7 +139,7 @@ feed-wrong =
     ∷ (begun, ([], replicate 64 7)) only (answer 0 (0 ∷ []), (0 ∷ 20 ∷ 0 ∷ 0 ∷ store (take 20 A), replicate 64 7))  -- an empty cut is not the end
     ∷ (opened, (replicate 29 0xFF, replicate 64 7)) only (answer 0 (1 ∷ []), (6 ∷ 23 ∷ 0 ∷ 1 ∷ store (replicate 23 0xFF), recordOf (blankOf 0 2 0 0)))  -- the search does not pass over a place that waits
     ∷ (damaged, (frameB, replicate 64 7)) only (answer 0 (1 ∷ []), (69 ∷ 0 ∷ 1 ∷ 1 ∷ store [], recordOf recordB))  -- damage recorded before a cut is not recorded again behind it
-    ∷ (opened, (longest ++ A, replicate 128 7)) never (answer 0 (2 ∷ []), (8220 ∷ 0 ∷ 2 ∷ 0 ∷ store [], recordOf behindLongest ++ replicate 64 7))  -- the records of a later piece of a cut laid over the first
+    ∷ (opened, (longest ++ A, replicate 128 7)) never (answer 0 (2 ∷ []), (8220 ∷ 0 ∷ 2 ∷ 0 ∷ store [], recordOf behindLongest ++ replicate 64 7))  -- a later record of a cut laid over the first
     ∷ (opened, (longest ++ A, replicate 128 7)) only (answer 0 (2 ∷ []), (8220 ∷ 0 ∷ 2 ∷ 0 ∷ store [], recordOf longRecord ++ recordOf behindLongest))
     ∷ (opened, (A, replicate 63 7)) only (answer 8 (0 ∷ []), (0 ∷ 0 ∷ 0 ∷ 0 ∷ store [], replicate 63 7))  -- nothing changes beside 8, and no part of the cut is taken
     ∷ (begun, (drop 20 A, replicate 63 7)) only (answer 8 (0 ∷ []), (0 ∷ 20 ∷ 0 ∷ 0 ∷ store (take 20 A), replicate 63 7))  -- nor laid in the store

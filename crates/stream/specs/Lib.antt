@@ -1,5 +1,3 @@
 pub mod Standing
-pub mod Pieces
-pub mod Pushed
 pub mod StoreLaws
-pub mod PieceLaws
+pub mod Pushed

@@ -1,6 +1,6 @@
 -- A stream whose bytes that wait stand in a lent store: what both stand for, and what is asked of
 -- them.
-use Prim.Native.Nat.{ℕ, _+_, _-_, _≤_, _<_, _^_}
+use Prim.Native.Nat.{ℕ, _+_, _-_, _≤_}
 use mathlib.Core.Path.{_≡_}
 use mathlib.Core.Bool.{Bool, true, _&&_}
 use mathlib.Core.List.{List, _++_}
@@ -10,7 +10,8 @@ use Rattle.terms.specs.Paper.{pick}
 use Rattle.octets.specs.Octets.{laid}
 use Rattle.stream_spec.specs.declared.Stream.{Stream}
 use Rattle.stream_spec.specs.declared.Fed.{Fed}
-use Rattle.stream_spec.specs.State.{lastPlace, allZero, soundOf}
+use Rattle.stream_spec.specs.State.{lastPlace, headOf, soundOf}
+use Rattle.stream_spec.specs.Run.{RanIs}
 use Rattle.stream.specs.declared.Standing.{Standing}
 use Rattle.stream.specs.declared.Answered.{Answered}
 use Rattle.stream.specs.declared.Ran.{Ran}
@@ -40,21 +41,13 @@ hasRest room n at m = leb n room && (leb at (n + m) && leb (n + m) (at + room))
 unfoldable pub restOf : ℕ → ℕ → List ℕ → List ℕ → List ℕ
 restOf n at cut kept = pick (hasRest (length kept) n at (length cut)) (laid 0 (drop at (take n kept ++ cut)) (blankTo n kept)) kept
 
--- behind a run over a window of n bytes
+-- behind a run over n bytes
 abbrev pub standsBehind : Standing → Ran → ℕ → Bool → Standing
 standsBehind st ran n closing = record { place = st .place + ran .at; seeking = ran .seeking; closed = closing; len = n - ran .at; tally = ran .tally }
 
--- the store is of its size, and blank behind the bytes that wait
-pub record Stored (st : Standing) (kept : List ℕ) : Type 0 where
-  pub size : length kept ≡ 8191
-  pub few : st .len ≤ 8191
-  pub blank : allZero (drop (st .len) kept) ≡ true
-
--- places, and numbers of records behind k, of n bytes from the first that waits on stay in 64 bits
-pub record Fits (st : Standing) (n k : ℕ) : Type 0 where
-  pub places : st .place + n < 2 ^ 64
-  pub records : k + n < 2 ^ 64
-  pub counts : st .tally .frames + st .tally .refused ≤ st .place
+-- a run over the bytes that wait and the cut
+abbrev pub RanOver : Standing → List ℕ → Bool → List ℕ → Ran → Type 0
+RanOver st kept closing cut ran = RanIs (headOf (st .len) kept ++ cut) (st .place) (st .seeking) closing (st .tally) 0 (ran .at) (ran .seeking) (ran .count) (ran .tally)
 
 -- the stream keeps the rules, and n bytes more may come
 pub record Ready (st : Standing) (kept : List ℕ) (n : ℕ) : Type 0 where

@@ -1,15 +1,16 @@
--- The lent store: bytes cleared, moved to its front and kept, with zeros behind them.
-use Prim.Native.Nat.{ℕ, zero, suc, _+_, _-_, _≤_, _<_}
+-- The lent store: bytes cleared, moved to its front and kept, with zeros behind them; and bytes in
+-- two parts.
+use Prim.Native.Nat.{ℕ, _+_, _-_, _≤_, _<_}
 use mathlib.Core.Path.{_≡_, refl, sym, ap, ap₂, _∙_}
 use mathlib.Core.Bool.{true, false, _&&_}
 use mathlib.Core.Logic.{⊎-elim}
-use mathlib.Core.List.{List, [], _∷_, _++_, append-assoc, append-nil}
+use mathlib.Core.List.{List, [], _∷_, _++_, append-assoc}
 use native.Mathlib.Omega.{arith}
 use native.Mathlib.Nat.{zero-add}
 use lib.Dec.{eqb, leb}
 use lib.Bits.{bitOr, or-zero-l, or-add-and, and-le-r}
-use lib.ListN.{length, take, drop, getD, set, replicate, length-append, length-drop, length-replicate, getD-replicate, replicate-append-replicate, take-append-drop, drop-of-length-le}
-use lib.Seq.{drop-drop, length-take-le, take-all, take-at, drop-at, drop-append-le, drop-append-add, getD-append-add, getD-drop}
+use lib.ListN.{length, take, drop, getD, set, replicate, length-append, length-drop, length-replicate, getD-replicate, replicate-append-replicate, take-append-drop}
+use lib.Seq.{length-take-le, take-all, drop-at, drop-append-le, drop-append-add, getD-append-add, getD-drop}
 use borrow.Author.Tests.{eqb-true, ne-eqb, le-leb, lt-leb, leb-true}
 use Rattle.terms.specs.Cases.{same, less}
 use Rattle.octets.specs.Octets.{laid}
@@ -132,11 +133,18 @@ kept-instead n s d v w h k p q =
     let l : length v ≡ length d = ap length f ∙ length-laid 0 (replicate n 0) d (omega (arith, length-replicate {A = ℕ} n 0)) in
     laid-in 0 s v w (omega (arith, k, l)) q ∙ rw f
 
--- WHAT WAITS BEHIND A RUN
+-- FROM A PLACE ON, in one part and in two
 
--- all bytes from a place on
 pub tail-whole : (i : ℕ) (l : List ℕ) → take (length l - i) (drop i l) ≡ drop i l
 tail-whole i l = take-all (length l - i) (drop i l) (omega (arith, length-drop i l))
+
+pub both-before : (p : ℕ) (a b : List ℕ) → p < length a → take (length a - p) (drop p a) ++ b ≡ drop p (a ++ b)
+both-before p a b h = rw (tail-whole p a) (sym (drop-append-le p a b (omega arith)))
+
+pub both-behind : (p : ℕ) (a b : List ℕ) → length a ≤ p → drop (p - length a) b ≡ drop p (a ++ b)
+both-behind p a b h = let i : p ≡ length a + (p - length a) = omega arith in sym (ap (λ (k : ℕ). drop k (a ++ b)) i ∙ drop-append-add a b (p - length a))
+
+-- WHAT WAITS BEHIND A RUN
 
 same-test : (a b c d : ℕ) → (a ≤ b → c ≤ d) → (b < a → d < c) → leb a b ≡ leb c d
 same-test a b c d y n = ⊎-elim (λ (l : b < a). lt-leb a b l ∙ sym (lt-leb c d (n l))) (λ (l : a ≤ b). le-leb a b l ∙ sym (le-leb c d (y l))) (less b a)
@@ -188,9 +196,8 @@ module _ (n at : ℕ) (cut d : List ℕ) where
     -- from a place of the cut on
     pub rest-kept : n < at → (s w : List ℕ) → s ≡ drop (at - n) cut → w ≡ laid 0 s (blankTo n d) → w ≡ restOf n at cut d
     rest-kept h s w e q =
-        let i : at ≡ length (take n d) + (at - n) = omega (arith, held) in
-        let f : drop at (take n d ++ cut) ≡ s = ap (λ (k : ℕ). drop k (take n d ++ cut)) i ∙ drop-append-add (take n d) cut (at - n) ∙ sym e in
-        q ∙ sym (rest-is ∙ rw f)
+        let f : s ≡ drop at (take n d ++ cut) = e ∙ ap (λ (i : ℕ). drop (at - i) cut) (sym held) ∙ both-behind at (take n d) cut (omega (arith, held)) in
+        q ∙ ap (λ (l : List ℕ). laid 0 l (blankTo n d)) f ∙ sym rest-is
 
 -- where the store is blank behind the n bytes, what is kept stands in front of zeros
 pub rest-store : (n at : ℕ) (cut d : List ℕ) → n ≤ length d → allZero (drop n d) ≡ true → at ≤ n + length cut → n + length cut ≤ at + length d → restOf n at cut d ≡ storeOf (length d) (drop at (headOf n d ++ cut))
@@ -198,32 +205,3 @@ unfolding hasRest
 rest-store n at cut d h z k l =
     let t : hasRest (length d) n at (length cut) ≡ true = rw (le-leb n (length d) h, le-leb at (n + length cut) k, le-leb (n + length cut) (at + length d) l) in
     front-store n (drop at (take n d ++ cut)) d (restOf n at cut d) h z (rest-is n at cut d t) ∙ rw (head-take n d h)
-
--- a whole store copied
-pub laid-whole : (s d e : List ℕ) → length s ≡ length d → e ≡ laidIfRoom 0 s d → e ≡ s
-laid-whole s d e l q = let n : drop (length s) d ≡ [] = drop-of-length-le d {i = length s} (omega arith) in laid-in 0 s d e (omega arith) q ∙ laid-front s d ∙ rw (n, append-nil s)
-
--- JOINED: a piece laid behind the n bytes that wait
-
-pub record Joined (n : ℕ) (piece d e : List ℕ) : Type 0 where
-  pub long : length e ≡ length d
-  pub window : take (n + length piece) e ≡ headOf n d ++ piece
-  pub blank : allZero (drop (n + length piece) e) ≡ true
-
-zeros-behind : (i : ℕ) (s : List ℕ) → allZero s ≡ true → allZero (drop i s) ≡ true
-unfolding allZero
-zeros-behind zero s z = z
-zeros-behind (suc i) [] z = refl
-zeros-behind (suc i) (b ∷ s) z = zeros-behind i s (both (eqb b 0) (allZero s) z .1)
-
-pub joined : (n : ℕ) (piece d e : List ℕ) → n + length piece ≤ length d → allZero (drop n d) ≡ true → e ≡ laidIfRoom n piece d → Joined n piece d e
-unfolding laid
-joined n piece d e h z q =
-    let p : e ≡ laid n piece d = laid-in n piece d e h q in
-    let t : length (take n d ++ piece) ≡ n + length piece = length-append (take n d) piece ∙ rw (length-take-le n d (omega arith)) in
-    let a : e ≡ (take n d ++ piece) ++ drop (n + length piece) d = p ∙ sym (append-assoc (take n d) piece (drop (n + length piece) d)) in
-    record {
-      long = ap length p ∙ length-laid n piece d h;
-      window = ap (take (n + length piece)) a ∙ take-at (take n d ++ piece) (drop (n + length piece) d) (n + length piece) t ∙ rw (head-take n d (omega arith));
-      blank = rw (ap (drop (n + length piece)) a ∙ drop-at (take n d ++ piece) (drop (n + length piece) d) (n + length piece) t, ← drop-drop (length piece) n d) (zeros-behind (length piece) (drop n d) z);
-    }

@@ -9,12 +9,12 @@ ghost use lib.ListN.{length, take, drop, replicate};
 ghost use Rattle.octets.specs.Octets.{laid};
 ghost use Rattle.walk_spec.specs.Tables.{writtenFrom};
 ghost use Rattle.stream_spec.specs.Tally.{tallyWith, tallyRight, ledgerRight};
-ghost use Rattle.stream_spec.specs.State.{lastPlace, headOf, allZero, soundOf};
+ghost use Rattle.reading.specs.Seen.{seenOf};
+ghost use Rattle.stream_spec.specs.State.{lastPlace, allZero, soundOf};
 ghost use Rattle.stream_spec.specs.Run.{waitsAt, passedOver, strideOf, accountedOf, RanIs};
 ghost use Rattle.stream_spec.specs.Calls.{Feed, Close, mayTake, givenOf, answerFor, nextFor, leavesFor, answerTo, nextOf, leaves, fedPaper, refusedBy};
 ghost use Rattle.terms.specs.Verdicts.{verdictNumber};
-ghost use Rattle.stream.specs.Pieces.{Piece};
-ghost use Rattle.stream.specs.Standing.{whole, fedOf, standsBehind, blankTo, hasRest, restOf, Stored, Fits, Ready};
+ghost use Rattle.stream.specs.Standing.{whole, fedOf, standsBehind, blankTo, hasRest, restOf, RanOver, Ready};
 ghost use Rattle.stream.specs.Pushed.{PushedIs};
 use ledger::Answer;
 use ledger::Ledger;
@@ -40,8 +40,8 @@ pub struct Answered {
     pub next: Standing,
 }
 
-// How far a run over a window of bytes got: the place in it where it stopped, and what it had
-// made by then.
+// How far a run over bytes got: the place among them where it stopped, and what it had made by
+// then.
 struct Ran {
     at: usize,
     seeking: bool,
@@ -95,26 +95,37 @@ fn counted(tally: Tally, answer: u32, after: Ledger) -> Tally
     }
 }
 
-// The walk over w, whose first byte stands at the place base, as far as no place waits; its records
-// are written from record k on.
+// What is read at a place of the bytes of a and, behind them, of b.
+fn see_at(a: &[u8], b: &[u8], p: usize) -> Seen
+    ensures { λ r. ⌜ r ≡ seenOf (drop p (now (a .entry) ++ now (b .entry))) ⌝ }
+{
+    if p < a.len() {
+        return reading_parts::see(&a[p..], b);
+    }
+    reading::see(b, p - a.len())
+}
+
+// The walk over a and, behind it, b, as far as no place waits. The first byte stands at the place
+// base.
 fn run(
-    w: &[u8],
+    a: &[u8],
+    b: &[u8],
     base: u64,
     seek: bool,
     closing: bool,
     start: Tally,
-    k: usize,
     out: &mut [u8],
 ) -> Ran
-    requires { ⌜ (base + length (now w) < 2 ^ 64) × ((k + length (now w) < 2 ^ 64) × (start .frames + start .refused ≤ base)) ⌝ }
-    ensures { λ r. ⌜ (RanIs (now (w .entry)) base seek closing start k (r .at) (r .seeking) (r .count) (r .tally)) × (now (out .exit) ≡ writtenFrom k (accountedOf base seek closing start (now (w .entry)) .records) (now (out .entry))) ⌝ }
+    requires { ⌜ (base + length (now a ++ now b) < 2 ^ 64) × (start .frames + start .refused ≤ base) ⌝ }
+    ensures { λ r. ⌜ (RanIs (now (a .entry) ++ now (b .entry)) base seek closing start 0 (r .at) (r .seeking) (r .count) (r .tally)) × (now (out .exit) ≡ writtenFrom 0 (accountedOf base seek closing start (now (a .entry) ++ now (b .entry)) .records) (now (out .entry))) ⌝ }
 {
+    let end = a.len() + b.len();
     let mut p: usize = 0;
     let mut seeking = seek;
-    let mut count = k;
+    let mut count: usize = 0;
     let mut tally = start;
-    while p < w.len() {
-        let seen = reading::see(w, p);
+    while p < end {
+        let seen = see_at(a, b, p);
         let verdict = seen.answer;
         let answer = verdict.number();
         if waits(closing, answer) {
@@ -141,7 +152,7 @@ fn run(
     }
 }
 
-// How a stream stands behind a run over a window of n bytes.
+// How a stream stands behind a run over n bytes.
 fn behind(st: Standing, ran: Ran, n: usize, closing: bool) -> Standing
     requires { ⌜ (ran .at ≤ n) × (st .place + n < 2 ^ 64) ⌝ }
     ensures { λ r. ⌜ r ≡ standsBehind st ran n closing ⌝ }
@@ -233,134 +244,28 @@ pub fn keep_rest(kept: &mut [u8], n: usize, at: usize, cut: &[u8])
     keep(kept, n, &cut[at - n..]);
 }
 
-// A run over bytes that do not stand in the store: those that wait, and what came behind them.
-fn over(st: Standing, kept: &mut [u8], w: &[u8], k: usize, out: &mut [u8]) -> Pushed
-    requires { ⌜ Stored st (now kept) × Fits st (length (now w)) k ⌝ }
-    ensures { λ r. ⌜ ((cut : List ℕ) → now (w .entry) ≡ headOf (st .len) (now (kept .entry)) ++ cut → PushedIs (whole st (now (kept .entry))) false k cut (now (out .entry)) (now (out .exit)) (whole (r .next) (now (kept .exit))) (r .count)) ⌝ }
-{
-    let tally = st.tally;
-    let ran = run(w, st.place, st.seeking, false, tally, k, out);
-    let a = ran.at;
-    keep(kept, st.len, &w[a..]);
-    let next = behind(st, ran, w.len(), false);
-    Pushed {
-        next,
-        count: ran.count,
-    }
-}
-
-// A piece that the store takes, laid there behind the bytes that wait.
-fn push(
-    st: Standing,
-    kept: &mut [u8],
-    piece: &[u8],
-    closing: bool,
-    k: usize,
-    out: &mut [u8],
-) -> Pushed
-    requires { ⌜ Stored st (now kept) × ((st .len + length (now piece) ≤ 8191) × Fits st (st .len + length (now piece)) k) ⌝ }
-    ensures { λ r. ⌜ PushedIs (whole st (now (kept .entry))) closing k (now (piece .entry)) (now (out .entry)) (now (out .exit)) (whole (r .next) (now (kept .exit))) (r .count) ⌝ }
-{
-    let n = st.len;
-    let tally = st.tally;
-    octets::lay(kept, n, piece);
-    let e = n + piece.len();
-    let ran = run(&kept[..e], st.place, st.seeking, closing, tally, k, out);
-    shift(kept, ran.at, e);
-    let next = behind(st, ran, e, closing);
-    Pushed {
-        next,
-        count: ran.count,
-    }
-}
-
-// A piece that the store does not take, in a window behind the bytes that wait.
-fn push_wide(st: Standing, kept: &mut [u8], piece: &[u8], k: usize, out: &mut [u8]) -> Pushed
-    requires { ⌜ Stored st (now kept) × ((length (now piece) ≤ 8192) × Fits st (st .len + length (now piece)) k) ⌝ }
-    ensures { λ r. ⌜ PushedIs (whole st (now (kept .entry))) false k (now (piece .entry)) (now (out .entry)) (now (out .exit)) (whole (r .next) (now (kept .exit))) (r .count) ⌝ }
-{
-    let n = st.len;
-    let mut w: [u8; 16384] = [0; 16384];
-    octets::lay(&mut w, 0, &kept[..n]);
-    octets::lay(&mut w, n, piece);
-    let e = n + piece.len();
-    over(st, kept, &w[..e], k, out)
-}
-
-// A piece of a cut, wherever it has room.
-fn push_any(st: Standing, kept: &mut [u8], piece: &[u8], k: usize, out: &mut [u8]) -> Pushed
-    requires { ⌜ Stored st (now kept) × ((length (now piece) ≤ 8192) × Fits st (st .len + length (now piece)) k) ⌝ }
-    ensures { λ r. ⌜ PushedIs (whole st (now (kept .entry))) false k (now (piece .entry)) (now (out .entry)) (now (out .exit)) (whole (r .next) (now (kept .exit))) (r .count) ⌝ }
-{
-    if st.len + piece.len() <= 8191 {
-        return push(st, kept, piece, false, k, out);
-    }
-    push_wide(st, kept, piece, k, out)
-}
-
-// How many bytes more to look at where n wait: those that their frame lacks; 64 where its header
-// is not there yet; as many as a window takes where the search is under way, since one place
-// after the other may wait; none where no byte waits.
-fn lacks(kept: &[u8], n: usize, seeking: bool) -> usize
-    requires { ⌜ n ≤ 8191 ⌝ }
-    ensures { λ r. ⌜ (r ≤ 8192) × (0 < n → 0 < r) ⌝ }
-{
-    if n == 0 {
-        return 0;
-    }
-    if n < 24 {
-        return 64;
-    }
-    if seeking {
-        return 8192;
-    }
-    let size = octets::u32_at(kept, 20) as usize;
-    if size <= 8164 {
-        if n < 28 + size {
-            return 28 + size - n;
-        }
-    }
-    1
-}
-
-// The end of a piece of m bytes that begins at a place of a cut of n bytes.
-fn piece_end(at: usize, m: usize, n: usize) -> usize
-    requires { ⌜ at ≤ n ⌝ }
-    ensures { λ r. ⌜ Piece at m n r ⌝ }
-{
-    if n - at <= m { n } else { at + m }
-}
-
-// A cut of any size: first the bytes that those that wait lack, piece by piece. Where all that
-// waits lies in the cut itself, the rest of it is walked where it stands.
-fn pour(st: Standing, kept: &mut [u8], cut: &[u8], out: &mut [u8]) -> Pushed
+// A run over the bytes that wait and, behind them, a cut: each where it stands.
+fn over(st: Standing, kept: &[u8], cut: &[u8], closing: bool, out: &mut [u8]) -> Ran
     requires { ⌜ Ready st (now kept) (length (now cut)) ⌝ }
-    ensures { λ r. ⌜ PushedIs (whole st (now (kept .entry))) false 0 (now (cut .entry)) (now (out .entry)) (now (out .exit)) (whole (r .next) (now (kept .exit))) (r .count) ⌝ }
+    ensures { λ r. ⌜ RanOver st (now (kept .entry)) closing (now (cut .entry)) r × (now (out .exit) ≡ writtenFrom 0 (givenOf (whole st (now (kept .entry))) closing (now (cut .entry))) (now (out .entry))) ⌝ }
 {
-    let mut at = piece_end(0, lacks(kept, st.len, st.seeking), cut.len());
-    let mut done = push_any(st, kept, &cut[..at], 0, out);
-    while at < cut.len() {
-        let next = done.next;
-        let n = next.len;
-        if n <= at {
-            return over(next, kept, &cut[at - n..], done.count, out);
-        }
-        let e = piece_end(at, lacks(kept, n, next.seeking), cut.len());
-        done = push_any(next, kept, &cut[at..e], done.count, out);
-        at = e;
-    }
-    done
+    let n = st.len;
+    let tally = st.tally;
+    run(&kept[..n], cut, st.place, st.seeking, closing, tally, out)
 }
 
-// A cut, or what remains at the closing call.
+// A cut, or at the closing call none: the run, and what waits behind it is kept.
 fn drawn(st: Standing, kept: &mut [u8], cut: &[u8], closing: bool, out: &mut [u8]) -> Pushed
-    requires { ⌜ (closing ≡ true → length (now cut) ≡ 0) × Ready st (now kept) (length (now cut)) ⌝ }
-    ensures { λ r. ⌜ PushedIs (whole st (now (kept .entry))) closing 0 (now (cut .entry)) (now (out .entry)) (now (out .exit)) (whole (r .next) (now (kept .exit))) (r .count) ⌝ }
+    requires { ⌜ Ready st (now kept) (length (now cut)) ⌝ }
+    ensures { λ r. ⌜ PushedIs (whole st (now (kept .entry))) closing (now (cut .entry)) (now (out .entry)) (now (out .exit)) (whole (r .next) (now (kept .exit))) (r .count) ⌝ }
 {
-    if closing {
-        return push(st, kept, cut, true, 0, out);
+    let ran = over(st, kept, cut, closing, out);
+    keep_rest(kept, st.len, ran.at, cut);
+    let next = behind(st, ran, st.len + cut.len(), closing);
+    Pushed {
+        next,
+        count: ran.count,
     }
-    pour(st, kept, cut, out)
 }
 
 // Whether the places of n and then m bytes from place on stay in 64 bits.
@@ -482,26 +387,24 @@ fn roomy(kept: usize, more: usize, room: usize) -> bool
     2 * ((kept + more) / 29) + 2 <= room / 64
 }
 
-// Whether so much room takes the records of a call. Where it may not, they are counted in a pass
-// over a copy of the store, which writes nothing.
+// Whether so much room takes the records of a call. Where it may not, they are counted in a run
+// that writes nothing.
 fn takes_all(st: Standing, kept: &[u8], cut: &[u8], closing: bool, room: usize) -> bool
-    requires { ⌜ (closing ≡ true → length (now cut) ≡ 0) × Ready st (now kept) (length (now cut)) ⌝ }
+    requires { ⌜ Ready st (now kept) (length (now cut)) ⌝ }
     ensures { λ r. ⌜ r ≡ leb (length (givenOf (whole st (now (kept .entry))) closing (now (cut .entry)))) (room / 64) ⌝ }
 {
     if roomy(st.len, cut.len(), room) {
         return true;
     }
-    let mut spare: [u8; 8191] = [0; 8191];
-    octets::lay(&mut spare, 0, kept);
     let mut none: [u8; 1] = [0; 1];
-    let counted = drawn(st, &mut spare, cut, closing, &mut none);
-    counted.count <= room / 64
+    let ran = over(st, kept, cut, closing, &mut none);
+    ran.count <= room / 64
 }
 
 // One call: 13, 19, 29, 8, or its records. Whether they fit is known before the first is written,
 // so a refusal writes nothing.
 fn call(st: Standing, kept: &mut [u8], cut: &[u8], closing: bool, records: &mut [u8]) -> Answered
-    requires { ⌜ (length (now kept) ≡ 8191) × (closing ≡ true → length (now cut) ≡ 0) ⌝ }
+    requires { ⌜ length (now kept) ≡ 8191 ⌝ }
     ensures { λ r. ⌜ (fedPaper (fedOf r (now (kept .exit))) ≡ answerFor (whole st (now (kept .entry))) closing (now (cut .entry)) (length (now (records .entry))))
         × ((fedOf r (now (kept .exit)) .stream ≡ nextFor (whole st (now (kept .entry))) closing (now (cut .entry)) (length (now (records .entry))))
         × (now (records .exit) ≡ leavesFor (whole st (now (kept .entry))) closing (now (cut .entry)) (now (records .entry)))) ⌝ }

@@ -1,11 +1,10 @@
--- A frame in two parts, one behind the other: where it lies, and what is laid of it.
--- Assumes nothing.
+-- A frame in two parts, one behind the other: what is laid of it. Assumes nothing.
 use Prim.Native.Nat.{ℕ, _+_, _-_, _≤_, _<_}
 use mathlib.Core.Path.{_≡_, sym, ap, _∙_}
 use mathlib.Core.List.{List, _++_, append-nil}
 use native.Mathlib.Omega.{arith}
 use lib.ListN.{length, take, drop, length-append}
-use lib.Seq.{length-take-le, take-append-le, take-append-add, drop-append-le, drop-append-add}
+use lib.Seq.{length-take-le, take-append-le, take-append-add}
 use borrow.Author.Tests.{le-leb, lt-leb}
 use borrow.Rule.Slice.PartMut.{putMid, midOf, mid-len}
 use Rattle.octets.specs.Octets.{laid}
@@ -17,24 +16,12 @@ use Rattle.scrub.proofs.Parts.{back}
 use Rattle.clean_spec.specs.Laid.{nothing-laid}
 use Rattle.clean_spec.specs.Turns.{scrubbed-none}
 use Rattle.stream_spec.specs.Window.{laid-in}
-use Rattle.stream.specs.StoreLaws.{tail-whole}
 use Rattle.stream_clean.specs.declared.Taken.{Taken}
 use Rattle.stream_clean.specs.Taken.{TakenIs}
 
--- WHERE IT LIES: in both parts, or in the second alone
-
-pub from-first : (p : ℕ) (a b : List ℕ) → p ≤ length a → take (length a - p) (drop p a) ++ b ≡ drop p (a ++ b)
-from-first p a b h = rw (tail-whole p a) (sym (drop-append-le p a b h))
-
-pub from-second : (p : ℕ) (a b : List ℕ) → length a ≤ p → drop (p - length a) b ≡ drop p (a ++ b)
-from-second p a b h =
-    let e : length a + (p - length a) ≡ p = omega arith in
-    sym (drop-append-add a b (p - length a)) ∙ rw e
-
+-- the same bytes, said otherwise
 pub taken-as : (s u : List ℕ) (n : ℕ) (d d′ : List ℕ) (t : Taken) → s ≡ u → TakenIs s n d d′ t → TakenIs u n d d′ t
 taken-as s u n d d′ t e z = rw (← e) z
-
--- WHAT IS LAID OF IT
 
 -- a part that was lent, scrubbed and is back
 pub scrubbed-back : (a e : ℕ) (xs ys : List ℕ) → e ≤ length xs → ys ≡ scrubbed (midOf a (e - a) xs) → putMid a (e - a) xs ys ≡ laid a (scrubbed (take (e - a) (drop a xs))) xs

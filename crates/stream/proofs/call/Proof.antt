@@ -23,7 +23,7 @@ fit : (c : tie.Else3) → leb (c .before .before .before .before .before .before
 fit c = sym (c .before .fits2 .ensures) ∙ not-false _ (c .if3 .left)
 
 ready : (c : tie.Else3) → Ready (c .before .before .before .before .before .before .before .before .before .args .st) (c .before .before .before .before .before .before .before .before .before .args .kept .now) (length (c .before .before .before .before .before .before .before .before .before .args .cut .now))
-ready c = record { size = c .before .before .before .before .before .before .before .before .before .pre .0; sound = right (c .before .before .before); fits = leb-true _ _ (fit c) }
+ready c = record { size = c .before .before .before .before .before .before .before .before .before .pre; sound = right (c .before .before .before); fits = leb-true _ _ (fit c) }
 
 sound-requires : tie.Need-sound-requires
 sound-requires c κs = search needs
@@ -59,7 +59,7 @@ returns-3 : tie.Need-returns-3
 returns-3 c = refused-call _ _ _ _ _ Places (c .refused3 .ensures (c .before .before .before .before .before .before .before .before .before .before .args .kept .now)) (number-29 _ _ _ _ (right (c .before .before .before .before)) (c .before .before .before .if2 .left) (sym (c .before .before .fits2 .ensures) ∙ not-true _ (c .before .if3 .taken)))
 
 takes-all-requires : tie.Need-takes-all-requires
-takes-all-requires c κs = (c .before .before .before .before .before .before .before .before .before .before .pre .1, ready (c .before))
+takes-all-requires c κs = ready (c .before)
 
 refused-requires-4 : tie.Need-refused-requires-4
 refused-requires-4 c κs = search needs
@@ -71,7 +71,7 @@ returns-4 : tie.Need-returns-4
 returns-4 c = refused-call _ _ _ _ _ Room (c .refused4 .ensures (c .before .before .before .before .before .before .before .before .before .before .before .before .before .args .kept .now)) (number-8 _ _ _ _ (right (c .before .before .before .before .before .before .before)) (c .before .before .before .before .before .before .if2 .left) (fit (c .before .before .before .before)) (sym (c .before .before .takes-all .ensures) ∙ not-true _ (c .before .if4 .taken)))
 
 drawn-requires : tie.Need-drawn-requires
-drawn-requires c κs = (c .before .before .before .before .before .before .before .before .before .before .before .before .before .before .pre .1, ready (c .before .before .before .before .before))
+drawn-requires c κs = ready (c .before .before .before .before .before)
 
 same-length-5 : tie.Need-same-length-5
 same-length-5 c = search needs

@@ -1,5 +1,4 @@
 -- `close`: the closing call, which brings no byte. Assumes nothing.
-use mathlib.Core.Path.{refl}
 use borrow.Author.Needs.{needs}
 use Rattle.stream.proofs.close.Statement.{statement}
 use Rattle.stream.proofs.close.Tie as tie
@@ -11,7 +10,7 @@ slice-aggregate-call : tie.Need-slice-aggregate-call
 slice-aggregate-call c = search needs
 
 call-requires : tie.Need-call-requires
-call-requires c κs = (search needs, λ e. refl)
+call-requires c κs = search needs
 
 same-length : tie.Need-same-length
 same-length c = search needs

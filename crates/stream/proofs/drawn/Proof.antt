@@ -1,16 +1,23 @@
--- `drawn`: at the closing call one push of what remains, else the pieces of the cut.
--- Assumes nothing.
+-- `drawn`: the run, and what it leaves is kept. Assumes nothing.
 use native.Mathlib.Omega.{arith}
 use borrow.Author.Needs.{needs}
-use Rattle.stream.specs.PieceLaws.{ready-stands}
+use Rattle.stream.specs.Pushed.{ran-inside, ran-pushed}
 use Rattle.stream.proofs.drawn.Statement.{statement}
 use Rattle.stream.proofs.drawn.Tie as tie
 
-push-requires : tie.Need-push-requires
-push-requires c κs =
-    let p = c .before .before .before .before .before .before .pre in
-    let r = ready-stands _ _ _ (p .1) in
-    (r .0, (omega (arith, r .0 .few, p .0 (c .before .before .if1 .taken)), r .1 _ (omega arith)))
+over-requires : tie.Need-over-requires
+over-requires c κs = c .before .before .before .before .before .pre
+
+keep-rest-requires : tie.Need-keep-rest-requires
+keep-rest-requires c κs = search needs
+
+add-behind : tie.Need-add-behind
+add-behind c = omega (arith, c .before .before .before .before .before .before .before .before .before .before .before .before .before .pre .fits)
+
+behind-requires : tie.Need-behind-requires
+behind-requires c κs =
+    let s = c .before .before .before .before .before .before .before .before .before .before .before .before .before in
+    (ran-inside (s .args .st) (s .args .kept .now) (s .args .cut .now) (s .pre) (s .args .closing) (c .before .before .before .before .before .before .before .over .result) (c .before .before .before .before .before .before .before .over .ensures .0), omega (arith, s .pre .fits))
 
 same-length : tie.Need-same-length
 same-length c = search needs
@@ -19,19 +26,10 @@ same-length-2 : tie.Need-same-length-2
 same-length-2 c = search needs
 
 returns : tie.Need-returns
-returns c = rw (c .before .before .before .before .before .before .before .if1 .taken) (c .before .before .before .before .push .ensures)
-
-pour-requires : tie.Need-pour-requires
-pour-requires c κs = c .before .before .before .before .before .before .pre .1
-
-same-length-3 : tie.Need-same-length-3
-same-length-3 c = search needs
-
-same-length-4 : tie.Need-same-length-4
-same-length-4 c = search needs
-
-returns-2 : tie.Need-returns-2
-returns-2 c = rw (c .before .before .before .before .before .before .before .if1 .left) (c .before .before .before .before .pour .ensures)
+returns c =
+    let s = c .before .before .before .before .before .before .before .before .before .before .before .before .before .before in
+    let o = c .before .before .before .before .before .before .before .before .over in
+    rw (c .behind .ensures) (ran-pushed (s .args .st) (s .args .kept .now) (s .args .cut .now) (s .pre) (s .args .closing) (o .result) (o .ensures .0) _ _ _ (o .ensures .1) (c .before .before .before .before .keep-rest .ensures))
 
 pub drawn-spec : {M : Type 1} → statement M
-drawn-spec = tie.close (tie.spec push-requires same-length same-length-2 returns pour-requires same-length-3 same-length-4 returns-2)
+drawn-spec = tie.close (tie.spec over-requires keep-rest-requires add-behind behind-requires same-length same-length-2 returns)

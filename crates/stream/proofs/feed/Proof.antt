@@ -1,13 +1,10 @@
 -- `feed`: a call with a cut, which is not the closing one. Assumes nothing.
-use mathlib.Core.Path.{_≡_, refl}
-use mathlib.Core.Bool.{true, false}
 use borrow.Author.Needs.{needs}
-use Rattle.terms.specs.Cases.{clash}
 use Rattle.stream.proofs.feed.Statement.{statement}
 use Rattle.stream.proofs.feed.Tie as tie
 
 call-requires : tie.Need-call-requires
-call-requires c κs = (search needs, λ e. absurd (clash e refl))
+call-requires c κs = search needs
 
 same-length : tie.Need-same-length
 same-length c = search needs

@@ -5,10 +5,10 @@ use native.Mathlib.Omega.{arith}
 use Prim.Native.Nat.{_+_, _≤_}
 use mathlib.Core.Path.{sym, _∙_}
 use lib.ListN.{length}
-use lib.Seq.{length-take-le}
 use borrow.Author.Tests.{not-true, not-false}
 use Rattle.terms.specs.declared.Refusal.the-variants.{Room}
 use Rattle.stream.specs.Standing.{Ready}
+use Rattle.stream.specs.Pushed as Pushed
 use Rattle.stream_clean_spec.specs.CallLaws.{number-8, refused-call}
 use Rattle.stream_clean.proofs.Stores as store
 use Rattle.stream_clean.proofs.drawn.Statement.{statement}
@@ -18,7 +18,7 @@ ready : (s : tie.Start) → Ready (s .args .st) (s .args .kept .now) (length (s 
 ready s = store.may-ready _ _ _ (s .pre .0) (s .pre .1)
 
 few : (s : tie.Start) → s .args .st .len ≤ length (s .args .kept .now)
-few s = store.few (s .args .st) (s .args .kept .now) (s .args .cut .now) (ready s)
+few s = Pushed.few (s .args .st) (s .args .kept .now) (s .args .cut .now) (ready s)
 
 inside : (c : tie.After-wash) → c .wash .result .at ≤ c .before .before .before .before .before .before .before .before .before .before .args .st .len + length (c .before .before .before .before .before .before .before .before .before .before .args .cut .now)
 inside c = let s = c .before .before .before .before .before .before .before .before .before .before in store.ran-inside (s .args .st) (s .args .kept .now) (s .args .cut .now) (ready s) _ _ _ _ _ _ (c .wash .ensures (s .args .st .place))
@@ -41,11 +41,11 @@ slice-reshare-prefix-wash : tie.Need-slice-reshare-prefix-wash
 slice-reshare-prefix-wash c = few (c .before .before .before .before .before .before .before)
 
 slice-aggregate-wash : tie.Need-slice-aggregate-wash
-slice-aggregate-wash c = sym (length-take-le _ _ (few (c .before .before .before .before .before .before .before .before)))
+slice-aggregate-wash c = let s = c .before .before .before .before .before .before .before .before in sym (Pushed.waiting-long (s .args .st) (s .args .kept .now) (s .args .cut .now) (ready s))
 
 wash-requires : tie.Need-wash-requires
 wash-requires c κs =
-    let s = c .before .before .before .before .before .before .before .before .before in omega (arith, length-take-le (s .args .st .len) (s .args .kept .now) (few s), ready s .fits)
+    let s = c .before .before .before .before .before .before .before .before .before in omega (arith, Pushed.waiting-long (s .args .st) (s .args .kept .now) (s .args .cut .now) (ready s), ready s .fits)
 
 keep-rest-requires : tie.Need-keep-rest-requires
 keep-rest-requires c κs = search needs

@@ -1,7 +1,7 @@
 -- `take_in`: by which part the place lies in. Assumes nothing.
-use native.Mathlib.Omega.{arith}
 use borrow.Author.Needs.{needs}
-use Rattle.stream_clean.proofs.Across.{from-first, from-second, taken-as}
+use Rattle.stream.specs.StoreLaws.{both-before, both-behind}
+use Rattle.stream_clean.proofs.Across.{taken-as}
 use Rattle.stream_clean.proofs.take_in.Statement.{statement}
 use Rattle.stream_clean.proofs.take_in.Tie as tie
 
@@ -21,7 +21,7 @@ same-length : tie.Need-same-length
 same-length c = search needs
 
 returns : tie.Need-returns
-returns c = let s = c .before .before .before .before .before .before .before .before .before .args in taken-as _ _ _ _ _ _ (from-first (s .p) (s .a .now) (s .b .now) (omega (arith, c .before .before .before .before .before .if1 .taken))) (c .before .before .take-across .ensures)
+returns c = let s = c .before .before .before .before .before .before .before .before .before .args in taken-as _ _ _ _ _ _ (both-before (s .p) (s .a .now) (s .b .now) (c .before .before .before .before .before .if1 .taken)) (c .before .before .take-across .ensures)
 
 sub-take-here : tie.Need-sub-take-here
 sub-take-here c = search needs
@@ -33,7 +33,7 @@ same-length-2 : tie.Need-same-length-2
 same-length-2 c = search needs
 
 returns-2 : tie.Need-returns-2
-returns-2 c = let s = c .before .before .before .before .before .before .before .before .args in taken-as _ _ _ _ _ _ (from-second (s .p) (s .a .now) (s .b .now) (omega (arith, c .before .before .before .before .if1 .left))) (c .before .before .take-here .ensures)
+returns-2 c = let s = c .before .before .before .before .before .before .before .before .args in taken-as _ _ _ _ _ _ (both-behind (s .p) (s .a .now) (s .b .now) (c .before .before .before .before .if1 .left)) (c .before .before .take-here .ensures)
 
 pub take-in-spec : {M : Type 1} → statement M
 take-in-spec = tie.close (tie.spec sub-take-across part-take-across-start part-take-across-end take-across-requires same-length returns sub-take-here take-here-requires same-length-2 returns-2)

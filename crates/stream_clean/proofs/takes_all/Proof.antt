@@ -2,17 +2,16 @@
 -- counted it. Assumes nothing.
 use borrow.Author.Needs.{needs}
 use native.Mathlib.Omega.{arith}
-use Prim.Native.Nat.{_≤_}
-use mathlib.Core.Path.{sym}
-use lib.ListN.{length}
-use lib.Seq.{length-take-le}
+use mathlib.Core.Path.{_≡_, sym}
+use lib.ListN.{length, take}
+use Rattle.stream.specs.Pushed.{waiting-long}
 use Rattle.stream_clean_spec.specs.CallLaws.{fits-roomy}
 use Rattle.stream_clean.proofs.Stores as store
 use Rattle.stream_clean.proofs.takes_all.Statement.{statement}
 use Rattle.stream_clean.proofs.takes_all.Tie as tie
 
-few : (s : tie.Start) → s .args .st .len ≤ length (s .args .kept .now)
-few s = store.few (s .args .st) (s .args .kept .now) (s .args .cut .now) (s .pre)
+long : (s : tie.Start) → length (take (s .args .st .len) (s .args .kept .now)) ≡ s .args .st .len
+long s = waiting-long (s .args .st) (s .args .kept .now) (s .args .cut .now) (s .pre)
 
 add-if1 : tie.Need-add-if1
 add-if1 c = omega (arith, c .before .before .pre .fits)
@@ -21,14 +20,14 @@ returns : tie.Need-returns
 returns c = fits-roomy _ _ _ _ (c .if1 .taken)
 
 slice-aggregate-wash : tie.Need-slice-aggregate-wash
-slice-aggregate-wash c = sym (length-take-le _ _ (few (c .before .before .before .before)))
+slice-aggregate-wash c = sym (long (c .before .before .before .before))
 
 slice-aggregate-wash-2 : tie.Need-slice-aggregate-wash-2
 slice-aggregate-wash-2 c = search needs
 
 wash-requires : tie.Need-wash-requires
 wash-requires c κs =
-    let s = c .before .before .before .before .before in omega (arith, length-take-le (s .args .st .len) (s .args .kept .now) (few s), s .pre .fits)
+    let s = c .before .before .before .before .before in omega (arith, long s, s .pre .fits)
 
 returns-2 : tie.Need-returns-2
 returns-2 c =
