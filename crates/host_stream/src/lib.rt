@@ -11,6 +11,7 @@ ghost use Rattle.stream_spec.specs.State.{opened};
 ghost use Rattle.stream_spec.specs.Calls.{Feed, Close, leaves, fedPaper};
 ghost use Rattle.terms.specs.Verdicts.{verdictNumber};
 ghost use Rattle.stream.specs.Standing.{whole, fedOf};
+ghost use Rattle.stream_clean.specs.Cleaned.{washedOf};
 ghost use Rattle.host_words.specs.Told.{Tells};
 ghost use Rattle.host_stream_spec.specs.Lent.{waitingIn, wordOf, lent, lentOf, streamIn};
 ghost use Rattle.host_stream_spec.specs.Calls.{toldWith, keptBeside, callTold, lentAfter};
@@ -19,7 +20,7 @@ ghost use Rattle.stream_clean_spec.specs.Calls.{washedPaper};
 ghost use Rattle.host_stream_spec.specs.Washes.{washWith, washTold, washAfter};
 use stream::Answered;
 use stream::Standing;
-use stream_clean_spec::Washed;
+use stream_clean::Cleaned;
 use stream_spec::Stream;
 use stream_spec::Tally;
 
@@ -36,28 +37,6 @@ fn waiting_in(seeking: u64, closed: u64, waiting: u64) -> usize
         return waiting as usize;
     }
     8192
-}
-
-// The stream that they stand for, sound or not.
-fn stream_in(state: &[u64; 6], ledger: &[u64; 9], kept: &[u8; 8191]) -> Stream
-    ensures { λ r. ⌜ r ≡ streamIn (lent (now (state .entry)) (now (ledger .entry)) (now (kept .entry))) ⌝ }
-{
-    let seeking = state[1];
-    let closed = state[2];
-    let tally = Tally {
-        frames: state[4],
-        refused: state[5],
-        ledger: host_words::ledger_in(ledger),
-    };
-    let held = *kept;
-    Stream {
-        place: state[0],
-        seeking: seeking == 1,
-        closed: closed == 1,
-        len: waiting_in(seeking, closed, state[3]),
-        kept: held,
-        tally,
-    }
 }
 
 fn word_of(flag: bool) -> u64
@@ -198,23 +177,22 @@ pub extern "C" fn rk_stream_close(
     settle(state, ledger, told, done)
 }
 
-// What a call that cleans returns: its number; beside 0 the stream after it is kept, and its
-// numbers are the results.
+// What a call that cleans returns: its number; beside 0 the words of the stream after it are kept,
+// and its numbers are the results.
 fn settle_washed(
     state: &mut [u64; 6],
     ledger: &mut [u64; 9],
-    kept: &mut [u8; 8191],
     told: &mut [u64; 6],
-    washed: Washed,
+    done: Cleaned,
 ) -> u32
-    ensures { λ r. ⌜ Tells (washWith (washedPaper washed) (washed .stream)) (now (told .entry)) r (now (told .exit))
-        × (lent (now (state .exit)) (now (ledger .exit)) (now (kept .exit))
-        ≡ keptBeside (verdictNumber (washed .answer)) (washed .stream) (lent (now (state .entry)) (now (ledger .entry)) (now (kept .entry)))) ⌝ }
+    ensures { λ r. ⌜ ((kept : List ℕ) → Tells (washWith (washedPaper (washedOf done kept)) (whole (done .next) kept)) (now (told .entry)) r (now (told .exit))
+        × (lent (now (state .exit)) (now (ledger .exit)) kept
+        ≡ keptBeside (verdictNumber (done .answer)) (whole (done .next) kept) (lent (now (state .entry)) (now (ledger .entry)) kept))) ⌝ }
 {
-    let given = washed.answer;
+    let given = done.answer;
     let answer = given.number();
-    let next = washed.stream;
-    let sums = washed.sums;
+    let next = done.next;
+    let sums = done.sums;
     if answer == 0 {
         *told = [
             sums.bytes as u64,
@@ -224,7 +202,7 @@ fn settle_washed(
             next.place,
             next.len as u64,
         ];
-        keep(state, ledger, kept, next);
+        keep_words(state, ledger, next);
     }
     answer
 }
@@ -249,8 +227,8 @@ pub extern "C" fn rk_stream_clean(
         × (now (out .exit) ≡ Clean.leaves (streamIn (lent (now (state .entry)) (now (ledger .entry)) (now (kept .entry)))) (Feed (now (cut .entry))) (now (out .entry)))))
         × Bytes (now (cut .entry)) ⌝ }
 {
-    let washed = stream_clean::clean_cut(stream_in(state, ledger, kept), cut, out);
-    settle_washed(state, ledger, kept, told, washed)
+    let done = stream_clean::clean_cut(standing_in(state, ledger), kept, cut, out);
+    settle_washed(state, ledger, told, done)
 }
 
 // No more bytes come: what remains is cleaned as the end of a closed capture is. Results as for a
@@ -267,6 +245,6 @@ pub extern "C" fn rk_stream_clean_close(
         × ((lent (now (state .exit)) (now (ledger .exit)) (now (kept .exit)) ≡ washAfter (lent (now (state .entry)) (now (ledger .entry)) (now (kept .entry))) Close (length (now (out .entry))))
         × (now (out .exit) ≡ Clean.leaves (streamIn (lent (now (state .entry)) (now (ledger .entry)) (now (kept .entry)))) Close (now (out .entry)))) ⌝ }
 {
-    let washed = stream_clean::clean_end(stream_in(state, ledger, kept), out);
-    settle_washed(state, ledger, kept, told, washed)
+    let done = stream_clean::clean_end(standing_in(state, ledger), kept, out);
+    settle_washed(state, ledger, told, done)
 }

@@ -1,4 +1,4 @@
-mod Parts
+pub mod Parts
 mod Lays
 pub mod OneAnswer
 pub mod RuledOut

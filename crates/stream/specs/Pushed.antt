@@ -42,7 +42,7 @@ ran-counted st kept closing cut ran z = z .counted ∙ zero-add _ ∙ ap length 
 -- A STREAM THAT KEEPS THE RULES, and a cut
 
 module _ (st : Standing) (kept cut : List ℕ) (r : Ready st kept (length cut)) where
-  few : st .len ≤ length kept
+  pub few : st .len ≤ length kept
   few = omega (arith, r .size, sound-checked (whole st kept) (r .sound) .few)
 
   pub waiting-long : length (take (st .len) kept) ≡ st .len
@@ -56,30 +56,27 @@ module _ (st : Standing) (kept cut : List ℕ) (r : Ready st kept (length cut)) 
   ready-run = (omega (arith, length-append (take (st .len) kept) cut, waiting-long, r .fits), sound-checked (whole st kept) (r .sound) .counts)
 
   -- A RUN over the bytes that wait and the cut
+  abbrev w : List ℕ
+  w = headOf (st .len) kept ++ cut
+
+  long : length w ≡ st .len + length cut
+  long = joined-length (st .len) kept cut
+
+  -- what waits behind a place is kept, where it is short enough for the store
+  pub rest-stands : (at : ℕ) → at ≤ length w → length (drop at w) ≤ 8191 → restOf (st .len) at cut kept ≡ storeOf 8191 (drop at w)
+  rest-stands at h f = rest-store (st .len) at cut kept few (sound-checked (whole st kept) (r .sound) .blank) (omega (arith, long, h)) (omega (arith, long, f, length-drop at w, r .size)) ∙ rw (r .size)
+
   module _ (closing : Bool) (ran : Ran) (z : RanOver st kept closing cut ran) where
-    abbrev w : List ℕ
-    w = headOf (st .len) kept ++ cut
-
-    long : length w ≡ st .len + length cut
-    long = joined-length (st .len) kept cut
-
     -- it stops within them
     pub ran-inside : ran .at ≤ st .len + length cut
     ran-inside = omega (arith, long, z .inside)
-
-    -- what waits behind it is short enough for the store
-    ran-rest : restOf (st .len) (ran .at) cut kept ≡ storeOf 8191 (drop (ran .at) w)
-    ran-rest =
-        let f = kept-few _ _ _ _ _ _ _ _ _ _ z in
-        let l = length-drop (ran .at) w in
-        rest-store (st .len) (ran .at) cut kept few (sound-checked (whole st kept) (r .sound) .blank) ran-inside (omega (arith, long, f, l, r .size)) ∙ rw (r .size)
 
     -- it and what is kept behind it are the call
     pub ran-pushed : (d d′ : List ℕ) (next : List ℕ) → d′ ≡ writtenFrom 0 (givenOf (whole st kept) closing cut) d → next ≡ restOf (st .len) (ran .at) cut kept
         → PushedIs (whole st kept) closing cut d d′ (whole (standsBehind st ran (st .len + length cut) closing) next) (ran .count)
     ran-pushed d d′ next g e =
         record {
-          stream = behind-is (whole st kept) closing cut w refl 0 (ran .at) (ran .seeking) (ran .count) (ran .tally) next (st .len + length cut - ran .at) z (e ∙ ran-rest) (dropped (ran .at) (st .len + length cut) w long);
+          stream = behind-is (whole st kept) closing cut w refl 0 (ran .at) (ran .seeking) (ran .count) (ran .tally) next (st .len + length cut - ran .at) z (e ∙ rest-stands (ran .at) (z .inside) (kept-few _ _ _ _ _ _ _ _ _ _ z)) (dropped (ran .at) (st .len + length cut) w long);
           counted = ran-counted st kept closing cut ran z;
           written = g;
         }

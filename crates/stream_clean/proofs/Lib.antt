@@ -1,3 +1,5 @@
+mod Across
+mod Stores
 pub mod Readings
 pub mod OneAnswer
 pub mod Promised

@@ -85,7 +85,3 @@ add-fits w p t s start e h f b r =
     let i = size-inside w p (seenOf (drop p w)) refl (omega arith) in
     let m = unjudged-most (seenOf (drop p w) .«msg_type») in
     (omega (arith, z, i, b, f), (omega (arith, r .frames, b, f, h), (omega (arith, r .frames, r .found, b, f, h), omega (arith, r .frames, r .unjudged, b, f, h, u, m))))
-
-pub not-closing : (b : Bool) → (b ≡ true → ⊥) → b ≡ false
-not-closing true n = absurd (n refl)
-not-closing false n = refl

@@ -37,18 +37,25 @@ use Rattle.stream_spec.specs.State.{opened}
 use Rattle.stream_spec.specs.Tally as Tally
 use Rattle.stream_spec.specs.Calls as Plain
 use Rattle.stream_spec.specs.Calls.{Feed, Close}
+use Rattle.stream.specs.Standing.{whole, storeOf}
 use Rattle.stream_clean_spec.specs.Wash as Wash
 use Rattle.stream_clean_spec.specs.Calls as Calls
 use Rattle.stream_clean_spec.specs.Calls.{washedPaper, answerTo, nextOf, leaves}
+use Rattle.stream_clean.specs.Cleaned.{washedOf}
 use Rattle.stream_clean.proofs.clean_cut.Reads as clean-cut
 use Rattle.stream_clean.proofs.clean_cut.Kinds as clean-cut-kinds
 use Rattle.stream_clean.proofs.clean_end.Reads as clean-end
 use Rattle.stream_clean.proofs.clean_end.Kinds as clean-end-kinds
 
--- what is seen of a stream: its place and the kept bytes; and of a call: the answer with bytes,
--- frames, found and unjudged ones, the stream then, and the buffer then
+-- what is seen of a stream: its place, how many bytes are kept, and the whole store; and of a
+-- call: the answer with bytes, frames, found and unjudged ones, the stream then, and the
+-- buffer then
 abbrev seen : Stream → List ℕ
-seen x = x .place ∷ x .len ∷ []
+seen x = x .place ∷ x .len ∷ x .kept
+
+-- the store: these bytes, and zeros behind them
+abbrev store : List ℕ → List ℕ
+store s = storeOf 8191 s
 
 abbrev Outcome : Type 0
 Outcome = Paper × (List ℕ × List ℕ)
@@ -80,17 +87,19 @@ moved place len = record { place = place; seeking = opened .seeking; closed = op
 -- a stream, a cut, and a lent buffer
 abbrev pub clean-cut-wrong : List (Row (Stream × (List ℕ × List ℕ)) Outcome)
 clean-cut-wrong =
-    (begun, (drop 50 (resend 1 0x41), replicate 81 7)) only (answer 0 (80 ∷ 1 ∷ 0 ∷ 0 ∷ []), (80 ∷ 0 ∷ [], resend 1 0x20 ++ (7 ∷ [])))  -- no private byte left of a frame that is cut in its text
-    ∷ (opened, (take 50 (resend 1 0x41), replicate 80 7)) only (answer 0 (0 ∷ 0 ∷ 0 ∷ 0 ∷ []), (0 ∷ 50 ∷ [], replicate 80 7))  -- no part of a frame is written before its end came
-    ∷ (damaged, (heartbeat, replicate 28 7)) only (answer 0 (28 ∷ 1 ∷ 1 ∷ 0 ∷ []), (57 ∷ 0 ∷ [], heartbeat))  -- a frame after damage counts as such behind a cut too
-    ∷ (opened, (heartbeat ++ take 20 heartbeat, replicate 27 7)) only (answer 8 (0 ∷ 0 ∷ 0 ∷ 0 ∷ []), (0 ∷ 0 ∷ [], replicate 27 7))  -- nothing written, and nothing taken, beside 8
-    ∷ (begun, ([], [])) only (answer 0 (0 ∷ 0 ∷ 0 ∷ 0 ∷ []), (0 ∷ 50 ∷ [], []))  -- an empty cut is not the end
-    ∷ (closed, (heartbeat, [])) only (answer 19 (0 ∷ 0 ∷ 0 ∷ 0 ∷ []), (48 ∷ 0 ∷ [], []))  -- 8 before 19
-    ∷ (moved 18446744073709551600 0, (heartbeat, [])) only (answer 29 (0 ∷ 0 ∷ 0 ∷ 0 ∷ []), (18446744073709551600 ∷ 0 ∷ [], []))  -- 8 before 29
-    ∷ (moved 18446744073709551600 8192, (heartbeat, replicate 28 7)) only (answer 13 (0 ∷ 0 ∷ 0 ∷ 0 ∷ []), (18446744073709551600 ∷ 8192 ∷ [], replicate 28 7))  -- 8,192 kept bytes pass as sound
+    (begun, (drop 50 (resend 1 0x41), replicate 81 7)) only (answer 0 (80 ∷ 1 ∷ 0 ∷ 0 ∷ []), (80 ∷ 0 ∷ store [], resend 1 0x20 ++ (7 ∷ [])))  -- no private byte left of a frame that is cut in its text
+    ∷ (begun, (drop 50 (resend 1 0x41), replicate 81 7)) never (answer 0 (80 ∷ 1 ∷ 0 ∷ 0 ∷ []), (80 ∷ 0 ∷ store (take 50 (resend 1 0x41)), resend 1 0x20 ++ (7 ∷ [])))  -- private bytes linger in the store behind their frame
+    ∷ (opened, (take 50 (resend 1 0x41), replicate 80 7)) only (answer 0 (0 ∷ 0 ∷ 0 ∷ 0 ∷ []), (0 ∷ 50 ∷ store (take 50 (resend 1 0x41)), replicate 80 7))  -- no part of a frame is written before its end came
+    ∷ (damaged, (heartbeat, replicate 28 7)) only (answer 0 (28 ∷ 1 ∷ 1 ∷ 0 ∷ []), (57 ∷ 0 ∷ store [], heartbeat))  -- a frame after damage counts as such behind a cut too
+    ∷ (opened, (heartbeat ++ take 20 heartbeat, replicate 27 7)) only (answer 8 (0 ∷ 0 ∷ 0 ∷ 0 ∷ []), (0 ∷ 0 ∷ store [], replicate 27 7))  -- nothing written, and nothing taken, beside 8
+    ∷ (begun, (drop 50 (resend 1 0x41), replicate 79 7)) only (answer 8 (0 ∷ 0 ∷ 0 ∷ 0 ∷ []), (0 ∷ 50 ∷ store (take 50 (resend 1 0x41)), replicate 79 7))  -- nor laid in the store
+    ∷ (begun, ([], [])) only (answer 0 (0 ∷ 0 ∷ 0 ∷ 0 ∷ []), (0 ∷ 50 ∷ store (take 50 (resend 1 0x41)), []))  -- an empty cut is not the end
+    ∷ (closed, (heartbeat, [])) only (answer 19 (0 ∷ 0 ∷ 0 ∷ 0 ∷ []), (48 ∷ 0 ∷ store [], []))  -- 8 before 19
+    ∷ (moved 18446744073709551600 0, (heartbeat, [])) only (answer 29 (0 ∷ 0 ∷ 0 ∷ 0 ∷ []), (18446744073709551600 ∷ 0 ∷ store [], []))  -- 8 before 29
+    ∷ (moved 18446744073709551600 8192, (heartbeat, replicate 28 7)) only (answer 13 (0 ∷ 0 ∷ 0 ∷ 0 ∷ []), (18446744073709551600 ∷ 8192 ∷ store [], replicate 28 7))  -- 8,192 kept bytes pass as sound
     ∷ []
 
-pub clean-cut-rules-out : RulesOut (Kept _ clean-cut-kinds.ps clean-cut-kinds.r clean-cut.Post) (λ c. (c .args .0, (now (c .args .1 .0), now (c .args .1 .1 .0)))) (λ c. shown (washedPaper (c .result)) (c .result .stream) (now (c .exit .1 .1 .0))) clean-cut-wrong
+pub clean-cut-rules-out : RulesOut (Kept _ clean-cut-kinds.ps clean-cut-kinds.r clean-cut.Post) (λ c. (whole (c .args .0) (now (c .args .1 .0)), (now (c .args .1 .1 .0), now (c .args .1 .1 .1 .0)))) (λ c. shown (washedPaper (washedOf (c .result) (now (c .exit .1 .0)))) (whole (c .result .next) (now (c .exit .1 .0))) (now (c .exit .1 .1 .1 .0))) clean-cut-wrong
 unfolding plainOf frameOf checked readOf bodyRead numeral digitsOf laid laidIfRoom sum8 sumOf kindOf suits measureOf p002Ok fieldsOk realTime realParts daysIn leap judgeOf viewOf painted summed scrubbed Bits.valueOf Bits.mapOf rotated rangeRules mapRules soundOf Book.ownNumber Book.checkedOf Book.numberTo Book.raised Book.done Book.nextOf Book.fresh bookOf ledgerOf after next found noted joined eachOf Account.accountOf refusalOf seenOf saysOf callsBy offering offerOf madeOf recordBy bookBy accepts refuses
     opened State.headOf State.isSeeking State.meantBy State.valueOf State.allZero State.waitsRight State.soundOf Tally.tallyWith Tally.recordAt Tally.tallyAfter Tally.ledgerRight Tally.tallyRight Plain.behindOf Plain.mayTake Cuts.feedOf Waits.waits Waits.ranOf Wash.washed Wash.unjudgedBy Wash.plus Wash.oneOf Wash.sumsOf Wash.lays Calls.readsFor Calls.washBehind Calls.numberFor Calls.answerFor Calls.nextFor Calls.leavesFor
 clean-cut-rules-out =
@@ -102,13 +111,13 @@ clean-cut-rules-out =
 -- a stream and a lent buffer
 abbrev pub clean-end-wrong : List (Row (Stream × List ℕ) Outcome)
 clean-end-wrong =
-    (waiting, replicate 28 7) never (answer 0 (20 ∷ 0 ∷ 0 ∷ 0 ∷ []), (48 ∷ 0 ∷ [], take 20 heartbeat ++ replicate 8 7))  -- what waits is passed on as it is
-    ∷ (waiting, replicate 28 7) only (answer 0 (0 ∷ 0 ∷ 0 ∷ 0 ∷ []), (48 ∷ 0 ∷ [], replicate 28 7))
-    ∷ (begun, []) only (answer 0 (0 ∷ 0 ∷ 0 ∷ 0 ∷ []), (50 ∷ 0 ∷ [], []))  -- a private text that waits is not kept behind the end
-    ∷ (closed, replicate 28 7) only (answer 19 (0 ∷ 0 ∷ 0 ∷ 0 ∷ []), (48 ∷ 0 ∷ [], replicate 28 7))  -- not closed a second time
+    (waiting, replicate 28 7) never (answer 0 (20 ∷ 0 ∷ 0 ∷ 0 ∷ []), (48 ∷ 0 ∷ store [], take 20 heartbeat ++ replicate 8 7))  -- what waits is passed on as it is
+    ∷ (waiting, replicate 28 7) only (answer 0 (0 ∷ 0 ∷ 0 ∷ 0 ∷ []), (48 ∷ 0 ∷ store [], replicate 28 7))
+    ∷ (begun, []) only (answer 0 (0 ∷ 0 ∷ 0 ∷ 0 ∷ []), (50 ∷ 0 ∷ store [], []))  -- a private text that waits is not kept behind the end
+    ∷ (closed, replicate 28 7) only (answer 19 (0 ∷ 0 ∷ 0 ∷ 0 ∷ []), (48 ∷ 0 ∷ store [], replicate 28 7))  -- not closed a second time
     ∷ []
 
-pub clean-end-rules-out : RulesOut (Kept _ clean-end-kinds.ps clean-end-kinds.r clean-end.Post) (λ c. (c .args .0, now (c .args .1 .0))) (λ c. shown (washedPaper (c .result)) (c .result .stream) (now (c .exit .1 .0))) clean-end-wrong
+pub clean-end-rules-out : RulesOut (Kept _ clean-end-kinds.ps clean-end-kinds.r clean-end.Post) (λ c. (whole (c .args .0) (now (c .args .1 .0)), now (c .args .1 .1 .0))) (λ c. shown (washedPaper (washedOf (c .result) (now (c .exit .1 .0)))) (whole (c .result .next) (now (c .exit .1 .0))) (now (c .exit .1 .1 .0))) clean-end-wrong
 unfolding plainOf frameOf checked readOf bodyRead numeral digitsOf laid laidIfRoom sum8 sumOf kindOf suits measureOf p002Ok fieldsOk realTime realParts daysIn leap judgeOf viewOf painted summed scrubbed Bits.valueOf Bits.mapOf rotated rangeRules mapRules soundOf Book.ownNumber Book.checkedOf Book.numberTo Book.raised Book.done Book.nextOf Book.fresh bookOf ledgerOf after next found noted joined eachOf Account.accountOf refusalOf seenOf saysOf callsBy offering offerOf madeOf recordBy bookBy accepts refuses
     opened State.headOf State.isSeeking State.meantBy State.valueOf State.allZero State.waitsRight State.soundOf Tally.tallyWith Tally.recordAt Tally.tallyAfter Tally.ledgerRight Tally.tallyRight Plain.behindOf Plain.mayTake Cuts.feedOf Waits.waits Waits.ranOf Wash.washed Wash.unjudgedBy Wash.plus Wash.oneOf Wash.sumsOf Wash.lays Calls.readsFor Calls.washBehind Calls.numberFor Calls.answerFor Calls.nextFor Calls.leavesFor
 clean-end-rules-out =

@@ -1,28 +1,24 @@
--- A run with the bytes of its frames is CR 1's run; two cuts are one cut of both; and how far a
--- cut gets.
+-- A run with the bytes of its frames is CR 1's run; and how far a cut gets.
 use Prim.Native.Nat.{ℕ, zero, suc, _+_, _-_, _≤_}
 use mathlib.Core.Path.{_≡_, refl, sym, ap, ap₂, _∙_}
 use mathlib.Core.Bool.{Bool, true, false}
-use mathlib.Core.Logic.{⊎-elim}
-use mathlib.Core.List.{List, [], _∷_, _++_, append-assoc, append-nil}
+use mathlib.Core.List.{List, [], _∷_, _++_}
 use native.Mathlib.Omega.{arith}
-use lib.ListN.{length, take, drop, replicate, length-append}
+use lib.ListN.{length, take, length-append}
 use lib.Seq.{take-append-le}
 use borrow.Author.Tests.{ne-eqb}
 use Rattle.terms.specs.Paper.{pick}
 use Rattle.terms.specs.Cases.{clash}
 use Rattle.private.specs.Scrub.{scrubbed}
 use Rattle.walk_laws.specs.Walk.{Says, frame, more, bad, Sight, Mode, within, seeking, next, found, noted, after, sightsOf}
-use Rattle.walk_laws.specs.Waits.{waits, Got, halt, behind, ranOf, ran-wait, ran-step, ran-append}
+use Rattle.walk_laws.specs.Waits.{waits, Got, halt, behind, ranOf, ran-wait, ran-step}
 use Rattle.walk_laws.specs.WaitLaws.{modeOf}
-use Rattle.walk_laws.specs.Kept.{Between, b-reads, b-seeks}
 use Rattle.walk_laws.specs.Closing.{finalOf, final-frame, final-seen, final-after}
 use Rattle.walk_laws.specs.Cuts as Cuts
 use Rattle.walk_laws.specs.Frames.{joined, eachOf, each-joined, frontOf, takenOf, acceptedOf}
 use Rattle.reading.specs.declared.Seen.{Seen}
 use Rattle.reading.specs.Seen.{seenOf, seenNumber, saysOf}
-use Rattle.reading.specs.SeenLaws.{seen-kept, frame-says, more-says, says-frame, seen-blank, seen-answer}
-use Rattle.frame_spec.specs.Frame.{readOf}
+use Rattle.reading.specs.SeenLaws.{seen-kept, frame-says, more-says, says-frame}
 use Rattle.clean_spec.specs.Clean.{cleanOf}
 use Rattle.walk_spec.specs.Onward.{refused-size}
 use Rattle.clean_spec.specs.Accepted.{acceptedIn, clean-is, clean-short}
@@ -35,10 +31,9 @@ use Rattle.stream_spec.specs.RunLaws.{in-frame}
 use Rattle.stream_spec.specs.Calls.{behindOf, feedOf}
 use Rattle.stream_spec.specs.Window.{length-head}
 use Rattle.stream_spec.specs.CutLaws as PlainLaws
-use Rattle.stream_spec.specs.CutLaws.{meant-fed, behind-both}
 use Rattle.stream_clean_spec.specs.declared.Sums.{Sums}
-use Rattle.stream_clean_spec.specs.Wash.{Cut, cutOf, saysBy, ownOf, washed, plus, oneOf, seeksAfter, sumsOf, lays}
-use Rattle.stream_clean_spec.specs.Calls.{gotOf, readsFor, sumsFor, withTally, washBehind}
+use Rattle.stream_clean_spec.specs.Wash.{Cut, cutOf, saysBy, washed, plus, oneOf, seeksAfter, sumsOf}
+use Rattle.stream_clean_spec.specs.Calls.{gotOf, readsFor, withTally, washBehind}
 use Rattle.stream_clean_spec.specs.LayLaws.{plus-assoc, none-plus, washed-append}
 
 -- FRAME LAW 1, with the frame's bytes
@@ -182,17 +177,6 @@ meant-run x closing cut =
     let r = same-run closing (modeOf (x .seeking)) (x .place) (headOf (x .len) (x .kept) ++ cut) in
     (ap (λ (g : Got Seen). g .mode) r, (ap (λ (g : Got Seen). g .place) r, ap (λ (g : Got Seen). g .kept) r))
 
-pub stands-behind : (x : Stream) (a : List ℕ) → Stands (washBehind x false a) (runFor x false a)
-unfolding washBehind behindOf meantBy
-stands-behind x a =
-    let m = meant-fed x a in
-    let r = meant-run x false a in
-    record {
-      mode = ap (λ (y : Cuts.Stream Tally). y .mode) m ∙ r .0;
-      place = ap (λ (y : Cuts.Stream Tally). y .place) m ∙ r .1 .0;
-      kept = ap (λ (y : Cuts.Stream Tally). y .kept) m ∙ r .1 .1;
-    }
-
 -- the readings of what comes next, behind a run
 pub reads-behind : (x : Stream) (g : Got Cut) → Stands x g → (closing : Bool) (b : List ℕ) → readsFor x closing b ≡ ranOf cutOf (saysBy closing) (g .mode) (g .place) (g .kept ++ b) .seen
 unfolding readsFor
@@ -201,35 +185,10 @@ reads-behind x g z closing b = rw (← z .mode, ← z .place, ← z .kept)
 pub seeks-behind : (x : Stream) (g : Got Cut) → Stands x g → isSeeking (g .mode) ≡ x .seeking
 seeks-behind x g z = ap isSeeking (sym (z .mode)) ∙ seeking-is (x .seeking)
 
--- TWO CUTS ARE ONE
-
-module _ (x : Stream) (a b : List ℕ) where
-  joins : readsFor x false (a ++ b) ≡ readsFor x false a ++ ranOf cutOf (saysBy false) (runFor x false a .mode) (runFor x false a .place) (runFor x false a .kept ++ b) .seen
-  unfolding readsFor
-  joins =
-      ap (λ (l : List ℕ). ranOf cutOf (saysBy false) (modeOf (x .seeking)) (x .place) l .seen) (sym (append-assoc (headOf (x .len) (x .kept)) a b))
-      ∙ ap (λ (g : Got Cut). g .seen) (ran-append cutOf (saysBy false) cut-kept (modeOf (x .seeking)) (x .place) (headOf (x .len) (x .kept) ++ a) b)
-
-  pub reads-both : readsFor x false (a ++ b) ≡ readsFor x false a ++ readsFor (washBehind x false a) false b
-  reads-both = joins ∙ ap (λ (l : List (Sight Cut)). readsFor x false a ++ l) (sym (reads-behind (washBehind x false a) (runFor x false a) (stands-behind x a) false b))
-
-  split : (ys : List (Sight Cut)) → sumsOf (x .seeking) (readsFor x false a ++ ys) ≡ plus (sumsFor x false a) (sumsOf (washBehind x false a .seeking) ys)
-  unfolding readsFor
-  split ys =
-      sums-run false (x .seeking) (x .place) (headOf (x .len) (x .kept) ++ a) ys
-      ∙ ap (λ (t : Bool). plus (sumsOf (x .seeking) (runFor x false a .seen)) (sumsOf t ys)) (seeks-behind (washBehind x false a) (runFor x false a) (stands-behind x a))
-
-  pub sums-both : sumsFor x false (a ++ b) ≡ plus (sumsFor x false a) (sumsFor (washBehind x false a) false b)
-  sums-both = ap (sumsOf (x .seeking)) reads-both ∙ split (readsFor (washBehind x false a) false b)
-
 -- counts and ledger do not matter
 pub other-tally : (y : Stream) (t : Tally) (closing : Bool) (b : List ℕ) (u : Tally) → withTally (behindOf (withTally y t) closing b) u ≡ withTally (behindOf y closing b) u
 unfolding behindOf valueOf meantBy Cuts.feedOf
 other-tally y t closing b u = refl
-
-pub wash-both : (x : Stream) (a b : List ℕ) → washBehind (washBehind x false a) false b ≡ washBehind x false (a ++ b)
-unfolding washBehind
-wash-both x a b = other-tally (behindOf x false a) (x .tally) false b (x .tally) ∙ ap (λ (y : Stream). withTally y (x .tally)) (behind-both x a b)
 
 -- HOW FAR A CUT GETS
 

@@ -64,18 +64,6 @@ laid-length at bs d =
     (λ (f : leb (at + length bs) (length d) ≡ false). ap length (laid-kept at (length bs) bs d refl f))
     (two (leb (at + length bs) (length d)))
 
-pub lays-length : (n : ℕ) (xs : List (Sight Cut)) (d : List ℕ) → length (lays n xs d) ≡ length d
-unfolding lays
-lays-length n [] d = refl
-lays-length n (x ∷ xs) d = lays-length (n + length (x .read .own)) xs (laidIfRoom n (ownOf x) d) ∙ laid-length n (ownOf x) d
-
-pub lays-append : (n : ℕ) (b : Bool) (xs ys : List (Sight Cut)) (d : List ℕ) → lays n (xs ++ ys) d ≡ lays (n + sumsOf b xs .bytes) ys (lays n xs d)
-unfolding lays sumsOf oneOf plus
-lays-append n b [] ys d = let e : n + 0 ≡ n = omega arith in rw e
-lays-append n b (x ∷ xs) ys d =
-    let e : n + length (x .read .own) + sumsOf (seeksAfter (x .read .seen)) xs .bytes ≡ n + (length (x .read .own) + sumsOf (seeksAfter (x .read .seen)) xs .bytes) = omega arith in
-    lays-append (n + length (x .read .own)) (seeksAfter (x .read .seen)) xs ys (laidIfRoom n (ownOf x) d) ∙ ap (λ (m : ℕ). lays m ys (lays (n + length (x .read .own)) xs (laidIfRoom n (ownOf x) d))) e
-
 -- where all have room, they are laid end to end
 pub lays-all : (n : ℕ) (xs : List (Sight Cut)) (d : List ℕ) → n + length (washed xs) ≤ length d → lays n xs d ≡ laid n (washed xs) d
 unfolding lays washed joined eachOf

@@ -1,9 +1,9 @@
 -- The loop of a run that scrubs: behind what is done, what is left gives what the whole run gives.
 use Prim.Native.Nat.{ℕ, _+_, _≤_, _<_}
 use mathlib.Core.Path.{_≡_, refl, sym, ap, _∙_}
-use mathlib.Core.Bool.{Bool, true, false, not}
+use mathlib.Core.Bool.{Bool, true, false}
 use mathlib.Core.Logic.{⊎-elim}
-use mathlib.Core.List.{List, [], _∷_, _++_}
+use mathlib.Core.List.{List, [], _∷_}
 use native.Mathlib.Omega.{arith}
 use lib.Dec.{eqb}
 use lib.ListN.{length, take, drop, length-drop, drop-of-length-le}
@@ -14,20 +14,20 @@ use Rattle.terms.specs.Letters.{spelled}
 use Rattle.terms.specs.Cases.{two, same}
 use Rattle.octets.specs.Papers.{laidIfRoom}
 use Rattle.private.specs.Scrub.{scrubbed}
-use Rattle.walk_laws.specs.Walk.{Says, frame, more, bad, Sight, noted, found}
+use Rattle.walk_laws.specs.Walk.{Says, frame, more, bad, noted, found}
 use Rattle.walk_laws.specs.Waits.{halt, behind}
 use Rattle.walk_laws.specs.WaitLaws.{modeOf, notes, ranAt, ran-end, ran-more, ran-frame, ran-bad}
 use Rattle.reading.specs.declared.Seen.{Seen}
-use Rattle.reading.specs.Seen.{seenOf, seenNumber, saysOf}
+use Rattle.reading.specs.Seen.{seenOf, seenNumber}
 use Rattle.reading.specs.SeenLaws.{seen-fits, says-frame, seen-blank, seen-answer}
 use Rattle.frame_spec.specs.Frame.{readOf}
 use Rattle.walk_spec.specs.Walk.{accepts}
 use Rattle.clean_spec.specs.Turns.{size-inside}
-use Rattle.stream_spec.specs.Run.{saysIn, waitsAt, passedOver, strideOf}
+use Rattle.stream_spec.specs.Run.{waitsAt, passedOver, strideOf}
 use Rattle.stream_spec.specs.RunLaws as Plain
 use Rattle.stream_spec.specs.RunLaws.{in-frame, in-more, in-bad, passed, not-passed}
 use Rattle.stream_clean_spec.specs.declared.Sums.{Sums}
-use Rattle.stream_clean_spec.specs.Wash.{Cut, cutOf, saysBy, ownOf, unjudgedBy, noSums, plus, oneOf, seeksAfter, sumsOf, lays}
+use Rattle.stream_clean_spec.specs.Wash.{Cut, cutOf, saysBy, unjudgedBy, noSums, plus, oneOf, seeksAfter, sumsOf, lays}
 use Rattle.stream_clean_spec.specs.Calls.{gotOf}
 use Rattle.stream_clean_spec.specs.LayLaws.{plus-assoc, plus-none, plus-bytes, laid-length}
 
@@ -141,8 +141,6 @@ pub record RanIs (w : List ℕ) (base : ℕ) (seek closing : Bool) (start : Sums
   pub mode : gotOf base seek closing w .mode ≡ modeOf seeking
   pub place : gotOf base seek closing w .place ≡ base + at
   pub kept : gotOf base seek closing w .kept ≡ drop at w
-  pub few : sums .bytes ≤ start .bytes + at
-  pub right : Right sums
   pub summed : sums ≡ plus start (sumsOf seek (gotOf base seek closing w .seen))
   pub written : d′ ≡ lays (start .bytes) (gotOf base seek closing w .seen) d
 
@@ -221,8 +219,6 @@ module _ (w out₀ : List ℕ) (base : ℕ) (seek closing : Bool) (s₀ : Sums) 
         mode = sym (rw q at (z .mode));
         place = sym (rw q at (z .place));
         kept = sym (rw q at (z .kept)) ∙ e;
-        few = z .few;
-        right = z .right;
         summed = sym (plus-none s) ∙ rw q at (z .summed);
         written = rw q at (z .written);
       }

@@ -18,7 +18,7 @@ same-length : tie.Need-same-length
 same-length c = search needs
 
 returns : tie.Need-returns
-returns c = lent-settled _ _ _ Close _ _ (c .before .before .before .before .before .before .close .result) _ (c .before .before .before .before .before .before .before .before .before .standing-in .result) (c .before .before .before .before .before .before .before .before .before .standing-in .ensures) (c .before .before .before .before .before .before .close .ensures) (c .settle .ensures)
+returns c = lent-settled _ _ _ Close _ _ _ (c .before .before .before .before .before .before .before .before .before .standing-in .result) (c .before .before .before .before .before .before .before .before .before .standing-in .ensures) (c .before .before .before .before .before .before .close .result) (c .before .before .before .before .before .before .close .ensures) (c .settle .ensures)
 
 pub rk-stream-close-spec : {M : Type 1} → statement M
 rk-stream-close-spec = tie.close (tie.spec standing-in-requires close-requires settle-requires same-length returns)

@@ -18,7 +18,7 @@ same-length : tie.Need-same-length
 same-length c = search needs
 
 returns : tie.Need-returns
-returns c = (lent-settled _ _ _ (Feed _) _ _ (c .before .before .before .before .before .before .feed .result) _ (c .before .before .before .before .before .before .before .before .before .standing-in .result) (c .before .before .before .before .before .before .before .before .before .standing-in .ensures) (c .before .before .before .before .before .before .feed .ensures .0) (c .settle .ensures), c .before .before .before .before .before .before .feed .ensures .1)
+returns c = (lent-settled _ _ _ (Feed _) _ _ _ (c .before .before .before .before .before .before .before .before .before .standing-in .result) (c .before .before .before .before .before .before .before .before .before .standing-in .ensures) (c .before .before .before .before .before .before .feed .result) (c .before .before .before .before .before .before .feed .ensures .0) (c .settle .ensures), c .before .before .before .before .before .before .feed .ensures .1)
 
 pub rk-stream-feed-spec : {M : Type 1} → statement M
 rk-stream-feed-spec = tie.close (tie.spec standing-in-requires feed-requires settle-requires same-length returns)
