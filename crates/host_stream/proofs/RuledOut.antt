@@ -3,6 +3,7 @@
 -- how many bytes wait, frames, refused), the ledger's nine, and the bytes that wait.
 -- Assumes nothing.
 use mathlib.Core.Path.{_≡_, refl, ap, ap₂}
+use Rattle.terms.specs.Letters.{spelled}
 use Rattle.terms.specs.Paper.{Paper}
 use Rattle.terms.specs.Refusals.{refusalOf}
 use Rattle.terms.specs.RuledOut.{Row, _never_, _only_, Kept, RulesOut, ruled, numbers, lists, beside}
@@ -17,7 +18,7 @@ use Rattle.rules.specs.Table.{kindOf, suits, measureOf}
 use Rattle.rules.specs.Fields.{p001Ok, p002Ok, fieldsOk, judgeOf}
 use Rattle.frame_spec.specs.Frame.{checked, readOf, bodyRead}
 use Rattle.frame_spec.specs.Write.{plainOf, frameOf}
-use Rattle.frame_spec.specs.Examples.{startOfA, frameA, frameB, A, heartbeat, resend}
+use Rattle.frame_spec.specs.Examples.{startOfA, frameA, frameB, A, framed, heartbeat, resend}
 use Rattle.octets.specs.Papers.{laidIfRoom}
 use Rattle.private.specs.Scrub.{painted, summed, scrubbed}
 use Rattle.frame_view.specs.View.{viewOf}
@@ -131,9 +132,17 @@ cleaned-by i =
 abbrev begun : Lent
 begun = washAfter (lentOf opened) (Feed (take 50 (resend 1 0x41))) 0
 
+-- 29 bytes that are no frame, and a frame whose body no rule judges
+abbrev damaged : Lent
+damaged = washAfter (lentOf opened) (Feed (replicate 29 0xFF)) 0
+
+abbrev unjudged : List ℕ
+unjudged = framed (spelled "M101") (1 ∷ 2 ∷ [])
+
 abbrev pub rk-stream-clean-wrong : List (Row Input Outcome)
 rk-stream-clean-wrong =
     (begun, (Feed (drop 50 (resend 1 0x41)), (replicate 81 7, replicate 6 7))) only (0, (80 ∷ 1 ∷ 0 ∷ 0 ∷ 80 ∷ 0 ∷ [], (80 ∷ 0 ∷ 0 ∷ 0 ∷ 0 ∷ 0 ∷ 100 ∷ 0 ∷ 0 ∷ replicate 20 0, resend 1 0x20 ++ (7 ∷ []))))  -- no private byte left, and none kept
+    ∷ (damaged, (Feed unjudged, (replicate 30 7, replicate 6 7))) only (0, (30 ∷ 1 ∷ 1 ∷ 1 ∷ 59 ∷ 0 ∷ [], (59 ∷ 0 ∷ 0 ∷ 0 ∷ 0 ∷ 0 ∷ 100 ∷ 0 ∷ 0 ∷ replicate 20 0, unjudged)))  -- an M101 after damage is told as both: found there, and judged by no rule
     ∷ (lentOf opened, (Feed heartbeat, (replicate 27 7, replicate 6 7))) only (8, (replicate 6 7, (0 ∷ 0 ∷ 0 ∷ 0 ∷ 0 ∷ 0 ∷ 100 ∷ 0 ∷ 0 ∷ replicate 20 0, replicate 27 7)))  -- nothing changes beside 8
     ∷ (washAfter begun Close 0, (Feed heartbeat, (replicate 27 7, replicate 6 7))) never (8, (replicate 6 7, (50 ∷ 1 ∷ 1 ∷ 0 ∷ 0 ∷ 0 ∷ 100 ∷ 0 ∷ 0 ∷ replicate 20 0, replicate 27 7)))  -- 8 before 19
     ∷ []

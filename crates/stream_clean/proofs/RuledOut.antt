@@ -5,6 +5,7 @@ use mathlib.Core.Path.{_≡_, refl, ap₂}
 use mathlib.Core.List.{List, [], _∷_, _++_}
 use denote.Ref.{now}
 use lib.ListN.{length, take, drop, replicate}
+use Rattle.terms.specs.Letters.{spelled}
 use Rattle.terms.specs.Paper.{Paper, answer}
 use Rattle.terms.specs.Refusals.{refusalOf}
 use Rattle.terms.specs.RuledOut.{Row, _never_, _only_, Kept, RulesOut, ruled, lists, papers, beside}
@@ -15,7 +16,7 @@ use Rattle.rules.specs.Table.{kindOf, suits, measureOf}
 use Rattle.rules.specs.Fields.{p002Ok, fieldsOk, judgeOf}
 use Rattle.frame_spec.specs.Frame.{checked, readOf, bodyRead}
 use Rattle.frame_spec.specs.Write.{plainOf, frameOf}
-use Rattle.frame_spec.specs.Examples.{heartbeat, resend}
+use Rattle.frame_spec.specs.Examples.{framed, heartbeat, resend}
 use Rattle.frame_view.specs.View.{viewOf}
 use Rattle.private.specs.Scrub.{painted, summed, scrubbed}
 use Rattle.tick_map.specs.Bits as Bits
@@ -80,6 +81,10 @@ waiting = nextOf opened (Feed (heartbeat ++ take 20 heartbeat)) 28
 abbrev closed : Stream
 closed = nextOf waiting Close 0
 
+-- a frame whose body no rule judges
+abbrev unjudged : List ℕ
+unjudged = framed (spelled "M101") (1 ∷ 2 ∷ [])
+
 -- the stream just opened, but at this place, and with this many kept bytes
 abbrev moved : ℕ → ℕ → Stream
 moved place len = record { place = place; seeking = opened .seeking; closed = opened .closed; len = len; kept = opened .kept; tally = opened .tally }
@@ -91,6 +96,7 @@ clean-cut-wrong =
     ∷ (begun, (drop 50 (resend 1 0x41), replicate 81 7)) never (answer 0 (80 ∷ 1 ∷ 0 ∷ 0 ∷ []), (80 ∷ 0 ∷ store (take 50 (resend 1 0x41)), resend 1 0x20 ++ (7 ∷ [])))  -- private bytes linger in the store behind their frame
     ∷ (opened, (take 50 (resend 1 0x41), replicate 80 7)) only (answer 0 (0 ∷ 0 ∷ 0 ∷ 0 ∷ []), (0 ∷ 50 ∷ store (take 50 (resend 1 0x41)), replicate 80 7))  -- no part of a frame is written before its end came
     ∷ (damaged, (heartbeat, replicate 28 7)) only (answer 0 (28 ∷ 1 ∷ 1 ∷ 0 ∷ []), (57 ∷ 0 ∷ store [], heartbeat))  -- a frame after damage counts as such behind a cut too
+    ∷ (damaged, (unjudged, replicate 30 7)) only (answer 0 (30 ∷ 1 ∷ 1 ∷ 1 ∷ []), (59 ∷ 0 ∷ store [], unjudged))  -- an M101 is passed on and counted as one that no rule judges
     ∷ (opened, (heartbeat ++ take 20 heartbeat, replicate 27 7)) only (answer 8 (0 ∷ 0 ∷ 0 ∷ 0 ∷ []), (0 ∷ 0 ∷ store [], replicate 27 7))  -- nothing written, and nothing taken, beside 8
     ∷ (begun, (drop 50 (resend 1 0x41), replicate 79 7)) only (answer 8 (0 ∷ 0 ∷ 0 ∷ 0 ∷ []), (0 ∷ 50 ∷ store (take 50 (resend 1 0x41)), replicate 79 7))  -- nor laid in the store
     ∷ (begun, ([], [])) only (answer 0 (0 ∷ 0 ∷ 0 ∷ 0 ∷ []), (0 ∷ 50 ∷ store (take 50 (resend 1 0x41)), []))  -- an empty cut is not the end
