@@ -45,22 +45,22 @@ suits-long Other n m h k = refl
 
 module _ (front s : List ℕ) (l : Long front s) where
   -- the header, and the body's first bytes
-  pub in-front : (w at : ℕ) → at + w ≤ 1024 → be w at front ≡ be w at s
-  in-front w at h = ap (be w at) (l .begins) ∙ numeral-take 256 w at 1024 s h
+  pub in-front : (w at : ℕ) → at + w ≤ 512 → be w at front ≡ be w at s
+  in-front w at h = ap (be w at) (l .begins) ∙ numeral-take 256 w at 512 s h
 
-  pub in-body : (w at : ℕ) → at + w ≤ 996 → be w (24 + at) front ≡ be w at (body s)
+  pub in-body : (w at : ℕ) → at + w ≤ 484 → be w (24 + at) front ≡ be w at (body s)
   in-body w at h =
       in-front w (24 + at) (omega arith)
       ∙ sym (numeral-take 256 w at (bodyLength s) (drop 24 s) (omega (arith, l .big)) ∙ numeral-drop 256 w 24 at s)
 
-  behind : (w at : ℕ) → at + w ≤ 996 → be w at (drop 24 front) ≡ be w at (body s)
+  behind : (w at : ℕ) → at + w ≤ 484 → be w at (drop 24 front) ≡ be w at (body s)
   behind w at h = numeral-drop 256 w 24 at front ∙ in-body w at h
 
   pub body-is : length (body s) ≡ bodyLength s
   body-is = body-length s (l .whole .there)
 
-  pub front-long : length front ≡ 1024
-  front-long = ap length (l .begins) ∙ length-take-le 1024 s (omega (arith, l .whole .there, l .big))
+  pub front-long : length front ≡ 512
+  front-long = ap length (l .begins) ∙ length-take-le 512 s (omega (arith, l .whole .there, l .big))
 
   tail-front : tailOk (drop 24 front) ≡ tailOk (body s)
   unfolding tailOk

@@ -191,18 +191,18 @@ seen-still k h s e z l =
     let o : readOf s ≡ refusal 1 = read-still k s (missing (take k s) (ap (λ (x : List ℕ). seenNumber (seenOf x)) (sym e) ∙ z)) (rw (← e) l) in
     blank-one h z′ ∙ sym (blank-one s (one-number o))
 
-long-of : (s : List ℕ) → (length (take 1024 s) < 24) ⊎ Cut (take 1024 s) → wantedBy (take 1024 s) ≤ length s → Long (take 1024 s) s
-long-of s (inl h) l = absurd (omega (arith, h, l, wanted-header (take 1024 s) h, length-take 1024 s))
+long-of : (s : List ℕ) → (length (take 512 s) < 24) ⊎ Cut (take 512 s) → wantedBy (take 512 s) ≤ length s → Long (take 512 s) s
+long-of s (inl h) l = absurd (omega (arith, h, l, wanted-header (take 512 s) h, length-take 512 s))
 long-of s (inr c) l =
     record {
       begins = refl;
-      whole = cut-whole 1024 s c l;
-      big = omega (arith, c .short, l, wanted-frame (take 1024 s) (c .header), same-length 1024 s c, length-take 1024 s);
+      whole = cut-whole 512 s c l;
+      big = omega (arith, c .short, l, wanted-frame (take 512 s) (c .header), same-length 512 s c, length-take 512 s);
     }
 
 -- else it is a long frame
-long-frame : (front s : List ℕ) → front ≡ take 1024 s → seenNumber (seenOf front) ≡ 1 → wantedBy front ≤ length s → Long front s
-long-frame front s e z l = rw e (long-of s (missing (take 1024 s) (ap (λ (x : List ℕ). seenNumber (seenOf x)) (sym e) ∙ z)) (rw (← e) l))
+long-frame : (front s : List ℕ) → front ≡ take 512 s → seenNumber (seenOf front) ≡ 1 → wantedBy front ≤ length s → Long front s
+long-frame front s e z l = rw e (long-of s (missing (take 512 s) (ap (λ (x : List ℕ). seenNumber (seenOf x)) (sym e) ∙ z)) (rw (← e) l))
 
 -- THE SAME OF WHAT THE CODE ASKS: whether bytes are missing for the front h, and whether both parts
 -- of a and b bytes lack some of what it wants
@@ -220,5 +220,5 @@ module _ (k : ℕ) (h s : List ℕ) (x : Seen) (e : h ≡ take k s) (seen : x �
     pub seen-cut : cut ≡ true → x ≡ seenOf s
     seen-cut c = seen ∙ seen-still k h s e (number w) (omega (arith, ltb-true (a + b) (wantedBy h) (sym lacks ∙ c)))
 
-    pub seen-behind : k ≡ 1024 → cut ≡ false → Long h s
+    pub seen-behind : k ≡ 512 → cut ≡ false → Long h s
     seen-behind f c = long-frame h s (rw f at e) (number w) (omega (arith, ltb-false (a + b) (wantedBy h) (sym lacks ∙ c)))

@@ -19,12 +19,12 @@ pub record Gathers (n : ℕ) (s e : List ℕ) (r : ℕ) : Type 0 where
   pub inside : r ≤ length e
   pub same : take r e ≡ take n s
 
--- s begins with a frame of more than 1,024 bytes that is there as a whole, and front has the first
--- 1,024 of them
+-- s begins with a frame of more than 512 bytes that is there as a whole, and front has the first
+-- 512 of them
 pub record Long (front s : List ℕ) : Type 0 where
-  pub begins : front ≡ take 1024 s
+  pub begins : front ≡ take 512 s
   pub whole : Whole s
-  pub big : 1024 < 28 + bodyLength s
+  pub big : 512 < 28 + bodyLength s
 
 abbrev pub isM102 : Kind → Bool
 isM102 S001 = false

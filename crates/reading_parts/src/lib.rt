@@ -1,4 +1,4 @@
-// A frame whose bytes lie in two parts, one behind the other: its reading. At most 1,024 bytes are
+// A frame whose bytes lie in two parts, one behind the other: its reading. At most 512 bytes are
 // laid together; what a longer frame has behind them is summed and judged where it stands.
 ghost use mathlib.Core.Path.{_≡_};
 ghost use mathlib.Core.List.{_++_};
@@ -174,7 +174,7 @@ fn fields_ok(kind: Kind, front: &[u8], first: &[u8], second: &[u8], len: usize) 
     rules::fields_ok(kind, &front[24..])
 }
 
-// The reading of a frame of more than 1,024 bytes that is there as a whole.
+// The reading of a frame of more than 512 bytes that is there as a whole.
 fn see_long(front: &[u8], first: &[u8], second: &[u8]) -> Seen
     requires { ⌜ Long (now front) (now first ++ now second) ⌝ }
     ensures { λ r. ⌜ r ≡ seenOf (now (first .entry) ++ now (second .entry)) ⌝ }
@@ -211,9 +211,9 @@ fn see_long(front: &[u8], first: &[u8], second: &[u8]) -> Seen
     }
 }
 
-// The reading of both parts, whose first bytes, up to 1,024, are lent as one.
+// The reading of both parts, whose first bytes, up to 512, are lent as one.
 fn see_front(front: &[u8], first: &[u8], second: &[u8]) -> Seen
-    requires { ⌜ now front ≡ take 1024 (now first ++ now second) ⌝ }
+    requires { ⌜ now front ≡ take 512 (now first ++ now second) ⌝ }
     ensures { λ r. ⌜ r ≡ seenOf (now (first .entry) ++ now (second .entry)) ⌝ }
 {
     let seen = reading::see(front, 0);
@@ -226,11 +226,11 @@ fn see_front(front: &[u8], first: &[u8], second: &[u8]) -> Seen
     see_long(front, first, second)
 }
 
-// The reading of both parts, of which at most 1,024 bytes are laid together.
+// The reading of both parts, of which at most 512 bytes are laid together.
 fn see_wide(first: &[u8], second: &[u8]) -> Seen
     ensures { λ r. ⌜ r ≡ seenOf (now (first .entry) ++ now (second .entry)) ⌝ }
 {
-    let mut front: [u8; 1024] = [0; 1024];
+    let mut front: [u8; 512] = [0; 512];
     let m = gather(first, second, &mut front);
     see_front(&front[..m], first, second)
 }

@@ -15,16 +15,16 @@ waits-requires : tie.Need-waits-requires
 waits-requires c κs = search needs
 
 returns : tie.Need-returns
-returns c = let s = c .before .before .before .before .before .before in seen-told 1024 _ _ _ (s .pre) (c .before .before .see .ensures) _ (c .before .waits .ensures) (not-true _ (c .if1 .taken))
+returns c = let s = c .before .before .before .before .before .before in seen-told 512 _ _ _ (s .pre) (c .before .before .see .ensures) _ (c .before .waits .ensures) (not-true _ (c .if1 .taken))
 
 is-cut-requires : tie.Need-is-cut-requires
 is-cut-requires c κs = search needs
 
 returns-2 : tie.Need-returns-2
-returns-2 c = let s = c .before .before .before .before .before .before .before .before in seen-cut 1024 _ _ _ (s .pre) (c .before .before .before .before .see .ensures) _ (c .before .before .before .waits .ensures) _ _ (length-append (s .args .first .now) (s .args .second .now)) _ (c .before .is-cut .ensures) (not-false _ (c .before .before .if1 .left)) (c .if2 .taken)
+returns-2 c = let s = c .before .before .before .before .before .before .before .before in seen-cut 512 _ _ _ (s .pre) (c .before .before .before .before .see .ensures) _ (c .before .before .before .waits .ensures) _ _ (length-append (s .args .first .now) (s .args .second .now)) _ (c .before .is-cut .ensures) (not-false _ (c .before .before .if1 .left)) (c .if2 .taken)
 
 see-long-requires : tie.Need-see-long-requires
-see-long-requires c κs = let s = c .before .before .before .before .before .before .before .before in seen-behind 1024 _ _ _ (s .pre) (c .before .before .before .before .see .ensures) _ (c .before .before .before .waits .ensures) _ _ (length-append (s .args .first .now) (s .args .second .now)) _ (c .before .is-cut .ensures) (not-false _ (c .before .before .if1 .left)) refl (c .if2 .left)
+see-long-requires c κs = let s = c .before .before .before .before .before .before .before .before in seen-behind 512 _ _ _ (s .pre) (c .before .before .before .before .see .ensures) _ (c .before .before .before .waits .ensures) _ _ (length-append (s .args .first .now) (s .args .second .now)) _ (c .before .is-cut .ensures) (not-false _ (c .before .before .if1 .left)) refl (c .if2 .left)
 
 returns-3 : tie.Need-returns-3
 returns-3 c = search needs
