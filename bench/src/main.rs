@@ -7,6 +7,7 @@
 //!     cargo run --release -p bench -- channels those of a table of channels
 //!     cargo run --release -p bench -- month   those of a page over captures
 //!     cargo run --release -p bench -- ledger  the rows of a ledger alone
+//!     cargo run --release -p bench -- listing those of the listing's text
 //!
 //! Each job runs both ways in turn several times, and the best time of each counts. The answers are
 //! compared first.
@@ -545,6 +546,42 @@ fn clean(input: &str, capture: &[u8]) {
     );
 }
 
+/// The text of a walk's records, with room for every such text and with room for this one alone.
+fn listings(input: &str, size: usize) {
+    let capture = made::capture(size);
+    let mut records = vec![0; host::records_room(size)];
+    let theirs = plain::walk(&capture, &mut records).expect("room");
+    let ours = host::walk(&capture, &mut records).expect("room");
+    records.truncate(ours.records * host::RECORD);
+    let room = host::text_room(ours.records);
+    let (mut a, mut b) = (vec![0; room], vec![0; room]);
+    let n = number(host::listing(&records, &ours, &mut a));
+    assert_eq!(n, plain::listing(&records, &theirs, &mut b));
+    assert!(a == b);
+    let n = n.expect("room");
+    let (mut c, mut d) = (vec![0; n - 1], vec![0; n - 1]);
+    assert_eq!(number(host::listing(&records, &ours, &mut c)), Err(8));
+    assert_eq!(plain::listing(&records, &theirs, &mut d), Err(8));
+    assert!(c == d);
+    for (name, room) in [("listing text", room), ("listing text, exactly fitting", n)] {
+        // as if a line had 50 bytes, for the turns
+        let job = Job {
+            name,
+            input,
+            bytes: 50 * ours.records,
+            goal: Some(1.2),
+        };
+        let (a, b) = (&mut a[..room], &mut b[..room]);
+        job.race(
+            "line",
+            50,
+            || done(host::listing(black_box(&records), &ours, a)),
+            || done(plain::listing(black_box(&records), &theirs, b)),
+        );
+        assert!(a == b);
+    }
+}
+
 fn captures(input: &str, size: usize) {
     let capture = made::capture(size);
     let places = places(&capture);
@@ -716,6 +753,10 @@ fn main() {
         month::rows();
         return;
     }
+    if std::env::args().any(|a| a == "listing") {
+        listings("64 KiB", KIB_64);
+        return;
+    }
     if std::env::args().any(|a| a == "cuts") {
         arriving(small);
         return;
@@ -737,6 +778,7 @@ fn main() {
     session::rows();
     channels::rows();
     captures("64 KiB", KIB_64);
+    listings("64 KiB", KIB_64);
     month::rows();
     market::race();
     if !small {

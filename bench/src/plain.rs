@@ -456,6 +456,12 @@ impl Ledger {
         Ok(width - held.iter().map(|w| u64::from(w.count_ones())).sum::<u64>())
     }
 
+    pub fn missing(&self) -> Result<u64, u32> {
+        self.checked(self.channel)?;
+        let held: u32 = self.map.iter().map(|w| w.count_ones()).sum();
+        Ok(self.top - self.floor - u64::from(held))
+    }
+
     pub fn announce(&mut self, channel: u16, last: u64) -> Result<(), u32> {
         self.checked(channel)?;
         if last > LARGEST {
@@ -576,4 +582,138 @@ pub fn clean(capture: &[u8], out: &mut [u8]) -> Result<Cleaned, u32> {
         return Err(8);
     }
     Ok(join(capture, out))
+}
+
+// THE LISTING'S TEXT
+
+/// The two digits of each number below 100.
+const PAIRS: [[u8; 2]; 100] = {
+    let mut pairs = [[0; 2]; 100];
+    let mut n = 0;
+    while n < 100 {
+        pairs[n] = [b'0' + (n / 10) as u8, b'0' + (n % 10) as u8];
+        n += 1;
+    }
+    pairs
+};
+
+/// All four digits of a number below 10,000, from a place on; the place behind them.
+fn four(text: &mut [u8], at: usize, v: u32) -> usize {
+    let [a, b] = PAIRS[(v / 100) as usize];
+    let [c, d] = PAIRS[(v % 100) as usize];
+    text[at..at + 4].copy_from_slice(&[a, b, c, d]);
+    at + 4
+}
+
+/// Those that such a number needs.
+fn few(text: &mut [u8], at: usize, v: u32) -> usize {
+    if v < 10 {
+        text[at] = b'0' + v as u8;
+        return at + 1;
+    }
+    let [a, b] = PAIRS[(v % 100) as usize];
+    if v < 100 {
+        text[at..at + 2].copy_from_slice(&[a, b]);
+        return at + 2;
+    }
+    if v < 1_000 {
+        text[at..at + 3].copy_from_slice(&[b'0' + (v / 100) as u8, a, b]);
+        return at + 3;
+    }
+    four(text, at, v)
+}
+
+/// Those of a number that is mostly not that short.
+#[inline(never)]
+fn many(text: &mut [u8], at: usize, v: u64) -> usize {
+    if v < 10_000 {
+        return few(text, at, v as u32);
+    }
+    let at = many(text, at, v / 10_000);
+    four(text, at, (v % 10_000) as u32)
+}
+
+/// A number and the byte behind it.
+fn column(text: &mut [u8], at: usize, v: u64, behind: u8) -> usize {
+    let at = if v < 10_000 {
+        few(text, at, v as u32)
+    } else {
+        many(text, at, v)
+    };
+    text[at] = behind;
+    at + 1
+}
+
+/// A record's line.
+fn line(text: &mut [u8], at: usize, row: &[u8]) -> usize {
+    let at = column(text, at, u64_at(row, 0), b' ');
+    let shown = match &row[8..12] {
+        b"    " => b"----",
+        name => name,
+    };
+    text[at..at + 4].copy_from_slice(shown);
+    text[at + 4] = b' ';
+    let at = column(text, at + 5, u32_at(row, 12).into(), b' ');
+    let at = column(text, at, u64_at(row, 16), b' ');
+    let at = column(text, at, u16_at(row, 32).into(), b' ');
+    let at = column(text, at, u64_at(row, 24), b' ');
+    let at = column(text, at, u64_at(row, 40), b' ');
+    column(text, at, u64_at(row, 48), b'\n')
+}
+
+fn width(v: u64) -> usize {
+    match v {
+        0..=9 => 1,
+        10..=99 => 2,
+        100..=999 => 3,
+        1_000..=9_999 => 4,
+        _ => 4 + width(v / 10_000),
+    }
+}
+
+fn line_len(row: &[u8]) -> usize {
+    12 + width(u64_at(row, 0))
+        + width(u32_at(row, 12).into())
+        + width(u64_at(row, 16))
+        + width(u16_at(row, 32).into())
+        + width(u64_at(row, 24))
+        + width(u64_at(row, 40))
+        + width(u64_at(row, 48))
+}
+
+/// The listing of a walk's records. No line has more than 127 bytes, and the last no more than 138:
+/// where there is room for so many, nothing is counted first.
+pub fn listing(records: &[u8], walked: &Walked, text: &mut [u8]) -> Result<usize, u32> {
+    let Walked {
+        frames,
+        refused,
+        ledger,
+        ..
+    } = *walked;
+    let missing = ledger.missing()?;
+    let last = [
+        ("frames ", frames, b' '),
+        ("refused ", refused, b' '),
+        ("floor ", ledger.floor, b' '),
+        ("top ", ledger.top, b' '),
+        ("missing ", missing, b'\n'),
+    ];
+    let rows = records.chunks_exact(64);
+    let roomy = text.len() >= 138 && rows.len() <= (text.len() - 138) / 127;
+    if !roomy {
+        let lines: usize = rows.clone().map(line_len).sum();
+        let end: usize = last.iter().map(|(w, v, _)| w.len() + width(*v) + 1).sum();
+        if text.len() < lines + end {
+            return Err(8);
+        }
+    }
+    let mut at = 0;
+    for row in rows {
+        at = line(text, at, row);
+    }
+    for (word, v, behind) in last {
+        text[at..at + word.len()].copy_from_slice(word.as_bytes());
+        at = column(text, at + word.len(), v, behind);
+    }
+    Ok(at)
 }
