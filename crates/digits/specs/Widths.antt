@@ -78,3 +78,26 @@ counted-next {n} {x} {w} c l = counted-in (c .left) n x w (c .room) (c .fits) (c
 
 pub counted-last : {n x w : ℕ} → Counted n x w → x ≤ 9 → n ≡ w
 counted-last {n} {x} {w} c l = omega (arith, width-small (c .left) x l, c .whole)
+
+-- two, three and four digits left, and more
+module _ {n x w : ℕ} (c : Counted n x w) where
+  pub counted-two : 9 < x → x < 100 → n + 1 ≡ w
+  counted-two l h = counted-last (counted-next c l) (omega arith)
+
+  counted-second : 99 < x → Counted (n + 1 + 1) (x / 10 / 10) w
+  counted-second l = counted-next (counted-next c (omega arith)) (omega arith)
+
+  pub counted-three : 99 < x → x < 1000 → n + 2 ≡ w
+  counted-three l h = let e : n + 1 + 1 ≡ w = counted-last (counted-second l) (omega arith) in omega arith
+
+  counted-third : 999 < x → Counted (n + 1 + 1 + 1) (x / 10 / 10 / 10) w
+  counted-third l = counted-next (counted-second (omega arith)) (omega arith)
+
+  pub counted-four : 999 < x → x < 10000 → n + 3 ≡ w
+  counted-four l h = let e : n + 1 + 1 + 1 ≡ w = counted-last (counted-third l) (omega arith) in omega arith
+
+  pub counted-on : 9999 < x → Counted (n + 4) (x / 10000) w
+  counted-on l =
+      let e : n + 1 + 1 + 1 + 1 ≡ n + 4 = omega arith in
+      let q : x / 10 / 10 / 10 / 10 ≡ x / 10000 = omega arith in
+      rw (e, q) at (counted-next (counted-third (omega arith)) (omega arith))

@@ -58,11 +58,21 @@ pub fn width(v: u64) -> usize
 {
     let mut x = v;
     let mut n: usize = 1;
-    while 9 < x {
-        x = x / 10;
-        n += 1;
+    // four digits at a time
+    while 9999 < x {
+        x = x / 10000;
+        n += 4;
     }
-    n
+    if x < 10 {
+        return n;
+    }
+    if x < 100 {
+        return n + 1;
+    }
+    if x < 1000 {
+        return n + 2;
+    }
+    n + 3
 }
 
 // Writes v over d from at on as all its digits, with no needless zero in front, and returns how
@@ -70,6 +80,19 @@ pub fn width(v: u64) -> usize
 pub fn put_decimal(d: &mut [u8], at: usize, v: u64) -> Written
     ensures { λ r. ⌜ (writtenPaper r ≡ roomFor at (widthOf v) (length (now (d .entry)))) × (now (d .exit) ≡ laidIfRoom at (shownOf v) (now (d .entry))) ⌝ }
 {
+    // of a constant number of digits the compiler makes no loop
+    if v < 10 {
+        return put_digits(d, at, 1, v);
+    }
+    if v < 100 {
+        return put_digits(d, at, 2, v);
+    }
+    if v < 1000 {
+        return put_digits(d, at, 3, v);
+    }
+    if v < 10000 {
+        return put_digits(d, at, 4, v);
+    }
     put_digits(d, at, width(v), v)
 }
 

@@ -2,12 +2,14 @@
 -- document 01's four lines.
 use Prim.Native.Nat.{ℕ, zero, suc, _+_, _*_, _/_, _^_, _<_, _≤_}
 use mathlib.Core.Path.{_≡_, refl, sym, ap, _∙_}
+use mathlib.Core.Bool.{true}
 use mathlib.Core.List.{List, [], _∷_, _++_, append-assoc}
 use native.Mathlib.Omega.{arith}
+use lib.Dec.{leb}
 use lib.ListN.{length, take, drop, length-append}
 use lib.Seq.{drop-at, take-at}
 use borrow.Author.Needs.{needs}
-use borrow.Author.Tests.{le-leb}
+use borrow.Author.Tests.{le-leb, leb-true}
 use Rattle.octets.specs.Octets.{laid, Bytes}
 use Rattle.octets.specs.Numerals.{numeral-below}
 use Rattle.octets.specs.Overlays.{laid-same}
@@ -24,7 +26,7 @@ use Rattle.listing_text.specs.Lengths.{line-most, summary-most}
 use Rattle.record.specs.Examples.{recordA, recordFF, recordB}
 use Rattle.listing_text.specs.Listing.{summary, listing}
 use Rattle.listing_text.specs.Text.{summaryOf}
-use Rattle.listing_text.specs.Whole.{recordsFrom, recordsIn, linesOf, listingOf}
+use Rattle.listing_text.specs.Whole.{recordsFrom, recordsIn, linesOf, linesIn, listingOf}
 
 -- each record's numbers fit their widths
 pub data AllFit : List Record → Type 0 where
@@ -116,12 +118,21 @@ module _ (s : List ℕ) (b : Bytes s) where
   from-many k zero = refl
   from-many k (suc n) = ap suc (from-many (k + 1) n)
 
+  -- so their lines have at most 127 k bytes
+  pub lines-in-most : length (linesIn s) ≤ 127 * (length s / 64)
+  unfolding recordsIn
+  lines-in-most = omega (arith, lines-most (recordsFrom 0 (length s / 64) s) (from-fit 0 (length s / 64)), from-many 0 (length s / 64))
+
+  -- where there is room for so many, and for m bytes more, the lines fit with these
+  pub roomy-fits : (m room : ℕ) → leb (127 * (length s / 64) + m) room ≡ true → leb (length (linesIn s) + m) room ≡ true
+  roomy-fits m room h = le-leb (length (linesIn s) + m) room (omega (arith, lines-in-most, leb-true (127 * (length s / 64) + m) room h))
+
   -- and the whole listing of k records at most 127 k + 138
   pub listing-most : (last : Summary) → LastFits last → length (listingOf s last) ≤ 127 * (length s / 64) + 138
-  unfolding listingOf recordsIn
+  unfolding listingOf
   listing-most last f =
       simp length-append
-      (omega (arith, lines-most (recordsFrom 0 (length s / 64) s) (from-fit 0 (length s / 64)), from-many 0 (length s / 64), summary-most last (f .frames) (f .refused) (f .floor) (f .top) (f .missing)))
+      (omega (arith, lines-in-most, summary-most last (f .frames) (f .refused) (f .floor) (f .top) (f .missing)))
 
 -- DOCUMENT 01'S EXAMPLE: the records of A, FF and B, and what the ledger says in the end. "the
 -- whole output is:"

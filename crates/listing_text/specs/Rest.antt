@@ -2,16 +2,19 @@
 use Prim.Native.Nat.{ℕ, suc, _+_, _*_, _/_, _-_, _≤_, _<_}
 use mathlib.Core.Path.{_≡_, refl, sym, ap, _∙_}
 use mathlib.Core.Bool.{Bool, false}
+use mathlib.Core.Logic.{⊎-elim}
 use mathlib.Core.List.{List, [], _++_}
 use native.Mathlib.Nat.{zero-add}
 use native.Mathlib.Omega.{arith}
 use lib.Dec.{leb}
 use lib.ListN.{length, length-append}
-use borrow.Author.Tests.{lt-leb}
+use borrow.Author.Tests.{le-leb, lt-leb}
+use Rattle.terms.specs.Cases.{less}
 use Rattle.octets.specs.Octets.{laid}
 use Rattle.octets.specs.Overlays.{laid-append, laid-none, room-test}
 use Rattle.record.specs.Record.{recordAt}
 use Rattle.listing_text.specs.declared.Summary.{Summary}
+use Rattle.listing_text.specs.Columns.{Room}
 use Rattle.listing_text.specs.Text.{lineOf, summaryOf}
 use Rattle.record.specs.Stored.{Stored, stored-length}
 use Rattle.listing_text.specs.Whole.{recordsFrom, recordsIn, linesOf, linesIn, listingOf}
@@ -58,8 +61,8 @@ module _ (s : List ℕ) where
   going-first d = record { ends = rw (rest-first) (zero-add (length (linesIn s))); long = refl; same = rw rest-first }
 
   module _ {d₀ d : List ℕ} {k at : ℕ} (g : Going d₀ d k at) (r : length (linesIn s) ≤ length d₀) where
-    pub line-room : k < length s / 64 → at + length (lineOf (recordAt (64 * k) s)) ≤ length d
-    line-room h = omega (arith, g .ends, g .long, rest-length k h)
+    pub line-room : k < length s / 64 → Room at (lineOf (recordAt (64 * k) s)) d
+    line-room h = record { fits = omega (arith, g .ends, g .long, rest-length k h) }
 
     pub going-end : length s / 64 ≤ k → Stored 0 (linesIn s) d₀ d at
     going-end h =
@@ -82,6 +85,13 @@ module _ (s : List ℕ) where
               ∙ ap (λ (x : List ℕ). laid at x d) (sym (rest-step k h)) ∙ g .same);
         }
 
+-- ROOM for so many lines, however long, and m bytes more
+pub room-roomy : (room k m : ℕ) → m ≤ room → leb k ((room - m) / 127) ≡ leb (127 * k + m) room
+room-roomy room k m h =
+    ⊎-elim (λ (l : (room - m) / 127 < k). lt-leb k ((room - m) / 127) l ∙ sym (lt-leb (127 * k + m) room (omega arith)))
+    (λ (l : k ≤ (room - m) / 127). le-leb k ((room - m) / 127) l ∙ sym (le-leb (127 * k + m) room (omega arith)))
+    (less ((room - m) / 127) k)
+
 -- THE WHOLE LISTING: the lines and the last line
 
 module _ (s : List ℕ) (last : Summary) where
@@ -95,5 +105,5 @@ module _ (s : List ℕ) (last : Summary) where
   pub lines-room : (n : ℕ) → length (listingOf s last) ≤ n → length (linesIn s) ≤ n
   lines-room n h = omega (arith, listing-length)
 
-  pub end-room : {d e : List ℕ} {at : ℕ} → Stored 0 (linesIn s) d e at → length (listingOf s last) ≤ length d → at + length (summaryOf last) ≤ length e
-  end-room t h = omega (arith, listing-length, t .ends, stored-length t)
+  pub end-room : {d e : List ℕ} {at : ℕ} → Stored 0 (linesIn s) d e at → length (listingOf s last) ≤ length d → Room at (summaryOf last) e
+  end-room t h = record { fits = omega (arith, listing-length, t .ends, stored-length t) }

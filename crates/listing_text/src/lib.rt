@@ -1,11 +1,13 @@
 // The text of the listing: a record's line, and the last line.
-// Every function takes all input. What is written is made aside first: without room nothing is
-// written and the answer is 8.
+// Every function takes all input. A single line is made aside first, and lines are written where
+// there is room for all: without room nothing is written and the answer is 8.
 ghost use mathlib.Core.Path.{_≡_};
 ghost use Prim.Native.Nat.{_+_, _≤_, _*_};
 ghost use lib.ListN.{length, take};
 ghost use Rattle.octets.specs.Papers.{writtenPaper, roomFor, laidIfRoom};
+ghost use Rattle.digits.specs.Digits.{widthOf};
 ghost use Rattle.record.specs.Stored.{Stored};
+ghost use Rattle.listing_text.specs.Columns.{Room};
 ghost use Rattle.listing_text.specs.Text.{column, typeShown, typeColumn, firstColumns, lastColumns, lineOf, named, summaryOf};
 use octets::Written;
 use record::Record;
@@ -37,11 +39,10 @@ fn lay_front(out: &mut [u8], at: usize, src: &[u8], n: usize) -> Written
     octets::lay(out, at, &src[..n])
 }
 
-// Writes a number and the byte after it over d from at on, and returns the place after both. No
-// number has more than 20 digits.
+// Writes a number and the byte after it over d from at on, and returns the place after both.
 fn store_column(d: &mut [u8], at: usize, v: u64, behind: u8) -> usize
-    requires { ⌜ at + 21 ≤ length (now d) ⌝ }
-    ensures { λ e. ⌜ Stored at (column v behind) (now (d .entry)) (now (d .exit)) e × (e ≤ at + 21) ⌝ }
+    requires { ⌜ Room at (column v behind) (now d) ⌝ }
+    ensures { λ e. ⌜ Stored at (column v behind) (now (d .entry)) (now (d .exit)) e ⌝ }
 {
     match digits::put_decimal(d, at, v) {
         Written::Refused(_) => at,
@@ -65,8 +66,8 @@ fn shown(t: u32) -> u32
 
 // Writes a type and a space over d from at on, and returns the place after them.
 fn store_type(d: &mut [u8], at: usize, t: u32) -> usize
-    requires { ⌜ at + 5 ≤ length (now d) ⌝ }
-    ensures { λ e. ⌜ Stored at (typeColumn t) (now (d .entry)) (now (d .exit)) e × (e ≤ at + 5) ⌝ }
+    requires { ⌜ Room at (typeColumn t) (now d) ⌝ }
+    ensures { λ e. ⌜ Stored at (typeColumn t) (now (d .entry)) (now (d .exit)) e ⌝ }
 {
     octets::put(d, at, 4, shown(t) as u64);
     let e = at + 4;
@@ -74,20 +75,20 @@ fn store_type(d: &mut [u8], at: usize, t: u32) -> usize
     e + 1
 }
 
-// Writes the first four columns over the front of d, and returns the place after them.
-fn store_columns(d: &mut [u8], r: Record) -> usize
-    requires { ⌜ 160 ≤ length (now d) ⌝ }
-    ensures { λ e. ⌜ Stored 0 (firstColumns r) (now (d .entry)) (now (d .exit)) e × (e ≤ 68) ⌝ }
+// Writes the first four columns over d from at on, and returns the place after them.
+fn store_columns(d: &mut [u8], at: usize, r: Record) -> usize
+    requires { ⌜ Room at (firstColumns r) (now d) ⌝ }
+    ensures { λ e. ⌜ Stored at (firstColumns r) (now (d .entry)) (now (d .exit)) e ⌝ }
 {
-    let a = store_column(d, 0, r.place, b' ');
+    let a = store_column(d, at, r.place, b' ');
     let b = store_type(d, a, r.msg_type);
     let c = store_column(d, b, r.answer as u64, b' ');
     store_column(d, c, r.seq.value(), b' ')
 }
 
-// Writes the other four over d from at on.
+// Writes the other four.
 fn store_last(d: &mut [u8], at: usize, r: Record) -> usize
-    requires { ⌜ (at ≤ 68) × (160 ≤ length (now d)) ⌝ }
+    requires { ⌜ Room at (lastColumns r) (now d) ⌝ }
     ensures { λ e. ⌜ Stored at (lastColumns r) (now (d .entry)) (now (d .exit)) e ⌝ }
 {
     let a = store_column(d, at, r.channel.value() as u64, b' ');
@@ -96,33 +97,42 @@ fn store_last(d: &mut [u8], at: usize, r: Record) -> usize
     store_column(d, c, r.top.value(), b'\n')
 }
 
+// Writes a record's line over d from at on, and returns the place after it.
+fn store_line(d: &mut [u8], at: usize, r: Record) -> usize
+    requires { ⌜ Room at (lineOf r) (now d) ⌝ }
+    ensures { λ e. ⌜ Stored at (lineOf r) (now (d .entry)) (now (d .exit)) e ⌝ }
+{
+    let a = store_columns(d, at, r);
+    store_last(d, a, r)
+}
+
 // Writes the record's line, with its newline, over out from at on, and returns how many
 // bytes it has.
 pub fn put_line(out: &mut [u8], at: usize, r: Record) -> Written
     ensures { λ w. ⌜ (writtenPaper w ≡ roomFor at (length (lineOf r)) (length (now (out .entry)))) × (now (out .exit) ≡ laidIfRoom at (lineOf r) (now (out .entry))) ⌝ }
 {
-    let mut d: [u8; 160] = [0; 160];
-    let a = store_columns(&mut d, r);
-    let e = store_last(&mut d, a, r);
-    lay_front(out, at, &d, e)
+    // no line has more
+    let mut d: [u8; 127] = [0; 127];
+    let n = store_line(&mut d, 0, r);
+    lay_front(out, at, &d, n)
 }
 
 // Writes a word, its number and the byte after it over d from at on, and returns the
 // place after them.
 fn store_named(d: &mut [u8], at: usize, word: &[u8], v: u64, behind: u8) -> usize
-    requires { ⌜ at + (length (now word) + 21) ≤ length (now d) ⌝ }
-    ensures { λ e. ⌜ Stored at (named (now (word .entry)) v behind) (now (d .entry)) (now (d .exit)) e × (e ≤ at + (length (now (word .entry)) + 21)) ⌝ }
+    requires { ⌜ Room at (named (now word) v behind) (now d) ⌝ }
+    ensures { λ e. ⌜ Stored at (named (now (word .entry)) v behind) (now (d .entry)) (now (d .exit)) e ⌝ }
 {
     octets::lay(d, at, word);
     store_column(d, at + word.len(), v, behind)
 }
 
-// Writes the last line of the listing over the front of d.
-fn store_summary(d: &mut [u8], s: Summary) -> usize
-    requires { ⌜ 160 ≤ length (now d) ⌝ }
-    ensures { λ e. ⌜ Stored 0 (summaryOf s) (now (d .entry)) (now (d .exit)) e ⌝ }
+// Writes the last line of the listing over d from at on, and returns the place after it.
+fn store_summary(d: &mut [u8], at: usize, s: Summary) -> usize
+    requires { ⌜ Room at (summaryOf s) (now d) ⌝ }
+    ensures { λ e. ⌜ Stored at (summaryOf s) (now (d .entry)) (now (d .exit)) e ⌝ }
 {
-    let a = store_named(d, 0, b"frames ", s.frames, b' ');
+    let a = store_named(d, at, b"frames ", s.frames, b' ');
     let b = store_named(d, a, b"refused ", s.refused, b' ');
     let c = store_named(d, b, b"floor ", s.floor.value(), b' ');
     let e = store_named(d, c, b"top ", s.top.value(), b' ');
@@ -134,54 +144,56 @@ fn store_summary(d: &mut [u8], s: Summary) -> usize
 pub fn put_summary(out: &mut [u8], at: usize, s: Summary) -> Written
     ensures { λ w. ⌜ (writtenPaper w ≡ roomFor at (length (summaryOf s)) (length (now (out .entry)))) × (now (out .exit) ≡ laidIfRoom at (summaryOf s) (now (out .entry))) ⌝ }
 {
-    let mut d: [u8; 160] = [0; 160];
-    let n = store_summary(&mut d, s);
+    // no last line has more
+    let mut d: [u8; 138] = [0; 138];
+    let n = store_summary(&mut d, 0, s);
     lay_front(out, at, &d, n)
 }
 
-// Writes a record's line over out from at on, and returns the place after it.
-fn store_line(out: &mut [u8], at: usize, r: Record) -> usize
-    requires { ⌜ at + length (lineOf r) ≤ length (now out) ⌝ }
-    ensures { λ e. ⌜ Stored at (lineOf r) (now (out .entry)) (now (out .exit)) e ⌝ }
+// How many bytes a number takes with the byte after it.
+fn column_len(v: u64) -> usize
+    ensures { λ n. ⌜ (n ≡ widthOf v + 1) × (n ≤ 21) ⌝ }
 {
-    match put_line(out, at, r) {
-        Written::Refused(_) => at,
-        Written::Bytes(n) => at + n,
-    }
+    digits::width(v) + 1
 }
 
-// Writes the last line over out from at on, and returns the place after it.
-fn store_end(out: &mut [u8], at: usize, s: Summary) -> usize
-    requires { ⌜ at + length (summaryOf s) ≤ length (now out) ⌝ }
-    ensures { λ e. ⌜ Stored at (summaryOf s) (now (out .entry)) (now (out .exit)) e ⌝ }
-{
-    match put_summary(out, at, s) {
-        Written::Refused(_) => at,
-        Written::Bytes(n) => at + n,
-    }
-}
-
-// How many bytes a record's line has. No line has more than 127.
+// How many bytes a record's line has.
 fn line_len(r: Record) -> usize
     ensures { λ n. ⌜ n ≡ length (lineOf r) ⌝ }
 {
-    let mut d: [u8; 160] = [0; 160];
-    store_line(&mut d, 0, r)
+    let a = column_len(r.place) + column_len(r.answer as u64) + column_len(r.seq.value());
+    let b = column_len(r.channel.value() as u64) + column_len(r.tick.value());
+    let c = column_len(r.floor.value()) + column_len(r.top.value());
+    5 + a + b + c
 }
 
-// How many bytes the last line has. It never has more than 138.
+// How many bytes the last line has: 33 are those of its words.
 fn last_len(s: Summary) -> usize
     ensures { λ n. ⌜ n ≡ length (summaryOf s) ⌝ }
 {
-    let mut d: [u8; 160] = [0; 160];
-    store_end(&mut d, 0, s)
+    let a = column_len(s.frames) + column_len(s.refused);
+    let b = column_len(s.floor.value()) + column_len(s.top.value());
+    33 + a + b + column_len(s.missing)
 }
 
-// Whether so much room takes all lines and `end` bytes more. left is the room after the lines
-// passed.
+// Whether so much room takes so many lines, however long they are, and `end` bytes more.
+fn roomy(room: usize, lines: usize, end: usize) -> bool
+    ensures { λ r. ⌜ r ≡ leb (127 * lines + end) room ⌝ }
+{
+    if room < end {
+        return false;
+    }
+    lines <= (room - end) / 127
+}
+
+// Whether so much room takes all lines and `end` bytes more: they are counted only where that is
+// not plain. left is the room after the lines passed.
 fn takes(room: usize, records: &[u8], end: usize) -> bool
     ensures { λ r. ⌜ r ≡ leb (length (linesIn (now (records .entry))) + end) room ⌝ }
 {
+    if roomy(room, records.len() / 64, end) {
+        return true;
+    }
     let mut left = room;
     let mut passed: usize = 0;
     while passed < records.len() / 64 {
@@ -232,5 +244,5 @@ pub fn put_listing(out: &mut [u8], records: &[u8], s: Summary) -> Written
         return Written::Refused(Refusal::Room);
     }
     let at = store_lines(out, records);
-    Written::Bytes(store_end(out, at, s))
+    Written::Bytes(store_summary(out, at, s))
 }

@@ -2,7 +2,7 @@
 -- make up the count. The measure is x. Assumes nothing.
 use native.Mathlib.Omega.{arith}
 use Rattle.digits.specs.Digits.{widthOf}
-use Rattle.digits.specs.Widths.{Counted, counted-first, counted-next, counted-last}
+use Rattle.digits.specs.Widths.{Counted, counted-first, counted-last, counted-two, counted-three, counted-four, counted-on}
 use Rattle.digits.proofs.width.Statement.{statement}
 use Rattle.digits.proofs.width.Tie as tie
 
@@ -22,10 +22,43 @@ loop-less : tie.Need-loop-less Inv-loop μ-loop
 loop-less c = omega arith
 
 loop-again : tie.Need-loop-again Inv-loop μ-loop
-loop-again c = counted-next (c .before .loop .inv) (omega arith)
+loop-again c = counted-on (c .before .loop .inv) (omega arith)
 
 returns : tie.Need-returns Inv-loop μ-loop
-returns c = counted-last (c .before .loop .inv) (omega arith)
+returns c = counted-last (c .before .before .loop .inv) (omega arith)
+
+add-result : tie.Need-add-result Inv-loop μ-loop
+add-result c = omega arith
+
+returns-2 : tie.Need-returns-2 Inv-loop μ-loop
+returns-2 c = counted-two (c .before .before .before .loop .inv) (omega arith) (omega arith)
+
+add-result-2 : tie.Need-add-result-2 Inv-loop μ-loop
+add-result-2 c = omega arith
+
+returns-3 : tie.Need-returns-3 Inv-loop μ-loop
+returns-3 c = counted-three (c .before .before .before .before .loop .inv) (omega arith) (omega arith)
+
+add-result-3 : tie.Need-add-result-3 Inv-loop μ-loop
+add-result-3 c = omega arith
+
+returns-4 : tie.Need-returns-4 Inv-loop μ-loop
+returns-4 c = counted-four (c .before .before .before .before .loop .inv) (omega arith) (omega arith)
 
 pub width-spec : {M : Type 1} → statement M
-width-spec = tie.close (tie.spec Inv-loop μ-loop loop-holds add-n loop-less loop-again returns)
+width-spec =
+    tie.close
+    (tie.spec
+    Inv-loop
+    μ-loop
+    loop-holds
+    add-n
+    loop-less
+    loop-again
+    returns
+    add-result
+    returns-2
+    add-result-2
+    returns-3
+    add-result-3
+    returns-4)

@@ -1,18 +1,80 @@
--- `last_len`: 160 bytes have room for the last line, whatever its numbers. Assumes nothing.
+-- `last_len`: the digits of all numbers, and the bytes that every last line has. Assumes nothing.
+use Prim.Native.Nat.{ℕ, _+_}
+use mathlib.Core.Path.{ap, _∙_}
 use native.Mathlib.Omega.{arith}
-use Rattle.listing_text.specs.Lengths.{summary-most}
+use Rattle.digits.specs.Digits.{widthOf}
+use Rattle.listing_text.specs.Lengths.{summary-length}
 use borrow.Author.Needs.{needs}
 use Rattle.listing_text.proofs.last_len.Statement.{statement}
 use Rattle.listing_text.proofs.last_len.Tie as tie
 
-slice-aggregate-store-end : tie.Need-slice-aggregate-store-end
-slice-aggregate-store-end c = search needs
+column-len-requires : tie.Need-column-len-requires
+column-len-requires c κs = search needs
 
-store-end-requires : tie.Need-store-end-requires
-store-end-requires c κs = omega (arith, summary-most (c .before .args .s) (omega arith) (omega arith) (omega arith) (omega arith) (omega arith))
+column-len-requires-2 : tie.Need-column-len-requires-2
+column-len-requires-2 c κs = search needs
+
+add-a : tie.Need-add-a
+add-a c = search needs
+
+value-requires : tie.Need-value-requires
+value-requires c κs = search needs
+
+column-len-requires-3 : tie.Need-column-len-requires-3
+column-len-requires-3 c κs = search needs
+
+value-requires-2 : tie.Need-value-requires-2
+value-requires-2 c κs = search needs
+
+column-len-requires-4 : tie.Need-column-len-requires-4
+column-len-requires-4 c κs = search needs
+
+add-b : tie.Need-add-b
+add-b c = search needs
+
+add-result : tie.Need-add-result
+add-result c = search needs
+
+add-result-2 : tie.Need-add-result-2
+add-result-2 c = search needs
+
+column-len-requires-5 : tie.Need-column-len-requires-5
+column-len-requires-5 c κs = search needs
+
+add-result-3 : tie.Need-add-result-3
+add-result-3 c = search needs
 
 returns : tie.Need-returns
-returns c = search needs
+returns c =
+    let wide : ℕ → ℕ = λ (v : ℕ). widthOf v + 1 in
+    let c4 = c .before in
+    let c3 = c4 .before .before in
+    let c2 = c3 .before .before in
+    let c1 = c2 .before in
+    omega (
+      arith,
+      summary-length (c1 .before .args .s),
+      c1 .column-len .ensures .0,
+      c2 .column-len2 .ensures .0,
+      c3 .column-len3 .ensures .0 ∙ ap wide (c3 .before .value .ensures),
+      c4 .column-len4 .ensures .0 ∙ ap wide (c4 .before .value2 .ensures),
+      c .column-len5 .ensures .0,
+    )
 
 pub last-len-spec : {M : Type 1} → statement M
-last-len-spec = tie.close (tie.spec slice-aggregate-store-end store-end-requires returns)
+last-len-spec =
+    tie.close
+    (tie.spec
+    column-len-requires
+    column-len-requires-2
+    add-a
+    value-requires
+    column-len-requires-3
+    value-requires-2
+    column-len-requires-4
+    add-b
+    add-result
+    add-result-2
+    column-len-requires-5
+    add-result-3
+    returns)

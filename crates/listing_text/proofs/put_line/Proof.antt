@@ -1,22 +1,21 @@
--- `put_line`: the columns stand in the bytes made aside, and are laid on from there.
+-- `put_line`: 127 bytes have room for every line; it stands there, and is laid on from there.
 -- Assumes nothing.
-use Rattle.listing_text.specs.Text.{lineOf}
-use Rattle.record.specs.Stored.{stored-both, room-on, laid-on}
+use native.Mathlib.Omega.{arith}
+use Rattle.record.specs.Fields.{Fits}
+use Rattle.record.specs.Stored.{room-on, laid-on}
+use Rattle.listing_text.specs.Lengths.{line-most}
 use borrow.Author.Needs.{needs}
 use Rattle.listing_text.proofs.put_line.Statement.{statement}
 use Rattle.listing_text.proofs.put_line.Tie as tie
 
-slice-aggregate-store-columns : tie.Need-slice-aggregate-store-columns
-slice-aggregate-store-columns c = search needs
+slice-aggregate-store-line : tie.Need-slice-aggregate-store-line
+slice-aggregate-store-line c = search needs
 
-store-columns-requires : tie.Need-store-columns-requires
-store-columns-requires c κs = search needs
-
-slice-aggregate-store-last : tie.Need-slice-aggregate-store-last
-slice-aggregate-store-last c = search needs
-
-store-last-requires : tie.Need-store-last-requires
-store-last-requires c κs = search needs
+store-line-requires : tie.Need-store-line-requires
+store-line-requires c κs =
+    let r = c .before .before .args .r in
+    let f : Fits r = record { place = omega arith; msg-type = omega arith; answer = omega arith; seq = omega arith; tick = omega arith; channel = omega arith; body-len = omega arith; floor = omega arith; top = omega arith } in
+    omega (arith, line-most r f)
 
 slice-aggregate-lay-front : tie.Need-slice-aggregate-lay-front
 slice-aggregate-lay-front c = search needs
@@ -28,21 +27,17 @@ same-length : tie.Need-same-length
 same-length c = search needs
 
 returns : tie.Need-returns
-unfolding lineOf
 returns c =
     let p = c .before .before in
-    let q = p .before .before .before .before in
-    let s = stored-both (q .before .before .before .store-columns .ensures .0) (q .store-last .ensures) in
+    let s = p .before .before .before .before .store-line .ensures in
     (room-on s _ _ _ (p .lay-front .ensures .0), laid-on s _ _ _ (p .lay-front .ensures .1))
 
 pub put-line-spec : {M : Type 1} → statement M
 put-line-spec =
     tie.close
     (tie.spec
-    slice-aggregate-store-columns
-    store-columns-requires
-    slice-aggregate-store-last
-    store-last-requires
+    slice-aggregate-store-line
+    store-line-requires
     slice-aggregate-lay-front
     lay-front-requires
     same-length

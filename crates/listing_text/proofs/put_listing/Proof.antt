@@ -28,8 +28,8 @@ room c = leb-true _ _ (sym (listing-fits _ _ _ _ _ (c .before .takes .ensures) (
 store-lines-requires : tie.Need-store-lines-requires
 store-lines-requires c κs = lines-room _ _ _ (room (c .before))
 
-store-end-requires : tie.Need-store-end-requires
-store-end-requires c κs = let l = c .before .before .before in end-room _ _ (l .store-lines .ensures) (room (l .before .before))
+store-summary-requires : tie.Need-store-summary-requires
+store-summary-requires c κs = let l = c .before .before .before in end-room _ _ (l .store-lines .ensures) (room (l .before .before))
 
 same-length : tie.Need-same-length
 same-length c = search needs
@@ -38,7 +38,7 @@ returns-2 : tie.Need-returns-2
 unfolding listingOf
 returns-2 c =
     let e = c .before .before in
-    front-laid _ _ (stored-both (e .before .before .before .before .store-lines .ensures) (e .store-end .ensures))
+    front-laid _ _ (stored-both (e .before .before .before .before .store-lines .ensures) (e .store-summary .ensures))
 
 pub put-listing-spec : {M : Type 1} → statement M
 put-listing-spec =
@@ -48,6 +48,6 @@ put-listing-spec =
     takes-requires
     returns
     store-lines-requires
-    store-end-requires
+    store-summary-requires
     same-length
     returns-2)

@@ -1,6 +1,8 @@
--- `put_summary`: the line stands in the bytes made aside, and is laid on from there.
--- Assumes nothing.
+-- `put_summary`: 138 bytes have room for every last line; it stands there, and is laid on from
+-- there. Assumes nothing.
+use native.Mathlib.Omega.{arith}
 use Rattle.record.specs.Stored.{room-on, laid-on}
+use Rattle.listing_text.specs.Lengths.{summary-most}
 use borrow.Author.Needs.{needs}
 use Rattle.listing_text.proofs.put_summary.Statement.{statement}
 use Rattle.listing_text.proofs.put_summary.Tie as tie
@@ -9,7 +11,7 @@ slice-aggregate-store-summary : tie.Need-slice-aggregate-store-summary
 slice-aggregate-store-summary c = search needs
 
 store-summary-requires : tie.Need-store-summary-requires
-store-summary-requires c κs = search needs
+store-summary-requires c κs = omega (arith, summary-most (c .before .before .args .s) (omega arith) (omega arith) (omega arith) (omega arith) (omega arith))
 
 slice-aggregate-lay-front : tie.Need-slice-aggregate-lay-front
 slice-aggregate-lay-front c = search needs

@@ -1,28 +1,42 @@
--- `store_columns`: four columns, each laid just behind the one before. Assumes nothing.
-use native.Mathlib.Omega.{arith}
+-- `store_columns`: four columns, each laid just behind the one before, where there is room for it.
+-- Assumes nothing.
 use Rattle.listing_text.specs.Text.{firstColumns}
+use Rattle.listing_text.specs.Columns.{room-first, room-behind}
 use Rattle.record.specs.Stored.{stored-both}
 use borrow.Author.Needs.{needs}
 use Rattle.listing_text.proofs.store_columns.Statement.{statement}
 use Rattle.listing_text.proofs.store_columns.Tie as tie
 
 store-column-requires : tie.Need-store-column-requires
-store-column-requires c κs = search needs
+unfolding firstColumns
+store-column-requires c κs = room-first _ (c .before .before .pre)
 
 store-type-requires : tie.Need-store-type-requires
-store-type-requires c κs = search needs
+unfolding firstColumns
+store-type-requires c κs =
+    let p1 = c .before .before .before in
+    room-first _ (room-behind (p1 .store-column .ensures) (p1 .before .before .before .pre))
 
 cast-store-column : tie.Need-cast-store-column
 cast-store-column c = search needs
 
 store-column-requires-2 : tie.Need-store-column-requires-2
-store-column-requires-2 c κs = search needs
+unfolding firstColumns
+store-column-requires-2 c κs =
+    let p2 = c .before .before .before .before in
+    let p1 = p2 .before .before .before .before in
+    room-first _ (room-behind (p2 .store-type .ensures) (room-behind (p1 .store-column .ensures) (p1 .before .before .before .pre)))
 
 value-requires : tie.Need-value-requires
 value-requires c κs = search needs
 
 store-column-requires-3 : tie.Need-store-column-requires-3
-store-column-requires-3 c κs = search needs
+unfolding firstColumns
+store-column-requires-3 c κs =
+    let p3 = c .before .before .before .before in
+    let p2 = p3 .before .before .before .before .before in
+    let p1 = p2 .before .before .before .before in
+    rw (c .value .ensures) (room-behind (p3 .store-column2 .ensures) (room-behind (p2 .store-type .ensures) (room-behind (p1 .store-column .ensures) (p1 .before .before .before .pre))))
 
 same-length : tie.Need-same-length
 same-length c = search needs
@@ -34,7 +48,7 @@ returns c =
     let p3 = p4 .before .before .before .before .before in
     let p2 = p3 .before .before .before .before .before in
     let p1 = p2 .before .before .before .before in
-    (rw (← p4 .before .value .ensures) (stored-both (p1 .store-column .ensures .0) (stored-both (p2 .store-type .ensures .0) (stored-both (p3 .store-column2 .ensures .0) (p4 .store-column3 .ensures .0)))), omega arith)
+    rw (← p4 .before .value .ensures) (stored-both (p1 .store-column .ensures) (stored-both (p2 .store-type .ensures) (stored-both (p3 .store-column2 .ensures) (p4 .store-column3 .ensures))))
 
 pub store-columns-spec : {M : Type 1} → statement M
 store-columns-spec =

@@ -1,40 +1,26 @@
--- `store_line`: there is room for the line, so that it is never refused. Assumes nothing.
-use native.Mathlib.Omega.{arith}
-use Rattle.listing_text.specs.Columns.{not-refused}
-use Rattle.listing_text.specs.Answered.{answered}
+-- `store_line`: the first columns, and the others just behind them. Assumes nothing.
+use Rattle.listing_text.specs.Text.{lineOf}
+use Rattle.listing_text.specs.Columns.{room-first, room-behind}
+use Rattle.record.specs.Stored.{stored-both}
 use borrow.Author.Needs.{needs}
 use Rattle.listing_text.proofs.store_line.Statement.{statement}
 use Rattle.listing_text.proofs.store_line.Tie as tie
 
-put-line-requires : tie.Need-put-line-requires
-put-line-requires c κs = search needs
+store-columns-requires : tie.Need-store-columns-requires
+unfolding lineOf
+store-columns-requires c κs = room-first _ (c .before .before .pre)
 
-enum-told : tie.Need-enum-told
-enum-told c = search needs
-
-enum-known-n : tie.Need-enum-known-n
-enum-known-n c = search needs
-
-add-result : tie.Need-add-result
-add-result c =
-    let p = c .before .before .before .before .before in
-    omega (arith, answered (search needs) (p .put-line .ensures .0) _ (c .before .n .given .1) (p .put-line .ensures .1) .room)
+store-last-requires : tie.Need-store-last-requires
+unfolding lineOf
+store-last-requires c κs = let q = c .before .before .before in room-behind (q .store-columns .ensures) (q .before .before .before .pre)
 
 same-length : tie.Need-same-length
 same-length c = search needs
 
 returns : tie.Need-returns
-returns c = absurd (not-refused _ _ _ _ (search needs) (c .before .before .before .before .put-line .ensures .0) (c .enum-told .given .0 .0, c .enum-told .given .1))
-
-same-length-2 : tie.Need-same-length-2
-same-length-2 c = search needs
-
-returns-2 : tie.Need-returns-2
-returns-2 c =
-    let p = c .before .before .before .before .before in
-    answered (search needs) (p .put-line .ensures .0) _ (c .before .n .given .1) (p .put-line .ensures .1)
+unfolding lineOf
+returns c = let p = c .before .before in stored-both (p .before .before .before .before .store-columns .ensures) (p .store-last .ensures)
 
 pub store-line-spec : {M : Type 1} → statement M
 store-line-spec =
-    tie.close
-    (tie.spec put-line-requires enum-told enum-known-n add-result same-length returns same-length-2 returns-2)
+    tie.close (tie.spec store-columns-requires store-last-requires same-length returns)
