@@ -1,15 +1,16 @@
 -- `paint_all`: the spans are those of the body as it was; after i of them the body is painted with
 -- the first i, and the sum is that of header and body as they are then. Assumes nothing.
 use native.Mathlib.Omega.{arith}
-use Prim.Native.Nat.{ℕ, _+_, _-_}
+use Prim.Native.Nat.{ℕ, _+_, _-_, _≤_}
 use mathlib.Core.Path.{_≡_, sym, ap, _∙_}
 use mathlib.Core.List.{List, [], _∷_}
-use lib.ListN.{take, drop}
+use lib.ListN.{length, take, drop}
+use Rattle.octets.specs.Octets.{sumAfter}
 use Rattle.private.specs.declared.Span.{Span}
 use Rattle.private.specs.Private.{privateOf, spanAt}
 use Rattle.private.specs.Parts.{partsSpans, suitedSpans}
-use Rattle.private.specs.Within.{bodyIn}
-use Rattle.scrub.proofs.Painted.{told-all, at-start, room-for, painted-on, painted-all}
+use Rattle.private.specs.Within.{bodyIn, spanPainted}
+use Rattle.scrub.proofs.Painted.{Painted, told-all, at-start, room-for, painted-on, painted-all}
 use borrow.Author.Needs.{needs}
 use Rattle.scrub.proofs.paint_all.Statement.{statement}
 use Rattle.scrub.proofs.paint_all.Tie as tie
@@ -28,6 +29,21 @@ listed c =
     let n = s .args .n in
     let e : 24 + n - 24 ≡ n = omega arith in
     told-all (s .args .kind) n (s .args .buf .now) (s .pre .0) (s .pre .1 .0) _ (c .parts-in .ensures ∙ ap (λ (x : ℕ). suitedSpans (s .args .kind) (take x (drop 24 (s .args .buf .now)))) e)
+
+-- from the function's start: the buffer after i spans, and its sum
+module _ (s : tie.Start) where
+  abbrev After : ℕ → List ℕ → ℕ → Type 0
+  After i e w = Painted (s .args .kind) (s .args .n) (s .args .buf .now) (s .pre .0) (s .pre .1 .0) i e w
+
+  so : After 0 (s .args .buf .now) (s .args .v)
+  so = at-start (s .args .kind) (s .args .n) (s .args .buf .now) (s .pre .0) (s .pre .1 .0) (s .args .v) (s .pre .1 .1)
+
+  module _ (i : ℕ) (ps : List Span) (e : List ℕ) (w : ℕ) (r : ps ≡ spans s) (a : After i e w) where
+    room : 24 + (spanAt i ps .place + spanAt i ps .len) ≤ length e
+    room = room-for (s .args .kind) (s .args .n) (s .args .buf .now) (s .pre .0) (s .pre .1 .0) i (spanAt i ps) e w (ap (λ (qs : List Span). spanAt i qs) r) a
+
+    on : (e′ : List ℕ) (w′ : ℕ) → (e′ ≡ spanPainted (spanAt i ps) e) × (w′ ≡ sumAfter w (take (spanAt i ps .len) (drop (24 + spanAt i ps .place) e)) (spanAt i ps .fill)) → After (i + 1) e′ w′
+    on e′ w′ x = painted-on (s .args .kind) (s .args .n) (s .args .buf .now) (s .pre .0) (s .pre .1 .0) i (spanAt i ps) e w (ap (λ (qs : List Span). spanAt i qs) r) a e′ w′ (x .0) (x .1)
 
 none : (c : tie.After-enum-told) → [] ≡ spans (begin (c .before .before))
 none c = sym (ap partsSpans (c .enum-told .given .1)) ∙ listed (c .before .before)
@@ -66,13 +82,7 @@ paint-span-requires : tie.Need-paint-span-requires
 paint-span-requires c κs =
     let f = c .before .before in
     let s = begin (f .before .before) in
-    let k = s .args .kind in
-    let n = s .args .n in
-    let d = s .args .buf .now in
-    let h = s .pre .0 in
-    let m = s .pre .1 .0 in
-    let so = at-start k n d h m (s .args .v) (s .pre .1 .1) in
-    room-for k n d h m 0 _ _ _ (ap (λ (ps : List Span). spanAt 0 ps) (one f)) so
+    room s 0 _ _ _ (one f) (so s)
 
 enum-known-first-2 : tie.Need-enum-known-first-2
 enum-known-first-2 c = search needs
@@ -81,26 +91,14 @@ paint-span-requires-2 : tie.Need-paint-span-requires-2
 paint-span-requires-2 c κs =
     let f = c .before .before in
     let s = begin (f .before .before) in
-    let k = s .args .kind in
-    let n = s .args .n in
-    let d = s .args .buf .now in
-    let h = s .pre .0 in
-    let m = s .pre .1 .0 in
-    let so = at-start k n d h m (s .args .v) (s .pre .1 .1) in
-    room-for k n d h m 0 _ _ _ (ap (λ (ps : List Span). spanAt 0 ps) (two f)) so
+    room s 0 _ _ _ (two f) (so s)
 
 paint-span-requires-3 : tie.Need-paint-span-requires-3
 paint-span-requires-3 c κs =
     let f = c .before .before .before .before .before .before in
     let s = begin (f .before .before) in
-    let k = s .args .kind in
-    let n = s .args .n in
-    let d = s .args .buf .now in
-    let h = s .pre .0 in
-    let m = s .pre .1 .0 in
-    let so = at-start k n d h m (s .args .v) (s .pre .1 .1) in
-    let a = painted-on k n d h m 0 _ _ _ (ap (λ (ps : List Span). spanAt 0 ps) (two f)) so _ _ (c .before .before .before .paint-span2 .ensures .0) (c .before .before .before .paint-span2 .ensures .1) in
-    room-for k n d h m 1 _ _ _ (ap (λ (ps : List Span). spanAt 1 ps) (two f)) a
+    let a = on s 0 _ _ _ (two f) (so s) _ _ (c .before .before .before .paint-span2 .ensures) in
+    room s 1 _ _ _ (two f) a
 
 enum-known-first-3 : tie.Need-enum-known-first-3
 enum-known-first-3 c = search needs
@@ -109,40 +107,22 @@ paint-span-requires-4 : tie.Need-paint-span-requires-4
 paint-span-requires-4 c κs =
     let f = c .before .before in
     let s = begin (f .before .before) in
-    let k = s .args .kind in
-    let n = s .args .n in
-    let d = s .args .buf .now in
-    let h = s .pre .0 in
-    let m = s .pre .1 .0 in
-    let so = at-start k n d h m (s .args .v) (s .pre .1 .1) in
-    room-for k n d h m 0 _ _ _ (ap (λ (ps : List Span). spanAt 0 ps) (three f)) so
+    room s 0 _ _ _ (three f) (so s)
 
 paint-span-requires-5 : tie.Need-paint-span-requires-5
 paint-span-requires-5 c κs =
     let f = c .before .before .before .before .before .before in
     let s = begin (f .before .before) in
-    let k = s .args .kind in
-    let n = s .args .n in
-    let d = s .args .buf .now in
-    let h = s .pre .0 in
-    let m = s .pre .1 .0 in
-    let so = at-start k n d h m (s .args .v) (s .pre .1 .1) in
-    let a = painted-on k n d h m 0 _ _ _ (ap (λ (ps : List Span). spanAt 0 ps) (three f)) so _ _ (c .before .before .before .paint-span4 .ensures .0) (c .before .before .before .paint-span4 .ensures .1) in
-    room-for k n d h m 1 _ _ _ (ap (λ (ps : List Span). spanAt 1 ps) (three f)) a
+    let a = on s 0 _ _ _ (three f) (so s) _ _ (c .before .before .before .paint-span4 .ensures) in
+    room s 1 _ _ _ (three f) a
 
 paint-span-requires-6 : tie.Need-paint-span-requires-6
 paint-span-requires-6 c κs =
     let f = c .before .before .before .before .before .before .before .before .before .before in
     let s = begin (f .before .before) in
-    let k = s .args .kind in
-    let n = s .args .n in
-    let d = s .args .buf .now in
-    let h = s .pre .0 in
-    let m = s .pre .1 .0 in
-    let so = at-start k n d h m (s .args .v) (s .pre .1 .1) in
-    let a = painted-on k n d h m 0 _ _ _ (ap (λ (ps : List Span). spanAt 0 ps) (three f)) so _ _ (c .before .before .before .before .before .before .before .paint-span4 .ensures .0) (c .before .before .before .before .before .before .before .paint-span4 .ensures .1) in
-    let b = painted-on k n d h m 1 _ _ _ (ap (λ (ps : List Span). spanAt 1 ps) (three f)) a _ _ (c .before .before .before .paint-span5 .ensures .0) (c .before .before .before .paint-span5 .ensures .1) in
-    room-for k n d h m 2 _ _ _ (ap (λ (ps : List Span). spanAt 2 ps) (three f)) b
+    let a = on s 0 _ _ _ (three f) (so s) _ _ (c .before .before .before .before .before .before .before .paint-span4 .ensures) in
+    let b = on s 1 _ _ _ (three f) a _ _ (c .before .before .before .paint-span5 .ensures) in
+    room s 2 _ _ _ (three f) b
 
 same-length : tie.Need-same-length
 same-length c = search needs
@@ -151,13 +131,7 @@ returns : tie.Need-returns
 returns c =
     let f = c in
     let s = begin (f .before .before) in
-    let k = s .args .kind in
-    let n = s .args .n in
-    let d = s .args .buf .now in
-    let h = s .pre .0 in
-    let m = s .pre .1 .0 in
-    let so = at-start k n d h m (s .args .v) (s .pre .1 .1) in
-    painted-all k n d h m 0 _ _ [] (none f) (omega arith) so
+    painted-all (s .args .kind) (s .args .n) (s .args .buf .now) (s .pre .0) (s .pre .1 .0) 0 _ _ [] (none f) (omega arith) (so s)
 
 same-length-2 : tie.Need-same-length-2
 same-length-2 c = search needs
@@ -166,14 +140,8 @@ returns-2 : tie.Need-returns-2
 returns-2 c =
     let f = c .before .before .before .before .before in
     let s = begin (f .before .before) in
-    let k = s .args .kind in
-    let n = s .args .n in
-    let d = s .args .buf .now in
-    let h = s .pre .0 in
-    let m = s .pre .1 .0 in
-    let so = at-start k n d h m (s .args .v) (s .pre .1 .1) in
-    let a = painted-on k n d h m 0 _ _ _ (ap (λ (ps : List Span). spanAt 0 ps) (one f)) so _ _ (c .before .before .paint-span .ensures .0) (c .before .before .paint-span .ensures .1) in
-    painted-all k n d h m 1 _ _ _ (one f) (omega arith) a
+    let a = on s 0 _ _ _ (one f) (so s) _ _ (c .before .before .paint-span .ensures) in
+    painted-all (s .args .kind) (s .args .n) (s .args .buf .now) (s .pre .0) (s .pre .1 .0) 1 _ _ _ (one f) (omega arith) a
 
 same-length-3 : tie.Need-same-length-3
 same-length-3 c = search needs
@@ -182,15 +150,9 @@ returns-3 : tie.Need-returns-3
 returns-3 c =
     let f = c .before .before .before .before .before .before .before .before .before in
     let s = begin (f .before .before) in
-    let k = s .args .kind in
-    let n = s .args .n in
-    let d = s .args .buf .now in
-    let h = s .pre .0 in
-    let m = s .pre .1 .0 in
-    let so = at-start k n d h m (s .args .v) (s .pre .1 .1) in
-    let a = painted-on k n d h m 0 _ _ _ (ap (λ (ps : List Span). spanAt 0 ps) (two f)) so _ _ (c .before .before .before .before .before .before .paint-span2 .ensures .0) (c .before .before .before .before .before .before .paint-span2 .ensures .1) in
-    let b = painted-on k n d h m 1 _ _ _ (ap (λ (ps : List Span). spanAt 1 ps) (two f)) a _ _ (c .before .before .paint-span3 .ensures .0) (c .before .before .paint-span3 .ensures .1) in
-    painted-all k n d h m 2 _ _ _ (two f) (omega arith) b
+    let a = on s 0 _ _ _ (two f) (so s) _ _ (c .before .before .before .before .before .before .paint-span2 .ensures) in
+    let b = on s 1 _ _ _ (two f) a _ _ (c .before .before .paint-span3 .ensures) in
+    painted-all (s .args .kind) (s .args .n) (s .args .buf .now) (s .pre .0) (s .pre .1 .0) 2 _ _ _ (two f) (omega arith) b
 
 same-length-4 : tie.Need-same-length-4
 same-length-4 c = search needs
@@ -199,16 +161,10 @@ returns-4 : tie.Need-returns-4
 returns-4 c =
     let f = c .before .before .before .before .before .before .before .before .before .before .before .before .before in
     let s = begin (f .before .before) in
-    let k = s .args .kind in
-    let n = s .args .n in
-    let d = s .args .buf .now in
-    let h = s .pre .0 in
-    let m = s .pre .1 .0 in
-    let so = at-start k n d h m (s .args .v) (s .pre .1 .1) in
-    let a = painted-on k n d h m 0 _ _ _ (ap (λ (ps : List Span). spanAt 0 ps) (three f)) so _ _ (c .before .before .before .before .before .before .before .before .before .before .paint-span4 .ensures .0) (c .before .before .before .before .before .before .before .before .before .before .paint-span4 .ensures .1) in
-    let b = painted-on k n d h m 1 _ _ _ (ap (λ (ps : List Span). spanAt 1 ps) (three f)) a _ _ (c .before .before .before .before .before .before .paint-span5 .ensures .0) (c .before .before .before .before .before .before .paint-span5 .ensures .1) in
-    let e = painted-on k n d h m 2 _ _ _ (ap (λ (ps : List Span). spanAt 2 ps) (three f)) b _ _ (c .before .before .paint-span6 .ensures .0) (c .before .before .paint-span6 .ensures .1) in
-    painted-all k n d h m 3 _ _ _ (three f) (omega arith) e
+    let a = on s 0 _ _ _ (three f) (so s) _ _ (c .before .before .before .before .before .before .before .before .before .before .paint-span4 .ensures) in
+    let b = on s 1 _ _ _ (three f) a _ _ (c .before .before .before .before .before .before .paint-span5 .ensures) in
+    let e = on s 2 _ _ _ (three f) b _ _ (c .before .before .paint-span6 .ensures) in
+    painted-all (s .args .kind) (s .args .n) (s .args .buf .now) (s .pre .0) (s .pre .1 .0) 3 _ _ _ (three f) (omega arith) e
 
 pub paint-all-spec : {M : Type 1} → statement M
 paint-all-spec =
