@@ -8,11 +8,13 @@ use borrow.Author.Tests.{eqb-false, ne-eqb, not-true, leb-true, le-leb}
 use lib.Dec.{eqb, leb}
 use Rattle.terms.specs.Cases.{clash, two}
 use Rattle.terms.specs.RuledOut.{split}
-use Rattle.session_spec.specs.Table.{State, new, waiting, active, leaving, over, Kind, Event, Begin, Time, Leave, Ask, Logon, Logout, Other, Faulty, rowOf, isFrame, isOurs, sends}
+use Rattle.session_spec.specs.Table.{State, active, Event, Begin, Time, Leave, Ask, Logon, Logout, Other, Faulty, isFrame, isOurs, sends}
 use Rattle.session_spec.specs.Calls.{Line, lastNumber, clockOf, listening, deadAt, dueAt, resolved, cellOf, kindIn, misnumbered, gone, spent}
+use Rattle.session_spec.specs.Words.{isLogout}
 use Rattle.session_spec.specs.Given.{Dead, BeatDue, isMove, WrongNumber, ToSend, IsFrame, Stopped, line-dead, none-to-send, none-to-take}
 use Rattle.session_spec.proofs.Theorems.{beat-is, alive-fact, alive-test, due-fact, due-test, dead-facts, dead-test, which, listens-of}
-use Rattle.session_spec.proofs.Order.{or-cases, or-left, or-right}
+use Rattle.session_spec.proofs.Order.{or-left, or-right}
+use Rattle.session_spec.proofs.Views.{whatOf, sample, isTime, Test, every, isActive, is-active, or-cases}
 
 -- a test that holds where P does fails where P does not
 pub fails : {P : Type 0} (b : Bool) → (b ≡ true → P) → (P → ⊥) → b ≡ false
@@ -72,54 +74,23 @@ Sends s (Logout number) dead due = s ≡ active
 Sends s (Other number) dead due = ⊥
 Sends s (Faulty why) dead due = ⊥
 
-sends-row : (s : State) (e : Event) (dead due : Bool) → sends (kindIn (resolved dead due (rowOf s e))) ≡ true → Sends s e dead due
-sends-row new Begin dead due h = tt
-sends-row new Time dead due h = absurd (clash h refl)
-sends-row new Leave dead due h = tt
-sends-row new Ask dead due h = tt
-sends-row new (Logon number heart) dead due h = absurd (clash h refl)
-sends-row new (Logout number) dead due h = absurd (clash h refl)
-sends-row new (Other number) dead due h = absurd (clash h refl)
-sends-row new (Faulty why) dead due h = absurd (clash h refl)
-sends-row waiting Begin dead due h = tt
-sends-row waiting Time dead due h = absurd (clash h refl)
-sends-row waiting Leave dead due h = tt
-sends-row waiting Ask dead due h = tt
-sends-row waiting (Logon number heart) dead due h = absurd (clash h refl)
-sends-row waiting (Logout number) dead due h = absurd (clash h refl)
-sends-row waiting (Other number) dead due h = absurd (clash h refl)
-sends-row waiting (Faulty why) dead due h = absurd (clash h refl)
-sends-row active Begin dead due h = tt
-sends-row active Time true due h = absurd (clash h refl)
-sends-row active Time false true h = (refl, (refl, refl))
-sends-row active Time false false h = absurd (clash h refl)
-sends-row active Leave dead due h = tt
-sends-row active Ask dead due h = tt
-sends-row active (Logon number heart) dead due h = absurd (clash h refl)
-sends-row active (Logout number) dead due h = refl
-sends-row active (Other number) dead due h = absurd (clash h refl)
-sends-row active (Faulty why) dead due h = absurd (clash h refl)
-sends-row leaving Begin dead due h = tt
-sends-row leaving Time true due h = absurd (clash h refl)
-sends-row leaving Time false due h = absurd (clash h refl)
-sends-row leaving Leave dead due h = tt
-sends-row leaving Ask dead due h = tt
-sends-row leaving (Logon number heart) dead due h = absurd (clash h refl)
-sends-row leaving (Logout number) dead due h = absurd (clash h refl)
-sends-row leaving (Other number) dead due h = absurd (clash h refl)
-sends-row leaving (Faulty why) dead due h = absurd (clash h refl)
-sends-row over Begin dead due h = tt
-sends-row over Time dead due h = absurd (clash h refl)
-sends-row over Leave dead due h = tt
-sends-row over Ask dead due h = tt
-sends-row over (Logon number heart) dead due h = absurd (clash h refl)
-sends-row over (Logout number) dead due h = absurd (clash h refl)
-sends-row over (Other number) dead due h = absurd (clash h refl)
-sends-row over (Faulty why) dead due h = absurd (clash h refl)
+abbrev Sending : Test
+Sending s w dead due k next dies = not (sends k) || (isOurs (sample w) || ((isTime w && (isActive s && (not dead && due))) || (isLogout (sample w) && isActive s)))
+
+sent-by : (s : State) (e : Event) (dead due : Bool) → isOurs (sample (whatOf e)) || ((isTime (whatOf e) && (isActive s && (not dead && due))) || (isLogout (sample (whatOf e)) && isActive s)) ≡ true → Sends s e dead due
+sent-by s Begin dead due h = tt
+sent-by s Time dead due h =
+    ⊎-elim (λ a. let b = split (isActive s) _ a in let c = split (not dead) due (b .1) in (is-active s (b .0), (not-true dead (c .0), c .1))) (λ a. absurd (clash a refl)) (or-cases (isActive s && (not dead && due)) false h)
+sent-by s Leave dead due h = tt
+sent-by s Ask dead due h = tt
+sent-by s (Logon number heart) dead due h = absurd (clash h refl)
+sent-by s (Logout number) dead due h = is-active s h
+sent-by s (Other number) dead due h = absurd (clash h refl)
+sent-by s (Faulty why) dead due h = absurd (clash h refl)
 
 sends-cell : (l : Line) (t : ℕ) (e : Event) → sends (kindIn (cellOf l t e)) ≡ true → Sends (l .state) e (deadAt l t) (dueAt l t)
 unfolding cellOf
-sends-cell l t e h = sends-row (l .state) e (deadAt l t) (dueAt l t) h
+sends-cell l t e h = sent-by (l .state) e (deadAt l t) (dueAt l t) (rw h at (every Sending refl (l .state) e (deadAt l t) (dueAt l t)))
 
 send-fact : (l : Line) (now : ℕ) (e : Event) → Sends (l .state) e (deadAt l (clockOf l now)) (dueAt l (clockOf l now)) → ToSend l now e
 send-fact l now Begin h = tt
