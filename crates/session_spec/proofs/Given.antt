@@ -16,7 +16,8 @@ use Rattle.session_spec.specs.Faults.{Fault, faultNumber}
 use Rattle.session_spec.proofs.Faults.{fault-pos, not-reading}
 use Rattle.session_spec.proofs.Outcome.{number-sound, number-is}
 use Rattle.session_spec.proofs.Steps.{rules, rules-test}
-use Rattle.session_spec.proofs.Order.{or-cases, or-left, or-right}
+use Rattle.session_spec.proofs.Order.{or-left, or-right}
+use Rattle.session_spec.proofs.Views.{or-cases}
 use Rattle.session_spec.proofs.Plain.{fails, wrong-fact, wrong-test, halts, stopped-fact, stopped-test}
 
 -- no cell refuses it

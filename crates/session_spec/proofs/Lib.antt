@@ -1,11 +1,11 @@
 pub mod Faults
 pub mod Fine
 pub mod Outcome
-pub mod Views
 pub mod Cells
 pub mod Steps
 pub mod Agree
 pub mod Simple
+pub mod Views
 pub mod Theorems
 pub mod Order
 pub mod Plain

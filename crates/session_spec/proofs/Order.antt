@@ -13,13 +13,9 @@ use Rattle.session_spec.specs.Words.{accepted, isLogon, isS001, isS002, 
 use Rattle.session_spec.specs.Given.{Counters, begun}
 use Rattle.session_spec.proofs.Steps.{rules, step}
 use Rattle.session_spec.proofs.Agree.{agrees}
-use Rattle.session_spec.proofs.Views.{ended, ended-cell, logout-cell, first-cell, reach-cell, begun-cell}
+use Rattle.session_spec.proofs.Views.{or-cases, ended, ended-cell, logout-cell, first-cell, reach-cell, begun-cell}
 use Rattle.session_spec.proofs.Views as views
 use Rattle.session_spec.proofs.Theorems.{Refuses, Goes, outcome, kind-goes, kind-refuses, state-goes, death-of, dead-goes, dead-refuses}
-
-pub or-cases : (a b : Bool) → a || b ≡ true → (a ≡ true) ⊎ (b ≡ true)
-or-cases true b e = inl refl
-or-cases false b e = inr e
 
 pub or-left : (a b : Bool) → a ≡ true → a || b ≡ true
 or-left a b e = rw e

@@ -8,12 +8,13 @@ use borrow.Author.Tests.{eqb-false, ne-eqb, not-true, leb-true, le-leb}
 use lib.Dec.{eqb, leb}
 use Rattle.terms.specs.Cases.{clash, two}
 use Rattle.terms.specs.RuledOut.{split}
-use Rattle.session_spec.specs.Table.{State, active, Event, Begin, Time, Leave, Ask, Logon, Logout, Other, Faulty, rowOf, isFrame, isOurs, sends}
+use Rattle.session_spec.specs.Table.{State, active, Event, Begin, Time, Leave, Ask, Logon, Logout, Other, Faulty, isFrame, isOurs, sends}
 use Rattle.session_spec.specs.Calls.{Line, lastNumber, clockOf, listening, deadAt, dueAt, resolved, cellOf, kindIn, misnumbered, gone, spent}
+use Rattle.session_spec.specs.Words.{isLogout}
 use Rattle.session_spec.specs.Given.{Dead, BeatDue, isMove, WrongNumber, ToSend, IsFrame, Stopped, line-dead, none-to-send, none-to-take}
 use Rattle.session_spec.proofs.Theorems.{beat-is, alive-fact, alive-test, due-fact, due-test, dead-facts, dead-test, which, listens-of}
-use Rattle.session_spec.proofs.Order.{or-cases, or-left, or-right}
-use Rattle.session_spec.proofs.Views.{Does, stays, shuts, first, answer, beat, leave, ask, farewell, dead-active, dead-leaving, does}
+use Rattle.session_spec.proofs.Order.{or-left, or-right}
+use Rattle.session_spec.proofs.Views.{whatOf, sample, isTime, Test, every, isActive, is-active, or-cases}
 
 -- a test that holds where P does fails where P does not
 pub fails : {P : Type 0} (b : Bool) → (b ≡ true → P) → (P → ⊥) → b ≡ false
@@ -73,21 +74,23 @@ Sends s (Logout number) dead due = s ≡ active
 Sends s (Other number) dead due = ⊥
 Sends s (Faulty why) dead due = ⊥
 
-sends-of : {s : State} {e : Event} {dead due : Bool} → Does s e dead due → sends (kindIn (resolved dead due (rowOf s e))) ≡ true → Sends s e dead due
-sends-of (stays k d m f) h = absurd (clash h (ap sends k))
-sends-of (shuts k d m) h = absurd (clash h (ap sends k))
-sends-of first h = tt
-sends-of answer h = absurd (clash h refl)
-sends-of beat h = (refl, (refl, refl))
-sends-of leave h = tt
-sends-of ask h = tt
-sends-of farewell h = refl
-sends-of dead-active h = absurd (clash h refl)
-sends-of dead-leaving h = absurd (clash h refl)
+abbrev Sending : Test
+Sending s w dead due k next dies = not (sends k) || (isOurs (sample w) || ((isTime w && (isActive s && (not dead && due))) || (isLogout (sample w) && isActive s)))
+
+sent-by : (s : State) (e : Event) (dead due : Bool) → isOurs (sample (whatOf e)) || ((isTime (whatOf e) && (isActive s && (not dead && due))) || (isLogout (sample (whatOf e)) && isActive s)) ≡ true → Sends s e dead due
+sent-by s Begin dead due h = tt
+sent-by s Time dead due h =
+    ⊎-elim (λ a. let b = split (isActive s) _ a in let c = split (not dead) due (b .1) in (is-active s (b .0), (not-true dead (c .0), c .1))) (λ a. absurd (clash a refl)) (or-cases (isActive s && (not dead && due)) false h)
+sent-by s Leave dead due h = tt
+sent-by s Ask dead due h = tt
+sent-by s (Logon number heart) dead due h = absurd (clash h refl)
+sent-by s (Logout number) dead due h = is-active s h
+sent-by s (Other number) dead due h = absurd (clash h refl)
+sent-by s (Faulty why) dead due h = absurd (clash h refl)
 
 sends-cell : (l : Line) (t : ℕ) (e : Event) → sends (kindIn (cellOf l t e)) ≡ true → Sends (l .state) e (deadAt l t) (dueAt l t)
 unfolding cellOf
-sends-cell l t e h = sends-of (does (l .state) e (deadAt l t) (dueAt l t)) h
+sends-cell l t e h = sent-by (l .state) e (deadAt l t) (dueAt l t) (rw h at (every Sending refl (l .state) e (deadAt l t) (dueAt l t)))
 
 send-fact : (l : Line) (now : ℕ) (e : Event) → Sends (l .state) e (deadAt l (clockOf l now)) (dueAt l (clockOf l now)) → ToSend l now e
 send-fact l now Begin h = tt

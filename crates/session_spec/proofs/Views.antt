@@ -1,16 +1,16 @@
--- Which cells beat, die, and are silent: cell by cell. Assumes nothing.
-use mathlib.Core.Path.{_≡_, refl, sym, ap, _∙_}
-use mathlib.Core.Bool.{Bool, true, false}
-use mathlib.Core.Logic.{_⊎_, inl, inr}
-use Prim.Native.Nat.{ℕ, _<_}
+-- Which cells beat, die, and are silent: each law as a test, which every cell passes.
+use mathlib.Core.Path.{_≡_, refl, sym, _∙_}
+use mathlib.Core.Bool.{Bool, true, false, _&&_, _||_, not}
+use mathlib.Core.Logic.{_⊎_, inl, inr, ⊎-elim}
 use native.Mathlib.Omega.{arith}
-use lib.Dec.{lit<}
+use borrow.Author.Tests.{not-true}
 use Rattle.terms.specs.Cases.{clash}
+use Rattle.terms.specs.RuledOut.{split}
 use Rattle.session_spec.specs.Table.{State, new, waiting, active, leaving, over, Kind, none, S001, S002, S003, P002, Event, Begin, Time, Leave, Ask, Logon, Logout, Other, Faulty, rowOf, sends}
 use Rattle.session_spec.specs.Calls.{listening, resolved, numberIn, kindIn, isDeath, stateIn}
 use Rattle.session_spec.specs.Words.{isLogon, isS001, isS002}
+use Rattle.session_spec.specs.Faults.{More}
 use Rattle.session_spec.specs.Given.{begun}
-use Rattle.session_spec.proofs.Faults.{fault-pos}
 
 abbrev pub isS003 : Kind → Bool
 isS003 none = false
@@ -27,76 +27,196 @@ ended active = false
 ended leaving = true
 ended over = true
 
--- ======== What the cells do, said once
+-- ======== A law of the cells, as a test that every cell passes
 
--- where nothing is refused and all stays: time passes, or a line that listens hears any other frame
-pub data Heard : State → Event → Type 0 where
-  passes : {s : State} → Heard s Time
-  hears : {s : State} {number : ℕ} → listening s ≡ true → Heard s (Other number)
+-- an event without its numbers
+pub data What : Type 0 where
+  begin : What
+  time : What
+  leave : What
+  ask : What
+  logon : What
+  logout : What
+  other : What
+  faulty : What
 
--- a cell sends nothing and leaves the state; or a logout that is not answered ends the session; or
--- it is one of eight
-pub data Does : State → Event → Bool → Bool → Type 0 where
-  stays : {s : State} {e : Event} {dead due : Bool} → kindIn (resolved dead due (rowOf s e)) ≡ none → isDeath (resolved dead due (rowOf s e)) ≡ false → stateIn (resolved dead due (rowOf s e)) s ≡ s
-      → (numberIn (resolved dead due (rowOf s e)) ≡ 0 → Heard s e) → Does s e dead due
-  shuts : {s : State} {number : ℕ} {dead due : Bool} → kindIn (resolved dead due (rowOf s (Logout number))) ≡ none → isDeath (resolved dead due (rowOf s (Logout number))) ≡ false
-      → stateIn (resolved dead due (rowOf s (Logout number))) s ≡ over → Does s (Logout number) dead due
-  first : {dead due : Bool} → Does new Begin dead due
-  answer : {number heart : ℕ} {dead due : Bool} → Does waiting (Logon number heart) dead due
-  beat : Does active Time false true
-  leave : {dead due : Bool} → Does active Leave dead due
-  ask : {dead due : Bool} → Does active Ask dead due
-  farewell : {number : ℕ} {dead due : Bool} → Does active (Logout number) dead due
-  dead-active : {due : Bool} → Does active Time true due
-  dead-leaving : {due : Bool} → Does leaving Time true due
+abbrev pub whatOf : Event → What
+whatOf Begin = begin
+whatOf Time = time
+whatOf Leave = leave
+whatOf Ask = ask
+whatOf (Logon number heart) = logon
+whatOf (Logout number) = logout
+whatOf (Other number) = other
+whatOf (Faulty why) = faulty
 
-refusing : {s : State} {e : Event} (n : ℕ) → 0 < n → n ≡ 0 → Heard s e
-refusing n h z = absurd (omega arith)
+abbrev pub sample : What → Event
+sample begin = Begin
+sample time = Time
+sample leave = Leave
+sample ask = Ask
+sample logon = Logon 0 0
+sample logout = Logout 0
+sample other = Other 0
+sample faulty = Faulty More
 
-pub does : (s : State) (e : Event) (dead due : Bool) → Does s e dead due
-does new Begin dead due = first
-does new Time dead due = stays refl refl refl (λ z. passes)
-does new Leave dead due = stays refl refl refl (refusing 30 (lit< tt))
-does new Ask dead due = stays refl refl refl (refusing 30 (lit< tt))
-does new (Logon number heart) dead due = stays refl refl refl (refusing 33 (lit< tt))
-does new (Logout number) dead due = shuts refl refl refl
-does new (Other number) dead due = stays refl refl refl (refusing 30 (lit< tt))
-does new (Faulty why) dead due = stays refl refl refl (λ z. absurd (fault-pos why z))
-does waiting Begin dead due = stays refl refl refl (refusing 33 (lit< tt))
-does waiting Time dead due = stays refl refl refl (λ z. passes)
-does waiting Leave dead due = stays refl refl refl (refusing 30 (lit< tt))
-does waiting Ask dead due = stays refl refl refl (refusing 30 (lit< tt))
-does waiting (Logon number heart) dead due = answer
-does waiting (Logout number) dead due = shuts refl refl refl
-does waiting (Other number) dead due = stays refl refl refl (refusing 30 (lit< tt))
-does waiting (Faulty why) dead due = stays refl refl refl (λ z. absurd (fault-pos why z))
-does active Begin dead due = stays refl refl refl (refusing 33 (lit< tt))
-does active Time true due = dead-active
-does active Time false true = beat
-does active Time false false = stays refl refl refl (λ z. passes)
-does active Leave dead due = leave
-does active Ask dead due = ask
-does active (Logon number heart) dead due = stays refl refl refl (refusing 33 (lit< tt))
-does active (Logout number) dead due = farewell
-does active (Other number) dead due = stays refl refl refl (λ z. hears refl)
-does active (Faulty why) dead due = stays refl refl refl (λ z. absurd (fault-pos why z))
-does leaving Begin dead due = stays refl refl refl (refusing 33 (lit< tt))
-does leaving Time true due = dead-leaving
-does leaving Time false due = stays refl refl refl (λ z. passes)
-does leaving Leave dead due = stays refl refl refl (refusing 32 (lit< tt))
-does leaving Ask dead due = stays refl refl refl (refusing 32 (lit< tt))
-does leaving (Logon number heart) dead due = stays refl refl refl (refusing 33 (lit< tt))
-does leaving (Logout number) dead due = shuts refl refl refl
-does leaving (Other number) dead due = stays refl refl refl (λ z. hears refl)
-does leaving (Faulty why) dead due = stays refl refl refl (λ z. absurd (fault-pos why z))
-does over Begin dead due = stays refl refl refl (refusing 32 (lit< tt))
-does over Time dead due = stays refl refl refl (λ z. passes)
-does over Leave dead due = stays refl refl refl (refusing 32 (lit< tt))
-does over Ask dead due = stays refl refl refl (refusing 32 (lit< tt))
-does over (Logon number heart) dead due = stays refl refl refl (refusing 32 (lit< tt))
-does over (Logout number) dead due = stays refl refl refl (refusing 32 (lit< tt))
-does over (Other number) dead due = stays refl refl refl (refusing 32 (lit< tt))
-does over (Faulty why) dead due = stays refl refl refl (λ z. absurd (fault-pos why z))
+abbrev pub isTime : What → Bool
+isTime begin = false
+isTime time = true
+isTime leave = false
+isTime ask = false
+isTime logon = false
+isTime logout = false
+isTime other = false
+isTime faulty = false
+
+-- of a state, an event, dead and due: what is sent, the next state, whether the line is called dead
+abbrev pub Test : Type 0
+Test = State → What → Bool → Bool → Kind → State → Bool → Bool
+
+abbrev pub tried : Test → State → Event → Bool → Bool → Bool
+tried t s e dead due = t s (whatOf e) dead due (kindIn (resolved dead due (rowOf s e))) (stateIn (resolved dead due (rowOf s e)) s) (isDeath (resolved dead due (rowOf s e)))
+
+-- the numbers of an event change none of these
+sampled : (t : Test) (s : State) (e : Event) (dead due : Bool) → tried t s (sample (whatOf e)) dead due ≡ tried t s e dead due
+sampled t s Begin dead due = refl
+sampled t s Time dead due = refl
+sampled t s Leave dead due = refl
+sampled t s Ask dead due = refl
+sampled t new (Logon number heart) dead due = refl
+sampled t waiting (Logon number heart) dead due = refl
+sampled t active (Logon number heart) dead due = refl
+sampled t leaving (Logon number heart) dead due = refl
+sampled t over (Logon number heart) dead due = refl
+sampled t new (Logout number) dead due = refl
+sampled t waiting (Logout number) dead due = refl
+sampled t active (Logout number) dead due = refl
+sampled t leaving (Logout number) dead due = refl
+sampled t over (Logout number) dead due = refl
+sampled t new (Other number) dead due = refl
+sampled t waiting (Other number) dead due = refl
+sampled t active (Other number) dead due = refl
+sampled t leaving (Other number) dead due = refl
+sampled t over (Other number) dead due = refl
+sampled t new (Faulty why) dead due = refl
+sampled t waiting (Faulty why) dead due = refl
+sampled t active (Faulty why) dead due = refl
+sampled t leaving (Faulty why) dead due = refl
+sampled t over (Faulty why) dead due = refl
+
+abbrev bothWays : (Bool → Bool) → Bool
+bothWays f = f true && f false
+
+both-ways : (f : Bool → Bool) → bothWays f ≡ true → (b : Bool) → f b ≡ true
+both-ways f h true = split (f true) (f false) h .0
+both-ways f h false = split (f true) (f false) h .1
+
+abbrev eachWhat : (What → Bool) → Bool
+eachWhat f = (f begin && f time) && (f leave && f ask) && ((f logon && f logout) && (f other && f faulty))
+
+each-what : (f : What → Bool) → eachWhat f ≡ true → (w : What) → f w ≡ true
+each-what f h w =
+    let h1 = split ((f begin && f time) && (f leave && f ask)) ((f logon && f logout) && (f other && f faulty)) h in
+    let h2 = split (f begin && f time) (f leave && f ask) (h1 .0) in
+    let h3 = split (f logon && f logout) (f other && f faulty) (h1 .1) in
+    let h4 = split (f begin) (f time) (h2 .0) in
+    let h5 = split (f leave) (f ask) (h2 .1) in
+    let h6 = split (f logon) (f logout) (h3 .0) in
+    let h7 = split (f other) (f faulty) (h3 .1) in
+    by w (h4 .0) (h4 .1) (h5 .0) (h5 .1) (h6 .0) (h6 .1) (h7 .0) (h7 .1)
+  where
+    by : (w : What) → f begin ≡ true → f time ≡ true → f leave ≡ true → f ask ≡ true → f logon ≡ true → f logout ≡ true → f other ≡ true → f faulty ≡ true → f w ≡ true
+    by begin a b c d e g i j = a
+    by time a b c d e g i j = b
+    by leave a b c d e g i j = c
+    by ask a b c d e g i j = d
+    by logon a b c d e g i j = e
+    by logout a b c d e g i j = g
+    by other a b c d e g i j = i
+    by faulty a b c d e g i j = j
+
+abbrev eachState : (State → Bool) → Bool
+eachState f = (f new && f waiting) && (f active && (f leaving && f over))
+
+each-state : (f : State → Bool) → eachState f ≡ true → (s : State) → f s ≡ true
+each-state f h new = split (f new) (f waiting) (split (f new && f waiting) (f active && (f leaving && f over)) h .0) .0
+each-state f h waiting = split (f new) (f waiting) (split (f new && f waiting) (f active && (f leaving && f over)) h .0) .1
+each-state f h active = split (f active) (f leaving && f over) (split (f new && f waiting) (f active && (f leaving && f over)) h .1) .0
+each-state f h leaving = split (f leaving) (f over) (split (f active) (f leaving && f over) (split (f new && f waiting) (f active && (f leaving && f over)) h .1) .1) .0
+each-state f h over = split (f leaving) (f over) (split (f active) (f leaving && f over) (split (f new && f waiting) (f active && (f leaving && f over)) h .1) .1) .1
+
+-- what passes at a sample of each cell passes at every cell
+pub every : (t : Test) → eachState (λ (s : State). eachWhat (λ (w : What). bothWays (λ (dead : Bool). bothWays (λ (due : Bool). tried t s (sample w) dead due)))) ≡ true
+    → (s : State) (e : Event) (dead due : Bool) → tried t s e dead due ≡ true
+every t h s e dead due =
+    let f : State → Bool = λ (x : State). eachWhat (λ (w : What). bothWays (λ (a : Bool). bothWays (λ (b : Bool). tried t x (sample w) a b))) in
+    let g : What → Bool = λ (w : What). bothWays (λ (a : Bool). bothWays (λ (b : Bool). tried t s (sample w) a b)) in
+    let i : Bool → Bool = λ (a : Bool). bothWays (λ (b : Bool). tried t s (sample (whatOf e)) a b) in
+    let j : Bool → Bool = λ (b : Bool). tried t s (sample (whatOf e)) dead b in
+    sym (sampled t s e dead due) ∙ both-ways j (both-ways i (each-what g (each-state f h s) (whatOf e)) dead) due
+
+-- ======== What the tests say
+
+is-time : (e : Event) → isTime (whatOf e) ≡ true → e ≡ Time
+is-time Time h = refl
+is-time Begin h = absurd (clash h refl)
+is-time Leave h = absurd (clash h refl)
+is-time Ask h = absurd (clash h refl)
+is-time (Logon number heart) h = absurd (clash h refl)
+is-time (Logout number) h = absurd (clash h refl)
+is-time (Other number) h = absurd (clash h refl)
+is-time (Faulty why) h = absurd (clash h refl)
+
+abbrev pub isActive : State → Bool
+isActive new = false
+isActive waiting = false
+isActive active = true
+isActive leaving = false
+isActive over = false
+
+pub is-active : (s : State) → isActive s ≡ true → s ≡ active
+is-active active h = refl
+is-active new h = absurd (clash h refl)
+is-active waiting h = absurd (clash h refl)
+is-active leaving h = absurd (clash h refl)
+is-active over h = absurd (clash h refl)
+
+abbrev isNew : State → Bool
+isNew new = true
+isNew waiting = false
+isNew active = false
+isNew leaving = false
+isNew over = false
+
+is-new : (s : State) → isNew s ≡ true → s ≡ new
+is-new new h = refl
+is-new waiting h = absurd (clash h refl)
+is-new active h = absurd (clash h refl)
+is-new leaving h = absurd (clash h refl)
+is-new over h = absurd (clash h refl)
+
+is-S001 : (k : Kind) → isS001 k ≡ true → k ≡ S001
+is-S001 S001 h = refl
+is-S001 none h = absurd (clash h refl)
+is-S001 S002 h = absurd (clash h refl)
+is-S001 S003 h = absurd (clash h refl)
+is-S001 P002 h = absurd (clash h refl)
+
+is-logon : (e : Event) → isLogon (sample (whatOf e)) ≡ isLogon e
+is-logon Begin = refl
+is-logon Time = refl
+is-logon Leave = refl
+is-logon Ask = refl
+is-logon (Logon number heart) = refl
+is-logon (Logout number) = refl
+is-logon (Other number) = refl
+is-logon (Faulty why) = refl
+
+pub or-cases : (a b : Bool) → a || b ≡ true → (a ≡ true) ⊎ (b ≡ true)
+or-cases true b h = inl refl
+or-cases false b h = inr h
+
+-- ======== The laws
 
 pub record Beat (s : State) (e : Event) (dead due : Bool) : Type 0 where
   pub at-time : e ≡ Time
@@ -104,120 +224,65 @@ pub record Beat (s : State) (e : Event) (dead due : Bool) : Type 0 where
   pub not-dead : dead ≡ false
   pub is-due : due ≡ true
 
-beat-of : {s : State} {e : Event} {dead due : Bool} → Does s e dead due → isS003 (kindIn (resolved dead due (rowOf s e))) ≡ true → Beat s e dead due
-beat-of (stays k d m f) h = absurd (clash h (ap isS003 k))
-beat-of (shuts k d m) h = absurd (clash h (ap isS003 k))
-beat-of first h = absurd (clash h refl)
-beat-of answer h = absurd (clash h refl)
-beat-of beat h = record { at-time = refl; state-active = refl; not-dead = refl; is-due = refl }
-beat-of leave h = absurd (clash h refl)
-beat-of ask h = absurd (clash h refl)
-beat-of farewell h = absurd (clash h refl)
-beat-of dead-active h = absurd (clash h refl)
-beat-of dead-leaving h = absurd (clash h refl)
+abbrev Beats : Test
+Beats s w dead due k next dies = not (isS003 k) || (isTime w && (isActive s && (not dead && due)))
 
 pub beat-cell : (s : State) (e : Event) (dead due : Bool) → isS003 (kindIn (resolved dead due (rowOf s e))) ≡ true → Beat s e dead due
-beat-cell s e dead due = beat-of (does s e dead due)
+beat-cell s e dead due h =
+    let a = split (isTime (whatOf e)) _ (rw h at (every Beats refl s e dead due)) in
+    let b = split (isActive s) _ (a .1) in
+    let c = split (not dead) due (b .1) in
+    record { at-time = is-time e (a .0); state-active = is-active s (b .0); not-dead = not-true dead (c .0); is-due = c .1 }
 
 pub record Death (s : State) (e : Event) (dead : Bool) : Type 0 where
   pub at-time : e ≡ Time
   pub listens : listening s ≡ true
   pub is-dead : dead ≡ true
 
-death-of : {s : State} {e : Event} {dead due : Bool} → Does s e dead due → isDeath (resolved dead due (rowOf s e)) ≡ true → Death s e dead
-death-of (stays k d m f) h = absurd (clash h d)
-death-of (shuts k d m) h = absurd (clash h d)
-death-of first h = absurd (clash h refl)
-death-of answer h = absurd (clash h refl)
-death-of beat h = absurd (clash h refl)
-death-of leave h = absurd (clash h refl)
-death-of ask h = absurd (clash h refl)
-death-of farewell h = absurd (clash h refl)
-death-of dead-active h = record { at-time = refl; listens = refl; is-dead = refl }
-death-of dead-leaving h = record { at-time = refl; listens = refl; is-dead = refl }
+abbrev Dies : Test
+Dies s w dead due k next dies = not dies || (isTime w && (listening s && dead))
 
 pub death-cell : (s : State) (e : Event) (dead due : Bool) → isDeath (resolved dead due (rowOf s e)) ≡ true → Death s e dead
-death-cell s e dead due = death-of (does s e dead due)
+death-cell s e dead due h =
+    let a = split (isTime (whatOf e)) _ (rw h at (every Dies refl s e dead due)) in
+    let b = split (listening s) dead (a .1) in
+    record { at-time = is-time e (a .0); listens = b .0; is-dead = b .1 }
 
-ended-of : {s : State} {e : Event} {dead due : Bool} → Does s e dead due → ended s ≡ true → (sends (kindIn (resolved dead due (rowOf s e))) ≡ false) × (ended (stateIn (resolved dead due (rowOf s e)) s) ≡ true)
-ended-of (stays k d m f) h = (ap sends k, ap ended m ∙ h)
-ended-of (shuts k d m) h = (ap sends k, ap ended m)
-ended-of first h = absurd (clash h refl)
-ended-of answer h = absurd (clash h refl)
-ended-of beat h = absurd (clash h refl)
-ended-of leave h = absurd (clash h refl)
-ended-of ask h = absurd (clash h refl)
-ended-of farewell h = absurd (clash h refl)
-ended-of dead-active h = absurd (clash h refl)
-ended-of dead-leaving h = (refl, refl)
+abbrev Ends : Test
+Ends s w dead due k next dies = not (ended s) || (not (sends k) && ended next)
 
 pub ended-cell : (s : State) (e : Event) (dead due : Bool) → ended s ≡ true → (sends (kindIn (resolved dead due (rowOf s e))) ≡ false) × (ended (stateIn (resolved dead due (rowOf s e)) s) ≡ true)
-ended-cell s e dead due = ended-of (does s e dead due)
+ended-cell s e dead due h = let a = split (not (sends (kindIn (resolved dead due (rowOf s e))))) _ (rw h at (every Ends refl s e dead due)) in (not-true _ (a .0), a .1)
 
-logout-of : {s : State} {e : Event} {dead due : Bool} → Does s e dead due → isS002 (kindIn (resolved dead due (rowOf s e))) ≡ true → ended (stateIn (resolved dead due (rowOf s e)) s) ≡ true
-logout-of (stays k d m f) h = absurd (clash h (ap isS002 k))
-logout-of (shuts k d m) h = absurd (clash h (ap isS002 k))
-logout-of first h = absurd (clash h refl)
-logout-of answer h = absurd (clash h refl)
-logout-of beat h = absurd (clash h refl)
-logout-of leave h = refl
-logout-of ask h = absurd (clash h refl)
-logout-of farewell h = refl
-logout-of dead-active h = absurd (clash h refl)
-logout-of dead-leaving h = absurd (clash h refl)
+abbrev Leaves : Test
+Leaves s w dead due k next dies = not (isS002 k) || ended next
 
 pub logout-cell : (s : State) (e : Event) (dead due : Bool) → isS002 (kindIn (resolved dead due (rowOf s e))) ≡ true → ended (stateIn (resolved dead due (rowOf s e)) s) ≡ true
-logout-cell s e dead due = logout-of (does s e dead due)
+logout-cell s e dead due h = rw h at (every Leaves refl s e dead due)
 
 -- something is sent: our logon, from new; or the line is active
-first-of : {s : State} {e : Event} {dead due : Bool} → Does s e dead due → sends (kindIn (resolved dead due (rowOf s e))) ≡ true → ((s ≡ new) × (kindIn (resolved dead due (rowOf s e)) ≡ S001)) ⊎ (s ≡ active)
-first-of (stays k d m f) h = absurd (clash h (ap sends k))
-first-of (shuts k d m) h = absurd (clash h (ap sends k))
-first-of first h = inl (refl, refl)
-first-of answer h = absurd (clash h refl)
-first-of beat h = inr refl
-first-of leave h = inr refl
-first-of ask h = inr refl
-first-of farewell h = inr refl
-first-of dead-active h = absurd (clash h refl)
-first-of dead-leaving h = absurd (clash h refl)
+abbrev First : Test
+First s w dead due k next dies = not (sends k) || ((isNew s && isS001 k) || isActive s)
 
 pub first-cell : (s : State) (e : Event) (dead due : Bool) → sends (kindIn (resolved dead due (rowOf s e))) ≡ true → ((s ≡ new) × (kindIn (resolved dead due (rowOf s e)) ≡ S001)) ⊎ (s ≡ active)
-first-cell s e dead due = first-of (does s e dead due)
+first-cell s e dead due h =
+    ⊎-elim (λ a. let b = split (isNew s) _ a in inl (is-new s (b .0), is-S001 _ (b .1))) (λ a. inr (is-active s a)) (or-cases (isNew s && isS001 (kindIn (resolved dead due (rowOf s e)))) (isActive s) (rw h at (every First refl s e dead due)))
 
 -- active or leaving is reached from there, or by a logon
-reach-of : {s : State} {e : Event} {dead due : Bool} → Does s e dead due → listening (stateIn (resolved dead due (rowOf s e)) s) ≡ true → (listening s ≡ true) ⊎ (isLogon e ≡ true)
-reach-of (stays k d m f) h = inl (sym (ap listening m) ∙ h)
-reach-of (shuts k d m) h = absurd (clash h (ap listening m))
-reach-of first h = absurd (clash h refl)
-reach-of answer h = inr refl
-reach-of beat h = inl refl
-reach-of leave h = inl refl
-reach-of ask h = inl refl
-reach-of farewell h = absurd (clash h refl)
-reach-of dead-active h = absurd (clash h refl)
-reach-of dead-leaving h = absurd (clash h refl)
+abbrev Reaches : Test
+Reaches s w dead due k next dies = not (listening next) || (listening s || isLogon (sample w))
 
 pub reach-cell : (s : State) (e : Event) (dead due : Bool) → listening (stateIn (resolved dead due (rowOf s e)) s) ≡ true → (listening s ≡ true) ⊎ (isLogon e ≡ true)
-reach-cell s e dead due = reach-of (does s e dead due)
+reach-cell s e dead due h =
+    ⊎-elim (λ a. inl a) (λ a. inr (sym (is-logon e) ∙ a)) (or-cases (listening s) (isLogon (sample (whatOf e))) (rw h at (every Reaches refl s e dead due)))
 
 -- behind our logon is reached from there, or by sending it
-begun-of : {s : State} {e : Event} {dead due : Bool} → Does s e dead due → begun (stateIn (resolved dead due (rowOf s e)) s) ≡ true
-    → (begun s ≡ true) ⊎ (isS001 (kindIn (resolved dead due (rowOf s e))) ≡ true)
-begun-of (stays k d m f) h = inl (sym (ap begun m) ∙ h)
-begun-of (shuts k d m) h = absurd (clash h (ap begun m))
-begun-of first h = inr refl
-begun-of answer h = inl refl
-begun-of beat h = inl refl
-begun-of leave h = inl refl
-begun-of ask h = inl refl
-begun-of farewell h = absurd (clash h refl)
-begun-of dead-active h = absurd (clash h refl)
-begun-of dead-leaving h = absurd (clash h refl)
+abbrev Begins : Test
+Begins s w dead due k next dies = not (begun next) || (begun s || isS001 k)
 
 pub begun-cell : (s : State) (e : Event) (dead due : Bool) → begun (stateIn (resolved dead due (rowOf s e)) s) ≡ true
     → (begun s ≡ true) ⊎ (isS001 (kindIn (resolved dead due (rowOf s e))) ≡ true)
-begun-cell s e dead due = begun-of (does s e dead due)
+begun-cell s e dead due h = or-cases (begun s) (isS001 (kindIn (resolved dead due (rowOf s e)))) (rw h at (every Begins refl s e dead due))
 
 -- a logon is taken while ours waits for it, and nowhere else
 pub logon-cell : (s : State) (e : Event) (dead due : Bool) → isLogon e ≡ true → numberIn (resolved dead due (rowOf s e)) ≡ 0 → s ≡ waiting
