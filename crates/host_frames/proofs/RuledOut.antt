@@ -6,6 +6,7 @@ use mathlib.Core.Path.{_≡_, refl, ap₂}
 use mathlib.Core.List.{List, [], _∷_, _++_}
 use denote.Ref.{now}
 use lib.ListN.{length, drop, replicate}
+use Rattle.terms.specs.Letters.{spelled}
 use Rattle.terms.specs.Paper.{Paper}
 use Rattle.terms.specs.RuledOut.{Row, _never_, _only_, Kept, RulesOut, ruled, numbers, lists, beside}
 use Rattle.octets.specs.Octets.{numeral, digitsOf, laid, sum8, sumOf}
@@ -61,9 +62,9 @@ said e = ap₂ told (e .answered) (e .told)
 abbrev pub rk-read-wrong : List (Row (List ℕ × (ℕ × List ℕ)) Answer)
 rk-read-wrong =
     (A, (0, replicate 9 7)) never told 5 (replicate 9 7)  -- everything refused
-    ∷ (frameB, (0, replicate 9 7)) never told 0 (0x50303031 ∷ 0x0047FA7908DACB40 ∷ 2 ∷ 12 ∷ 3 ∷ 100 ∷ 0 ∷ 0 ∷ 0 ∷ [])  -- channel and tick number swapped
-    ∷ (frameB, (0, replicate 9 7)) only told 0 (0x50303031 ∷ 0x0047FA7908DACB40 ∷ 2 ∷ 12 ∷ 100 ∷ 3 ∷ 0 ∷ 0 ∷ 0 ∷ [])
-    ∷ (resend 1 0x41, (0, replicate 9 7)) only told 0 (0x50303032 ∷ 20260121093000000 ∷ 1 ∷ 52 ∷ 100 ∷ 3 ∷ 3 ∷ 5 ∷ 1 ∷ [])  -- nothing of its RejectText
+    ∷ (frameB, (0, replicate 9 7)) never told 0 (spelled "P001" ∷ 0x0047FA7908DACB40 ∷ 2 ∷ 12 ∷ 3 ∷ 100 ∷ 0 ∷ 0 ∷ 0 ∷ [])  -- channel and tick number swapped
+    ∷ (frameB, (0, replicate 9 7)) only told 0 (spelled "P001" ∷ 0x0047FA7908DACB40 ∷ 2 ∷ 12 ∷ 100 ∷ 3 ∷ 0 ∷ 0 ∷ 0 ∷ [])
+    ∷ (resend 1 0x41, (0, replicate 9 7)) only told 0 (spelled "P002" ∷ 20260121093000000 ∷ 1 ∷ 52 ∷ 100 ∷ 3 ∷ 3 ∷ 5 ∷ 1 ∷ [])  -- nothing of its RejectText
     ∷ (0xFF ∷ resend 1 0x41, (0, replicate 9 7)) only told 2 (replicate 9 7)  -- nothing told of what is refused
     ∷ []
 
@@ -86,13 +87,13 @@ rk-search-rules-out = ruled (beside numbers lists) (λ (i : List ℕ × (ℕ × 
 -- RK_PRIVATE: a MsgType, a body, the number of a span, and the told row before
 abbrev pub rk-private-wrong : List (Row (ℕ × (List ℕ × (ℕ × List ℕ))) Answer)
 rk-private-wrong =
-    (0x53303031, (replicate 74 0, (1, 7 ∷ 7 ∷ 7 ∷ []))) never told 0 (0 ∷ 32 ∷ 0x20 ∷ [])  -- each span told as the first
-    ∷ (0x50303032, (resendBody 3 5 1 0x41, (0, 7 ∷ 7 ∷ 7 ∷ []))) never told 0 (32 ∷ 20 ∷ 0x20 ∷ [])  -- place and length swapped
-    ∷ (0x4D323031, (replicate 50 0, (0, 7 ∷ 7 ∷ 7 ∷ []))) never told 0 (45 ∷ 4 ∷ 0x20 ∷ [])  -- the last byte of a tail missed
-    ∷ (0x4D323031, (replicate 50 0, (0, 7 ∷ 7 ∷ 7 ∷ []))) only told 0 (45 ∷ 5 ∷ 0x20 ∷ [])
-    ∷ (0x4D323031, (tickOn 0x4D44323131 0x30 (replicate 139 0x41), (1, 7 ∷ 7 ∷ 7 ∷ []))) only told 0 (76 ∷ 12 ∷ 0x20 ∷ [])  -- TraderCode of an order
-    ∷ (0x53303031, (replicate 10 0, (1, 7 ∷ 7 ∷ 7 ∷ []))) only told 4 (7 ∷ 7 ∷ 7 ∷ [])  -- a span that lies outside the body
-    ∷ (0x58393939, ([], (0, 7 ∷ 7 ∷ 7 ∷ []))) only told 2 (7 ∷ 7 ∷ 7 ∷ [])  -- a type of no table said to have nothing private
+    (spelled "S001", (replicate 74 0, (1, 7 ∷ 7 ∷ 7 ∷ []))) never told 0 (0 ∷ 32 ∷ 0x20 ∷ [])  -- each span told as the first
+    ∷ (spelled "P002", (resendBody 3 5 1 0x41, (0, 7 ∷ 7 ∷ 7 ∷ []))) never told 0 (32 ∷ 20 ∷ 0x20 ∷ [])  -- place and length swapped
+    ∷ (spelled "M201", (replicate 50 0, (0, 7 ∷ 7 ∷ 7 ∷ []))) never told 0 (45 ∷ 4 ∷ 0x20 ∷ [])  -- the last byte of a tail missed
+    ∷ (spelled "M201", (replicate 50 0, (0, 7 ∷ 7 ∷ 7 ∷ []))) only told 0 (45 ∷ 5 ∷ 0x20 ∷ [])
+    ∷ (spelled "M201", (tickOn (spelled "MD211") 0x30 (replicate 139 0x41), (1, 7 ∷ 7 ∷ 7 ∷ []))) only told 0 (76 ∷ 12 ∷ 0x20 ∷ [])  -- TraderCode of an order
+    ∷ (spelled "S001", (replicate 10 0, (1, 7 ∷ 7 ∷ 7 ∷ []))) only told 4 (7 ∷ 7 ∷ 7 ∷ [])  -- a span that lies outside the body
+    ∷ (spelled "X999", ([], (0, 7 ∷ 7 ∷ 7 ∷ []))) only told 2 (7 ∷ 7 ∷ 7 ∷ [])  -- a type of no table said to have nothing private
     ∷ []
 
 pub rk-private-rules-out : RulesOut (Kept _ rk-private-kinds.ps rk-private-kinds.r rk-private.Post) (λ c. (c .args .0, (now (c .args .1 .0), (c .args .1 .1 .0, now (c .args .1 .1 .1 .0))))) (λ c. told (c .result) (now (c .exit .1 .1 .1 .0))) rk-private-wrong
@@ -102,9 +103,9 @@ rk-private-rules-out = ruled (beside numbers lists) (λ (i : ℕ × (List ℕ ×
 -- RK_TAIL_FIELD: a body, the number of a field, and the told row before
 abbrev pub rk-tail-field-wrong : List (Row (List ℕ × (ℕ × List ℕ)) Answer)
 rk-tail-field-wrong =
-    (tickOn 0x4D44323131 0x30 (replicate 139 0x41), (1, replicate 4 7)) only told 0 (46 ∷ 18 ∷ 1 ∷ 0 ∷ [])  -- QuoteID
-    ∷ (tickOn 0x4D44323131 0x30 (replicate 139 0x41), (2, replicate 4 7)) never told 0 (64 ∷ 12 ∷ 1 ∷ 0 ∷ [])  -- MemberID told as public
-    ∷ (tickOn 0x4D44323131 0x30 (replicate 138 0x41), (1, replicate 4 7)) only told 6 (replicate 4 7)  -- a field outside its order
+    (tickOn (spelled "MD211") 0x30 (replicate 139 0x41), (1, replicate 4 7)) only told 0 (46 ∷ 18 ∷ 1 ∷ 0 ∷ [])  -- QuoteID
+    ∷ (tickOn (spelled "MD211") 0x30 (replicate 139 0x41), (2, replicate 4 7)) never told 0 (64 ∷ 12 ∷ 1 ∷ 0 ∷ [])  -- MemberID told as public
+    ∷ (tickOn (spelled "MD211") 0x30 (replicate 138 0x41), (1, replicate 4 7)) only told 6 (replicate 4 7)  -- a field outside its order
     ∷ (replicate 44 0, (0, replicate 4 7)) only told 4 (replicate 4 7)
     ∷ []
 
@@ -115,12 +116,12 @@ rk-tail-field-rules-out = ruled (beside numbers lists) (λ (i : List ℕ × (ℕ
 -- RK_BROKEN_FIELD: a MsgType, a body, and the told row before
 abbrev pub rk-broken-field-wrong : List (Row (ℕ × (List ℕ × List ℕ)) Answer)
 rk-broken-field-wrong =
-    (0x50303031, (channelBody 12 0x58, replicate 5 7)) only told 0 (1 ∷ 0 ∷ 1 ∷ 0 ∷ 0 ∷ [])  -- not EndOfChannel, which is broken too and stands behind
-    ∷ (0x50303031, (channelBody 13 0x59, replicate 5 7)) only told 0 (replicate 5 0)  -- a field told where all hold, or nothing told at all
-    ∷ (0x4D323031, (tickOn 0x4D44323131 0x30 (replicate 138 0x41), replicate 5 7)) never told 6 (replicate 5 7)  -- 6 passed on in place of the field
-    ∷ (0x4D323031, (tickOn 0x4D44323131 0x30 (replicate 138 0x41), replicate 5 7)) only told 0 (1 ∷ 45 ∷ 138 ∷ 9 ∷ 0 ∷ [])  -- its extension, and none of its bytes
-    ∷ (0x50303031, ([], replicate 5 7)) only told 4 (replicate 5 7)  -- a field outside the body
-    ∷ (0x58393939, ([], replicate 5 7)) only told 2 (replicate 5 7)  -- a type of no table said to keep its rules
+    (spelled "P001", (channelBody 12 0x58, replicate 5 7)) only told 0 (1 ∷ 0 ∷ 1 ∷ 0 ∷ 0 ∷ [])  -- not EndOfChannel, which is broken too and stands behind
+    ∷ (spelled "P001", (channelBody 13 0x59, replicate 5 7)) only told 0 (replicate 5 0)  -- a field told where all hold, or nothing told at all
+    ∷ (spelled "M201", (tickOn (spelled "MD211") 0x30 (replicate 138 0x41), replicate 5 7)) never told 6 (replicate 5 7)  -- 6 passed on in place of the field
+    ∷ (spelled "M201", (tickOn (spelled "MD211") 0x30 (replicate 138 0x41), replicate 5 7)) only told 0 (1 ∷ 45 ∷ 138 ∷ 9 ∷ 0 ∷ [])  -- its extension, and none of its bytes
+    ∷ (spelled "P001", ([], replicate 5 7)) only told 4 (replicate 5 7)  -- a field outside the body
+    ∷ (spelled "X999", ([], replicate 5 7)) only told 2 (replicate 5 7)  -- a type of no table said to keep its rules
     ∷ []
 
 pub rk-broken-field-rules-out : RulesOut (Kept _ rk-broken-field-kinds.ps rk-broken-field-kinds.r rk-broken-field.Post) (λ c. (c .args .0, (now (c .args .1 .0), now (c .args .1 .1 .0)))) (λ c. told (c .result) (now (c .exit .1 .1 .0))) rk-broken-field-wrong
@@ -130,7 +131,7 @@ rk-broken-field-rules-out = ruled (beside numbers lists) (λ (i : ℕ × (List �
 -- ENTRIES: a snapshot of stream MD001 with this SecurityType, and two entries of 10 bytes, of types
 -- 5 and 6 and prices 7 and 8
 abbrev body : ℕ → List ℕ
-body type = snapshotBody type 0x4D44303031 7 8
+body type = snapshotBody type (spelled "MD001") 7 8
 
 abbrev pub rk-entries-wrong : List (Row (List ℕ × ℕ) Answer)
 rk-entries-wrong =
@@ -177,14 +178,14 @@ rk-scrub-rules-out = ruled (beside (beside numbers lists) lists) (λ (i : ℕ ×
 
 -- RK_WRITE: a message, the told number before, and the buffer lent
 abbrev timely : Message
-timely = message 0x53303033 20260121093000000 1 []
+timely = message (spelled "S003") 20260121093000000 1 []
 
 abbrev pub rk-write-wrong : List (Row (Message × (ℕ × List ℕ)) Answers)
 rk-write-wrong =
-    (timely, (7, replicate 28 7)) never left (told 0 (28 ∷ [])) (frameOf (message 0x53303033 1 20260121093000000 []))  -- SendingTime written as MsgSeqNum and MsgSeqNum as SendingTime
+    (timely, (7, replicate 28 7)) never left (told 0 (28 ∷ [])) (frameOf (message (spelled "S003") 1 20260121093000000 []))  -- SendingTime written as MsgSeqNum and MsgSeqNum as SendingTime
     ∷ (timely, (7, replicate 28 7)) only left (told 0 (28 ∷ [])) (frameOf timely)
     ∷ (timely, (7, replicate 27 7)) only left (told 8 (7 ∷ [])) (replicate 27 7)  -- 8 tells nothing and changes nothing
-    ∷ (message 0x53303033 20261301093000000 1 [], (7, replicate 28 7)) only left (told 7 (7 ∷ [])) (replicate 28 7)  -- month 13 written
+    ∷ (message (spelled "S003") 20261301093000000 1 [], (7, replicate 28 7)) only left (told 7 (7 ∷ [])) (replicate 28 7)  -- month 13 written
     ∷ []
 
 pub rk-write-rules-out : RulesOut (Kept _ rk-write-kinds.ps rk-write-kinds.r rk-write.Post) (λ c. (message (c .args .0) (c .args .1 .0) (c .args .1 .1 .0) (now (c .args .1 .1 .1 .0)), (now (c .args .1 .1 .1 .1 .1 .0), now (c .args .1 .1 .1 .1 .0)))) (λ c. left (told (c .result) (now (c .exit .1 .1 .1 .1 .1 .0) ∷ [])) (now (c .exit .1 .1 .1 .1 .0))) rk-write-wrong

@@ -5,6 +5,7 @@ use Prim.Native.Nat.{ℕ}
 use mathlib.Core.Path.{_≡_, refl, ap₂}
 use mathlib.Core.List.{List, [], _∷_, _++_}
 use denote.Ref.{now}
+use Rattle.terms.specs.Letters.{spelled}
 use Rattle.terms.specs.Paper.{Paper}
 use Rattle.terms.specs.RuledOut.{Row, _never_, _only_, Kept, RulesOut, ruled, numbers, lists, beside}
 use Rattle.octets.specs.Octets.{numeral, digitsOf, sum8, sumOf}
@@ -85,7 +86,7 @@ called e i = tells (callTold (i .0) (i .1 .0) e) (i .1 .1) (wordsAfter (i .0) (i
 
 abbrev pub rk-session-begin-wrong : List (Row Input Outcome)
 rk-session-begin-wrong =
-    given fresh 9 only shown 0 (0x53303031 ∷ 1 ∷ 0 ∷ []) (1 ∷ 2 ∷ 1 ∷ 9 ∷ 9 ∷ 0 ∷ 0 ∷ 0 ∷ [])  -- begins with number 0, or with another type
+    given fresh 9 only shown 0 (spelled "S001" ∷ 1 ∷ 0 ∷ []) (1 ∷ 2 ∷ 1 ∷ 9 ∷ 9 ∷ 0 ∷ 0 ∷ 0 ∷ [])  -- begins with number 0, or with another type
     ∷ given (words 1 2 1) 2000 only shown 33 three (words 1 2 1)  -- a second logon
     ∷ given (words 4 2 2) 2000 only shown 32 three (words 4 2 2)  -- 33 before 32
     ∷ given (words 5 2 2) 2000 only shown 13 three (words 5 2 2)  -- a sixth state
@@ -95,7 +96,7 @@ rk-session-begin-wrong =
 abbrev pub rk-session-time-wrong : List (Row Input Outcome)
 rk-session-time-wrong =
     given (words 2 5 7) 1999 only shown 0 (0 ∷ 0 ∷ 0 ∷ []) (2 ∷ 5 ∷ 7 ∷ 1999 ∷ 1000 ∷ 1000 ∷ 1000 ∷ 0 ∷ [])  -- beats too early
-    ∷ given (words 2 5 7) 3000 only shown 0 (0x53303033 ∷ 5 ∷ 0 ∷ []) (2 ∷ 6 ∷ 7 ∷ 3000 ∷ 3000 ∷ 1000 ∷ 1000 ∷ 0 ∷ [])  -- dead at two intervals exactly
+    ∷ given (words 2 5 7) 3000 only shown 0 (spelled "S003" ∷ 5 ∷ 0 ∷ []) (2 ∷ 6 ∷ 7 ∷ 3000 ∷ 3000 ∷ 1000 ∷ 1000 ∷ 0 ∷ [])  -- dead at two intervals exactly
     ∷ given (words 2 5 7) 3001 only shown 0 (0 ∷ 0 ∷ 1 ∷ []) (4 ∷ 5 ∷ 7 ∷ 3001 ∷ 1000 ∷ 1000 ∷ 1000 ∷ 0 ∷ [])  -- beats on a dead line
     ∷ given (1 ∷ 2 ∷ 1 ∷ 9 ∷ 9 ∷ 0 ∷ 0 ∷ 0 ∷ []) 99999 only shown 0 (0 ∷ 0 ∷ 0 ∷ []) (1 ∷ 2 ∷ 1 ∷ 99999 ∷ 9 ∷ 0 ∷ 0 ∷ 0 ∷ [])  -- beats before the logon answer
     ∷ given (words 2 5 7) 10 only shown 0 (0 ∷ 0 ∷ 0 ∷ []) (words 2 5 7)  -- moves the clock back
@@ -103,14 +104,14 @@ rk-session-time-wrong =
 
 abbrev pub rk-session-leave-wrong : List (Row Input Outcome)
 rk-session-leave-wrong =
-    given (words 2 5 7) 1500 only shown 0 (0x53303032 ∷ 5 ∷ 0 ∷ []) (3 ∷ 6 ∷ 7 ∷ 1500 ∷ 1500 ∷ 1000 ∷ 1000 ∷ 0 ∷ [])
+    given (words 2 5 7) 1500 only shown 0 (spelled "S002" ∷ 5 ∷ 0 ∷ []) (3 ∷ 6 ∷ 7 ∷ 1500 ∷ 1500 ∷ 1000 ∷ 1000 ∷ 0 ∷ [])
     ∷ given (words 3 6 7) 1500 only shown 32 three (words 3 6 7)  -- a second logout
-    ∷ given (words 1 2 1) 1500 never shown 0 (0x53303032 ∷ 2 ∷ 0 ∷ []) (3 ∷ 3 ∷ 1 ∷ 1500 ∷ 1500 ∷ 1000 ∷ 1000 ∷ 0 ∷ [])  -- talks before the logon answer
+    ∷ given (words 1 2 1) 1500 never shown 0 (spelled "S002" ∷ 2 ∷ 0 ∷ []) (3 ∷ 3 ∷ 1 ∷ 1500 ∷ 1500 ∷ 1000 ∷ 1000 ∷ 0 ∷ [])  -- talks before the logon answer
     ∷ []
 
 abbrev pub rk-session-ask-wrong : List (Row Input Outcome)
 rk-session-ask-wrong =
-    given (words 2 5 7) 1500 only shown 0 (0x50303032 ∷ 5 ∷ 0 ∷ []) (2 ∷ 6 ∷ 7 ∷ 1500 ∷ 1500 ∷ 1000 ∷ 1000 ∷ 0 ∷ [])
+    given (words 2 5 7) 1500 only shown 0 (spelled "P002" ∷ 5 ∷ 0 ∷ []) (2 ∷ 6 ∷ 7 ∷ 1500 ∷ 1500 ∷ 1000 ∷ 1000 ∷ 0 ∷ [])
     ∷ given (words 1 2 1) 1500 only shown 30 three (words 1 2 1)  -- a request before the logon answer
     ∷ given (words 3 6 7) 1500 only shown 32 three (words 3 6 7)  -- a request after our logout
     ∷ []
