@@ -77,9 +77,9 @@ unfolding strideBy strideOf
 stride-is t x e = rw e
 
 -- and what is counted of it stays in 64 bits
-pub add-fits : (w : List ℕ) (p : ℕ) (t : Taken) (s : Sums) (start : ℕ) → t ≡ takenOf (seenOf (drop p w)) → p < length w → start + length w < 2 ^ 64 → s .bytes ≤ start + p → Right s
+pub add-fits : (w : List ℕ) (p : ℕ) (t : Taken) (s : Sums) → t ≡ takenOf (seenOf (drop p w)) → p < length w → length w < 2 ^ 64 → s .bytes ≤ p → Right s
     → (s .bytes + t .size < 2 ^ 64) × ((s .frames < 2 ^ 64 - 1) × ((s .found < 2 ^ 64 - 1) × (s .unjudged + t .unjudged < 2 ^ 64)))
-add-fits w p t s start e h f b r =
+add-fits w p t s e h f b r =
     let z : t .size ≡ seenOf (drop p w) .size = ap (λ (y : Taken). y .size) e in
     let u : t .unjudged ≡ unjudgedBy (seenOf (drop p w) .«msg_type») = ap (λ (y : Taken). y .unjudged) e in
     let i = size-inside w p (seenOf (drop p w)) refl (omega arith) in

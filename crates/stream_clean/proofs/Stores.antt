@@ -16,7 +16,6 @@ use Rattle.stream.specs.declared.Standing.{Standing}
 use Rattle.stream.specs.Standing.{whole, restOf, Ready}
 use Rattle.stream.specs.Pushed.{waiting-is, rest-stands}
 use Rattle.stream_clean_spec.specs.declared.Sums.{Sums}
-use Rattle.stream_clean_spec.specs.Wash.{noSums}
 use Rattle.stream_clean_spec.specs.Runs.{RanIs}
 use Rattle.stream_clean_spec.specs.Calls.{washedFor}
 use Rattle.stream_clean_spec.specs.CallLaws.{Promised, number-0, rest-short, fits-counted, done-call}
@@ -25,14 +24,14 @@ use Rattle.stream_clean.specs.Cleaned.{washedOf}
 pub may-ready : (st : Standing) (kept : List ℕ) (n : ℕ) → length kept ≡ 8191 → mayTake (whole st kept) n ≡ 0 → Ready st kept n
 may-ready st kept n l z = let f = may-facts (whole st kept) n z in record { size = l; sound = f .0; fits = f .1 .1 }
 
-module _ (st : Standing) (kept cut : List ℕ) (r : Ready st kept (length cut)) (closing : Bool) (d d′ : List ℕ) (at : ℕ) (b : Bool) (sums : Sums) (z : RanIs (take (st .len) kept ++ cut) (st .place) (st .seeking) closing noSums d d′ at b sums) where
+module _ (st : Standing) (kept cut : List ℕ) (r : Ready st kept (length cut)) (closing : Bool) (d d′ : List ℕ) (at : ℕ) (b : Bool) (sums : Sums) (z : RanIs (take (st .len) kept ++ cut) (st .place) (st .seeking) closing d d′ at b sums) where
   abbrev w : List ℕ
   w = headOf (st .len) kept ++ cut
 
   long : length w ≡ st .len + length cut
   long = joined-length (st .len) kept cut
 
-  ran : RanIs w (st .place) (st .seeking) closing noSums d d′ at b sums
+  ran : RanIs w (st .place) (st .seeking) closing d d′ at b sums
   ran = rw (← waiting-is st kept cut r) z
 
   pub ran-inside : at ≤ st .len + length cut

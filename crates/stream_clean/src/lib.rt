@@ -15,7 +15,7 @@ ghost use Rattle.private.specs.Scrub.{scrubbed};
 ghost use Rattle.stream_spec.specs.Run.{waitsAt, passedOver};
 ghost use Rattle.stream_spec.specs.Calls.{Feed, Close, mayTake};
 ghost use Rattle.stream.specs.Standing.{whole, Ready};
-ghost use Rattle.stream_clean_spec.specs.Wash.{unjudgedBy, noSums, plus};
+ghost use Rattle.stream_clean_spec.specs.Wash.{unjudgedBy, plus};
 ghost use Rattle.stream_clean_spec.specs.Runs.{oneBy, RanIs};
 ghost use Rattle.stream_clean_spec.specs.Calls.{washedFor, answerFor, nextFor, leavesFor, answerTo, nextOf, leaves, washedPaper, refusedBy};
 ghost use Rattle.stream_clean.specs.Taken.{TakenIs, strideBy};
@@ -201,7 +201,7 @@ fn added(sums: Sums, seeking: bool, taken: Taken) -> Sums
 // the front of out, as far as they have room.
 fn wash(a: &[u8], b: &[u8], seek: bool, closing: bool, out: &mut [u8]) -> Ran
     requires { ⌜ length (now a) + length (now b) < 2 ^ 64 ⌝ }
-    ensures { λ r. ⌜ ((base : ℕ) → RanIs (now (a .entry) ++ now (b .entry)) base seek closing noSums (now (out .entry)) (now (out .exit)) (r .at) (r .seeking) (r .sums)) ⌝ }
+    ensures { λ r. ⌜ ((base : ℕ) → RanIs (now (a .entry) ++ now (b .entry)) base seek closing (now (out .entry)) (now (out .exit)) (r .at) (r .seeking) (r .sums)) ⌝ }
 {
     let end = a.len() + b.len();
     let mut p: usize = 0;

@@ -15,9 +15,9 @@ use Rattle.stream_spec.specs.State.{headOf, meantBy, valueOf}
 use Rattle.stream_spec.specs.Calls.{feedOf, behindOf, mayTake}
 use Rattle.stream_clean_spec.specs.declared.Sums.{Sums}
 use Rattle.stream_clean_spec.specs.declared.Washed.{Washed}
-use Rattle.stream_clean_spec.specs.Wash.{noSums, sumsOf, lays}
+use Rattle.stream_clean_spec.specs.Wash.{sumsOf, lays}
 use Rattle.stream_clean_spec.specs.Calls.{gotOf, readsFor, washedFor, sumsFor, washBehind, numberFor, answerFor, nextFor, leavesFor, washedPaper, refusedBy}
-use Rattle.stream_clean_spec.specs.LayLaws.{none-plus, washed-length, lays-all}
+use Rattle.stream_clean_spec.specs.LayLaws.{washed-length, lays-all}
 use Rattle.stream_clean_spec.specs.Runs.{RanIs}
 use Rattle.stream_clean_spec.specs.CutLaws.{bounds, washed-short, meant-run, seeking-is}
 
@@ -54,7 +54,7 @@ module _ (x : Stream) (closing : Bool) (cut : List ℕ) where
   refused-call d r why e n = rw (e, n, refusal-not-0 why) (refl, (refl, refl))
 
 -- THE RUN OF A CALL over the kept bytes and the cut, where what it leaves is kept in front of zeros
-module _ (x : Stream) (closing : Bool) (cut d d′ : List ℕ) (at : ℕ) (b : Bool) (sums : Sums) (z : RanIs (headOf (x .len) (x .kept) ++ cut) (x .place) (x .seeking) closing noSums d d′ at b sums) where
+module _ (x : Stream) (closing : Bool) (cut d d′ : List ℕ) (at : ℕ) (b : Bool) (sums : Sums) (z : RanIs (headOf (x .len) (x .kept) ++ cut) (x .place) (x .seeking) closing d d′ at b sums) where
   abbrev w : List ℕ
   w = headOf (x .len) (x .kept) ++ cut
 
@@ -66,7 +66,7 @@ module _ (x : Stream) (closing : Bool) (cut d d′ : List ℕ) (at : ℕ) (b : B
   rest-short = rw (← rest) (bounds x closing cut .0)
 
   summed-is : sums ≡ sumsFor x closing cut
-  summed-is = z .summed ∙ none-plus (sumsOf (x .seeking) (gotOf (x .place) (x .seeking) closing w .seen)) ∙ ap (sumsOf (x .seeking)) (sym (reads-is x closing cut))
+  summed-is = z .summed ∙ ap (sumsOf (x .seeking)) (sym (reads-is x closing cut))
 
   next-is : (kept : List ℕ) (n : ℕ) → kept ≡ drop at w ++ replicate (8191 - length (drop at w)) 0 → n ≡ length (drop at w)
       → _≡_ {A = Stream} (record { place = x .place + at; seeking = b; closed = closing; len = n; kept = kept; tally = x .tally }) (washBehind x closing cut)

@@ -29,7 +29,7 @@ use Rattle.stream_spec.specs.RunLaws.{in-frame, in-more, in-bad, passed, not-pa
 use Rattle.stream_clean_spec.specs.declared.Sums.{Sums}
 use Rattle.stream_clean_spec.specs.Wash.{Cut, cutOf, saysBy, unjudgedBy, noSums, plus, oneOf, seeksAfter, sumsOf, lays}
 use Rattle.stream_clean_spec.specs.Calls.{gotOf}
-use Rattle.stream_clean_spec.specs.LayLaws.{plus-assoc, plus-none, plus-bytes, laid-length}
+use Rattle.stream_clean_spec.specs.LayLaws.{plus-assoc, plus-none, none-plus, plus-bytes, laid-length}
 
 -- a frame is all there
 pub own-length : (s : List ℕ) → length (take (seenOf s .size) s) ≡ seenOf s .size
@@ -94,7 +94,7 @@ pub record Right (s : Sums) : Type 0 where
   pub found : s .found ≤ s .frames
   pub unjudged : s .unjudged ≤ s .frames
 
-pub right-none : Right noSums
+right-none : Right noSums
 right-none = record { frames = omega arith; found = omega arith; unjudged = omega arith }
 
 pick-most : (b : Bool) (n : ℕ) → pick b n 0 ≤ n
@@ -136,33 +136,33 @@ right-plus seeking s t r =
 -- THE LOOP
 
 -- a run stopped at this place of the window, in this mode, with these sums, and left this
-pub record RanIs (w : List ℕ) (base : ℕ) (seek closing : Bool) (start : Sums) (d d′ : List ℕ) (at : ℕ) (seeking : Bool) (sums : Sums) : Type 0 where
+pub record RanIs (w : List ℕ) (base : ℕ) (seek closing : Bool) (d d′ : List ℕ) (at : ℕ) (seeking : Bool) (sums : Sums) : Type 0 where
   pub inside : at ≤ length w
   pub mode : gotOf base seek closing w .mode ≡ modeOf seeking
   pub place : gotOf base seek closing w .place ≡ base + at
   pub kept : gotOf base seek closing w .kept ≡ drop at w
-  pub summed : sums ≡ plus start (sumsOf seek (gotOf base seek closing w .seen))
-  pub written : d′ ≡ lays (start .bytes) (gotOf base seek closing w .seen) d
+  pub summed : sums ≡ sumsOf seek (gotOf base seek closing w .seen)
+  pub written : d′ ≡ lays 0 (gotOf base seek closing w .seen) d
 
-pub record Left (w out₀ : List ℕ) (base : ℕ) (seek closing : Bool) (s₀ : Sums) (out : List ℕ) (p : ℕ) (seeking : Bool) (s : Sums) : Type 0 where
+pub record Left (w out₀ : List ℕ) (base : ℕ) (seek closing : Bool) (out : List ℕ) (p : ℕ) (seeking : Bool) (s : Sums) : Type 0 where
   pub inside : p ≤ length w
-  pub few : s .bytes ≤ s₀ .bytes + p
+  pub few : s .bytes ≤ p
   pub right : Right s
   pub room : length out ≡ length out₀
   pub mode : ranAt cutOf (saysBy closing) seeking base p w .mode ≡ gotOf base seek closing w .mode
   pub place : ranAt cutOf (saysBy closing) seeking base p w .place ≡ gotOf base seek closing w .place
   pub kept : ranAt cutOf (saysBy closing) seeking base p w .kept ≡ gotOf base seek closing w .kept
-  pub written : lays (s .bytes) (ranAt cutOf (saysBy closing) seeking base p w .seen) out ≡ lays (s₀ .bytes) (gotOf base seek closing w .seen) out₀
-  pub summed : plus s (sumsOf seeking (ranAt cutOf (saysBy closing) seeking base p w .seen)) ≡ plus s₀ (sumsOf seek (gotOf base seek closing w .seen))
+  pub written : lays (s .bytes) (ranAt cutOf (saysBy closing) seeking base p w .seen) out ≡ lays 0 (gotOf base seek closing w .seen) out₀
+  pub summed : plus s (sumsOf seeking (ranAt cutOf (saysBy closing) seeking base p w .seen)) ≡ sumsOf seek (gotOf base seek closing w .seen)
 
-pub left-start : (w out : List ℕ) (base : ℕ) (seek closing : Bool) (s : Sums) → Right s → Left w out base seek closing s out 0 seek s
-left-start w out base seek closing s r =
+pub left-start : (w out : List ℕ) (base : ℕ) (seek closing : Bool) → Left w out base seek closing out 0 seek noSums
+left-start w out base seek closing =
     let e : base + 0 ≡ base = omega arith in
-    record { inside = omega arith; few = omega arith; right = r; room = refl; mode = rw e; place = rw e; kept = rw e; written = rw e; summed = rw e }
+    record { inside = omega arith; few = omega arith; right = right-none; room = refl; mode = rw e; place = rw e; kept = rw e; written = rw e; summed = none-plus _ ∙ rw e }
 
-module _ (w out₀ : List ℕ) (base : ℕ) (seek closing : Bool) (s₀ : Sums) (out : List ℕ) (p : ℕ) (seeking : Bool) (s : Sums) (z : Left w out₀ base seek closing s₀ out p seeking s) where
+module _ (w out₀ : List ℕ) (base : ℕ) (seek closing : Bool) (out : List ℕ) (p : ℕ) (seeking : Bool) (s : Sums) (z : Left w out₀ base seek closing out p seeking s) where
   module _ (h : p < length w) (n : waitsAt closing (seenNumber (seenOf (drop p w))) ≡ false) where
-    pub left-over : passedOver seeking (seenNumber (seenOf (drop p w))) ≡ true → Left w out₀ base seek closing s₀ out (p + 1) seeking s
+    pub left-over : passedOver seeking (seenNumber (seenOf (drop p w))) ≡ true → Left w out₀ base seek closing out (p + 1) seeking s
     left-over v =
         let q = over seeking closing base p w h n v in
         record {
@@ -192,7 +192,7 @@ module _ (w out₀ : List ℕ) (base : ℕ) (seek closing : Bool) (s₀ : Sums) 
 
     pub left-note : (s′ : Sums) (out′ : List ℕ) → passedOver seeking (seenNumber (seenOf (drop p w))) ≡ false
         → s′ ≡ plus s (oneBy seeking (seenNumber (seenOf (drop p w))) (seenOf (drop p w) .size) (unjudgedBy (seenOf (drop p w) .«msg_type»))) → out′ ≡ laidIfRoom (s .bytes) (scrubbed (take (seenOf (drop p w) .size) (drop p w))) out
-        → Left w out₀ base seek closing s₀ out′ (p + strideOf (seenOf (drop p w))) (seeksAfter (seenOf (drop p w))) s′
+        → Left w out₀ base seek closing out′ (p + strideOf (seenOf (drop p w))) (seeksAfter (seenOf (drop p w))) s′
     unfolding lays sumsOf
     left-note s′ out′ v e g =
         let q = read-at seeking closing base p w h n v in
@@ -211,7 +211,7 @@ module _ (w out₀ : List ℕ) (base : ℕ) (seek closing : Bool) (s₀ : Sums) 
           summed = rw u (plus-assoc s _ _ ∙ rw q at (z .summed));
         }
 
-  stop : (l : List ℕ) → ranAt cutOf (saysBy closing) seeking base p w ≡ halt (modeOf seeking) (base + p) l → l ≡ drop p w → RanIs w base seek closing s₀ out₀ out p seeking s
+  stop : (l : List ℕ) → ranAt cutOf (saysBy closing) seeking base p w ≡ halt (modeOf seeking) (base + p) l → l ≡ drop p w → RanIs w base seek closing out₀ out p seeking s
   unfolding lays sumsOf
   stop l q e =
       record {
@@ -223,8 +223,8 @@ module _ (w out₀ : List ℕ) (base : ℕ) (seek closing : Bool) (s₀ : Sums) 
         written = rw q at (z .written);
       }
 
-  pub left-wait : p < length w → waitsAt closing (seenNumber (seenOf (drop p w))) ≡ true → RanIs w base seek closing s₀ out₀ out p seeking s
+  pub left-wait : p < length w → waitsAt closing (seenNumber (seenOf (drop p w))) ≡ true → RanIs w base seek closing out₀ out p seeking s
   left-wait h a = stop (drop p w) (ran-more cutOf (saysBy closing) seeking base p w h (in-more closing (seenOf (drop p w)) a)) refl
 
-  pub left-end : length w ≤ p → RanIs w base seek closing s₀ out₀ out p seeking s
+  pub left-end : length w ≤ p → RanIs w base seek closing out₀ out p seeking s
   left-end h = stop [] (ran-end cutOf (saysBy closing) seeking base p w h) (sym (drop-of-length-le w h))

@@ -13,7 +13,7 @@ use Rattle.reading.specs.Seen.{seenOf, seenNumber}
 use Rattle.stream_spec.specs.Run.{waitsAt, passedOver, strideOf}
 use Rattle.stream_clean_spec.specs.Wash.{plus}
 use Rattle.stream_clean_spec.specs.LayLaws.{laid-length}
-use Rattle.stream_clean_spec.specs.Runs.{oneBy, right-none, Left, left-start, left-over, left-far, left-note, left-wait, left-end}
+use Rattle.stream_clean_spec.specs.Runs.{oneBy, Left, left-start, left-over, left-far, left-note, left-wait, left-end}
 use Rattle.stream_clean.specs.declared.Taken.{Taken}
 use Rattle.stream_clean.specs.Taken.{takenOf}
 use Rattle.stream_clean.proofs.Readings.{wait-laid, pass-laid, stride-is, add-fits}
@@ -21,7 +21,7 @@ use Rattle.stream_clean.proofs.wash.Statement.{statement}
 use Rattle.stream_clean.proofs.wash.Tie as tie
 
 abbrev Inv-loop : tie.InvT-loop
-Inv-loop a b seek closing out₀ end p₀ seeking₀ sums₀ out p seeking sums = (base : ℕ) → Left (a ++ b) out₀ base seeking₀ closing sums₀ out p seeking sums
+Inv-loop a b seek closing out₀ end p₀ seeking₀ sums₀ out p seeking sums = (base : ℕ) → Left (a ++ b) out₀ base seeking₀ closing out p seeking sums
 
 abbrev μ-loop : tie.MeasureT-loop
 μ-loop a b seek closing out₀ end p₀ seeking₀ sums₀ out p seeking sums = length a + length b - p
@@ -58,7 +58,7 @@ not-waiting c = waiting (c .before) ∙ c .if1 .left
 
 -- how far a reading goes
 far : (c : tie.Else2 Inv-loop μ-loop) → (1 ≤ strideOf (seen (c .before .before .before .before .before .before .before .before .before))) × (c .before .before .before .before .before .before .before .before .before .loop .p + strideOf (seen (c .before .before .before .before .before .before .before .before .before)) ≤ length (bytes (c .before .before .before .before .before .before .before .before .before)))
-far c = left-far _ _ _ _ _ _ _ _ _ _ (c .before .before .before .before .before .before .before .before .before .loop .inv 0) (inside (c .before .before .before .before .before .before .before .before)) (not-waiting (c .before .before)) (passing (c .before) ∙ c .if2 .left)
+far c = left-far _ _ _ _ _ _ _ _ _ (c .before .before .before .before .before .before .before .before .before .loop .inv 0) (inside (c .before .before .before .before .before .before .before .before)) (not-waiting (c .before .before)) (passing (c .before) ∙ c .if2 .left)
 
 stride-of : (c : tie.After-stride Inv-loop μ-loop) → c .stride .result ≡ strideOf (seen (c .before .before .before .before .before .before .before .before .before .before .before))
 stride-of c = c .stride .ensures ∙ stride-is _ _ (is-taken (c .before .before .before .before .before .before .before .before))
@@ -67,7 +67,7 @@ add-end : tie.Need-add-end Inv-loop μ-loop
 add-end c = search needs
 
 loop-holds : tie.Need-loop-holds Inv-loop μ-loop
-loop-holds c = λ base. left-start _ _ _ _ _ _ right-none
+loop-holds c = λ base. left-start _ _ _ _ _
 
 take-in-requires : tie.Need-take-in-requires Inv-loop μ-loop
 take-in-requires c κs = search needs
@@ -87,12 +87,12 @@ loop-less c = omega (arith, c .before .before .before .before .before .before .b
 loop-again : tie.Need-loop-again Inv-loop μ-loop
 loop-again c = λ base.
     rw (pass-laid _ _ _ _ _ (passing (c .before) ∙ c .if2 .taken) (c .before .before .before .before .before .before .take-in .ensures .1))
-    (left-over _ _ _ _ _ _ _ _ _ _ (c .before .before .before .before .before .before .before .before .before .loop .inv base) (inside (c .before .before .before .before .before .before .before .before)) (not-waiting (c .before .before)) (passing (c .before) ∙ c .if2 .taken))
+    (left-over _ _ _ _ _ _ _ _ _ (c .before .before .before .before .before .before .before .before .before .loop .inv base) (inside (c .before .before .before .before .before .before .before .before)) (not-waiting (c .before .before)) (passing (c .before) ∙ c .if2 .taken))
 
 added-requires : tie.Need-added-requires Inv-loop μ-loop
 added-requires c κs =
     let s = c .before .before .before .before .before .before .before .before .before in
-    add-fits (bytes s) (s .loop .p) _ _ 0 (is-taken (c .before .before .before .before .before .before)) (inside (c .before .before .before .before .before .before .before .before)) (omega (arith, long s, start s .pre)) (s .loop .inv 0 .few) (s .loop .inv 0 .right)
+    add-fits (bytes s) (s .loop .p) _ _ (is-taken (c .before .before .before .before .before .before)) (inside (c .before .before .before .before .before .before .before .before)) (omega (arith, long s, start s .pre)) (s .loop .inv 0 .few) (s .loop .inv 0 .right)
 
 stride-requires : tie.Need-stride-requires Inv-loop μ-loop
 stride-requires c κs = search needs
@@ -107,14 +107,14 @@ loop-again-2 : tie.Need-loop-again-2 Inv-loop μ-loop
 loop-again-2 c = λ base.
     let s = c .before .before .before .before .before .before .before .before .before .before .before in
     rw (stride-of c, ap (λ (t : Taken). t .answer) (is-taken (c .before .before .before .before .before .before .before .before)))
-    (left-note _ _ _ _ _ _ _ _ _ _ (s .loop .inv base) (inside (c .before .before .before .before .before .before .before .before .before .before)) (not-waiting (c .before .before .before .before)) _ _ (passing (c .before .before .before) ∙ c .before .before .if2 .left)
+    (left-note _ _ _ _ _ _ _ _ _ (s .loop .inv base) (inside (c .before .before .before .before .before .before .before .before .before .before)) (not-waiting (c .before .before .before .before)) _ _ (passing (c .before .before .before) ∙ c .before .before .if2 .left)
     (c .before .added .ensures ∙ ap (λ (t : Taken). plus (s .loop .sums) (oneBy (s .loop .seeking) (t .answer) (t .size) (t .unjudged))) (is-taken (c .before .before .before .before .before .before .before .before))) (c .before .before .before .before .before .before .before .before .take-in .ensures .1))
 
 same-length : tie.Need-same-length Inv-loop μ-loop
 same-length c = c .before .loop .inv 0 .room
 
 returns : tie.Need-returns Inv-loop μ-loop
-returns c = λ base. left-end _ _ _ _ _ _ _ _ _ _ (c .before .loop .inv base) (omega (arith, c .loop-test .left, long (c .before)))
+returns c = λ base. left-end _ _ _ _ _ _ _ _ _ (c .before .loop .inv base) (omega (arith, c .loop-test .left, long (c .before)))
 
 same-length-2 : tie.Need-same-length-2 Inv-loop μ-loop
 same-length-2 c = ap length (c .before .before .before .before .take-in .ensures .1) ∙ laid-length _ _ _ ∙ c .before .before .before .before .before .before .before .loop .inv 0 .room
@@ -122,7 +122,7 @@ same-length-2 c = ap length (c .before .before .before .before .take-in .ensures
 returns-2 : tie.Need-returns-2 Inv-loop μ-loop
 returns-2 c = λ base.
     rw (wait-laid _ _ _ _ _ (waiting (c .before) ∙ c .if1 .taken) (c .before .before .before .before .take-in .ensures .1))
-    (left-wait _ _ _ _ _ _ _ _ _ _ (c .before .before .before .before .before .before .before .loop .inv base) (inside (c .before .before .before .before .before .before)) (waiting (c .before) ∙ c .if1 .taken))
+    (left-wait _ _ _ _ _ _ _ _ _ (c .before .before .before .before .before .before .before .loop .inv base) (inside (c .before .before .before .before .before .before)) (waiting (c .before) ∙ c .if1 .taken))
 
 pub wash-spec : {M : Type 1} → statement M
 wash-spec = tie.close (tie.spec Inv-loop μ-loop add-end loop-holds take-in-requires waits-requires passes-requires add-p loop-less loop-again added-requires stride-requires add-p-2 loop-less-2 loop-again-2 same-length returns same-length-2 returns-2)
