@@ -7,6 +7,7 @@ use mathlib.Core.List.{List, [], _∷_, _++_}
 use denote.Ref.{now}
 use lib.Count.{ones}
 use lib.ListN.{length, replicate}
+use Rattle.terms.specs.Letters.{spelled}
 use Rattle.terms.specs.Paper.{Paper}
 use Rattle.terms.specs.Refusals.{refusalOf}
 use Rattle.terms.specs.Counters.{tickOf}
@@ -97,9 +98,9 @@ rk-walk-rules-out =
 -- RK_RECORD: bytes, and the told row before
 abbrev pub rk-record-wrong : List (Row (List ℕ × List ℕ) (ℕ × List ℕ))
 rk-record-wrong =
-    (recordOf recordB, replicate 9 7) only (0, 29 ∷ 0x50303031 ∷ 0 ∷ 2 ∷ 3 ∷ 100 ∷ 12 ∷ 0 ∷ 3 ∷ [])
-    ∷ (recordOf recordB, replicate 9 7) never (0, 29 ∷ 0x50303031 ∷ 0 ∷ 2 ∷ 100 ∷ 3 ∷ 12 ∷ 0 ∷ 3 ∷ [])  -- tick number and channel swapped
-    ∷ (recordOf recordFF ++ (9 ∷ []), replicate 9 7) only (0, 28 ∷ 0x20202020 ∷ 2 ∷ 0 ∷ 0 ∷ 0 ∷ 0 ∷ 0 ∷ 0 ∷ [])  -- what stands behind it told of
+    (recordOf recordB, replicate 9 7) only (0, 29 ∷ spelled "P001" ∷ 0 ∷ 2 ∷ 3 ∷ 100 ∷ 12 ∷ 0 ∷ 3 ∷ [])
+    ∷ (recordOf recordB, replicate 9 7) never (0, 29 ∷ spelled "P001" ∷ 0 ∷ 2 ∷ 100 ∷ 3 ∷ 12 ∷ 0 ∷ 3 ∷ [])  -- tick number and channel swapped
+    ∷ (recordOf recordFF ++ (9 ∷ []), replicate 9 7) only (0, 28 ∷ spelled "    " ∷ 2 ∷ 0 ∷ 0 ∷ 0 ∷ 0 ∷ 0 ∷ 0 ∷ [])  -- what stands behind it told of
     ∷ (replicate 63 0, replicate 9 7) only (1, replicate 9 7)  -- a record cut short told as if it were whole
     ∷ []
 
