@@ -515,7 +515,7 @@ uint32_t rk_is_clean(const uint8_t *capture, size_t len, rk_found *told);
 /* Bytes come in cuts of any size, even empty ones; a closing call ends them. However they are cut,
  * the records of all calls, the counts and the ledger are those of rk_walk over the joined bytes of
  * the calls that were not refused. Between calls at most 8,191 bytes wait: those that may still
- * become a frame. Each call takes some microseconds, so collect single bytes first.
+ * become a frame. A call takes a fraction of a microsecond even for one byte: collect bytes first.
  *
  * Keep and copy the struct as you like, but do not read or make its words and bytes. The ledger may
  * be passed to rk_listing, rk_ledger_told, rk_ledger_missing, rk_ledger_request, rk_ledger_reply
@@ -548,14 +548,14 @@ uint32_t rk_stream_open(uint64_t words[6], rk_ledger *ledger, uint8_t kept[8191]
 
 /* One more cut: a record of 64 bytes for each reading that it decides.
  * RK_RECORDS_ROOM(waiting + cut_len) bytes are always room enough. After 8 you may pass the same
- * cut again, with more room. It takes up to 26 KB of stack.
+ * cut again, with more room.
  * Returns 0, 8, 13, 19, 29. 0 writes the first 64 * told->records bytes of records, and words,
  * *ledger, kept and *told. */
 uint32_t rk_stream_feed(uint64_t words[6], rk_ledger *ledger, uint8_t kept[8191], const uint8_t *cut, size_t cut_len, uint8_t *records,
                         size_t records_len, rk_fed *told);
 
 /* Ends the stream: what waits is walked as the end of a capture. RK_RECORDS_ROOM(waiting) bytes are
- * always room enough. After 8 the stream is still open. It takes up to 10 KB of stack.
+ * always room enough. After 8 the stream is still open.
  * Returns 0, 8, 13, 19. 0 writes the first 64 * told->records bytes of records, and words, *ledger,
  * kept and *told. */
 uint32_t rk_stream_close(uint64_t words[6], rk_ledger *ledger, uint8_t kept[8191], uint8_t *records, size_t records_len, rk_fed *told);
@@ -578,14 +578,14 @@ RK_SIZE(rk_scrubbed, 6);
 /* One more cut: the accepted frames that it decides go to the front of out, each scrubbed; other
  * bytes are left out. waiting + cut_len bytes are always room enough. After 8 you may pass the same
  * cut again, with more room. While it runs, out briefly holds each frame unscrubbed: use memory of
- * your own, not a mapped file. It takes up to 135 KB of stack.
+ * your own, not a mapped file.
  * Returns 0, 8, 13, 19, 29. 0 writes the first told->bytes bytes of out, and words, *ledger, kept
  * and *told. */
 uint32_t rk_stream_clean(uint64_t words[6], rk_ledger *ledger, uint8_t kept[8191], const uint8_t *cut, size_t cut_len, uint8_t *out,
                          size_t out_len, rk_scrubbed *told);
 
 /* Ends the stream: what waits is cleaned as the end of a capture. waiting bytes are always room
- * enough. After 8 the stream is still open. It takes up to 135 KB of stack.
+ * enough. After 8 the stream is still open.
  * Returns 0, 8, 13, 19. 0 writes the first told->bytes bytes of out, and words, *ledger, kept and
  * *told. */
 uint32_t rk_stream_clean_close(uint64_t words[6], rk_ledger *ledger, uint8_t kept[8191], uint8_t *out, size_t out_len, rk_scrubbed *told);

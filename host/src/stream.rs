@@ -48,7 +48,7 @@ impl Stream {
 
     /// One more cut, perhaps empty: the records of the readings that it decides, at the front of
     /// `records`; 8 if they do not fit. `records_room` of the bytes that wait and the cut's is
-    /// always enough. See `rk_stream_feed` in rietknoest.h for the stack that it takes.
+    /// always enough. It takes at most 2 KB of stack.
     pub fn feed(&mut self, cut: &[u8], records: &mut [u8]) -> Result<Fed, Refusal> {
         let mut fed = Fed::default();
         let (words, ledger, kept) = self.parts();
@@ -57,7 +57,7 @@ impl Stream {
     }
 
     /// Ends the stream: what waits is walked as the end of a capture. After 8 the stream is still
-    /// open. See `rk_stream_close` in rietknoest.h for the stack that it takes.
+    /// open. It takes at most 2 KB of stack.
     pub fn close(&mut self, records: &mut [u8]) -> Result<Fed, Refusal> {
         let mut fed = Fed::default();
         let (words, ledger, kept) = self.parts();
@@ -122,7 +122,7 @@ impl Scrubber {
 
     /// One more cut, perhaps empty: the accepted frames that it decides, each scrubbed, at the
     /// front of `out`; 8 if they do not fit. As many bytes as wait and the cut has are always
-    /// enough. See `rk_stream_clean` in rietknoest.h for the stack that it takes.
+    /// enough. It takes at most 2 KB of stack.
     pub fn clean(&mut self, cut: &[u8], out: &mut [u8]) -> Result<Scrubbed, Refusal> {
         let mut scrubbed = Scrubbed::default();
         let (words, ledger, kept) = self.stream.parts();
@@ -130,8 +130,8 @@ impl Scrubber {
         result(answer, scrubbed)
     }
 
-    /// Ends it: what waits is cleaned as the end of a capture. After 8 it is still open. See
-    /// `rk_stream_clean_close` in rietknoest.h for the stack that it takes.
+    /// Ends it: what waits is cleaned as the end of a capture. After 8 it is still open. It
+    /// takes at most 2 KB of stack.
     pub fn close(&mut self, out: &mut [u8]) -> Result<Scrubbed, Refusal> {
         let mut scrubbed = Scrubbed::default();
         let (words, ledger, kept) = self.stream.parts();

@@ -418,7 +418,7 @@ fn the_header_says_how_much_stack_a_call_takes() {
     }
     let all: BTreeSet<_> = of_header().into_keys().collect();
     assert_eq!(called, all);
-    assert_eq!(stack_of(&header, "rk_stream_feed"), 26);
+    assert_eq!(stack_of(&header, "rk_stream_feed"), 2);
 }
 
 /// The header's version is that of all crates, as the pkg-config file and the command have it.
