@@ -4,23 +4,14 @@
 -- left to say are the answers.
 use Rattle.reading.specs.declared.Seen.{Seen}
 use Rattle.reading.specs.Seen.{seenNumber}
-use Rattle.stream_spec.specs.declared.Fed.{Fed}
-use Rattle.stream_spec.specs.Calls.{fedPaper}
-use Rattle.stream_clean_spec.specs.declared.Washed.{Washed}
-use Rattle.stream_clean_spec.specs.Calls.{washedPaper}
 use Rattle.terms.proofs.OneAnswer as terms
 use Rattle.record.proofs.OneAnswer as «record»
 use Rattle.listing_text.proofs.OneAnswer as listing_text
 use Rattle.reading.proofs.OneAnswer as reading
-use Rattle.reading_parts.proofs.OneAnswer as reading_parts
 use Rattle.walk_step.proofs.OneAnswer as walk_step
 use Rattle.walk.proofs.OneAnswer as walk
-use Rattle.stream_spec.proofs.OneAnswer as stream_spec
-use Rattle.stream.proofs.OneAnswer as stream
 use Rattle.clean.proofs.OneAnswer as clean
-use Rattle.stream_clean.proofs.OneAnswer as stream_clean
 use Rattle.host_captures.proofs.OneAnswer as host_captures
-use Rattle.host_stream.proofs.OneAnswer as host_stream
 use Rattle.promises_words.specs.Words.{Named, named, Numbered, verdict-numbered}
 
 -- "EVERY PUBLIC ENTRY POINT TAKES ALL INPUT": of each public function, the theorem that its promise
@@ -61,12 +52,6 @@ seen-answers =
     let see-one-answer = reading.see-one-answer in
     named
 
--- reading_parts
-parts-answers : Named
-parts-answers =
-    let see-one-answer = reading_parts.see-one-answer in
-    named
-
 -- walk_step: an offer
 offers-answers : Named
 offers-answers =
@@ -87,22 +72,6 @@ walk-answers =
     let walk-one-answer = walk.walk-one-answer in
     named
 
--- stream_spec
-flow-answers : Named
-flow-answers =
-    let Stream-opened-one-answer = stream_spec.Stream-opened-one-answer in
-    named
-
--- stream
-stream-answers : Named
-stream-answers =
-    let keep-rest-one-answer = stream.keep-rest-one-answer in
-    let may-take-one-answer = stream.may-take-one-answer in
-    let keep-rest-one-answer = stream.keep-rest-one-answer in
-    let feed-one-answer = stream.feed-one-answer in
-    let close-one-answer = stream.close-one-answer in
-    named
-
 -- listing_text: a whole listing
 lines-answers : Named
 lines-answers =
@@ -117,13 +86,6 @@ clean-answers =
     let is-clean-one-answer = clean.is-clean-one-answer in
     named
 
--- stream_clean
-stream-clean-answers : Named
-stream-clean-answers =
-    let clean-cut-one-answer = stream_clean.clean-cut-one-answer in
-    let clean-end-one-answer = stream_clean.clean-end-one-answer in
-    named
-
 -- host_captures
 host-captures-answers : Named
 host-captures-answers =
@@ -135,28 +97,11 @@ host-captures-answers =
     let rk-is-clean-one-answer = host_captures.rk-is-clean-one-answer in
     named
 
--- host_stream
-follow-answers : Named
-follow-answers =
-    let rk-stream-open-one-answer = host_stream.rk-stream-open-one-answer in
-    let rk-stream-feed-one-answer = host_stream.rk-stream-feed-one-answer in
-    let rk-stream-close-one-answer = host_stream.rk-stream-close-one-answer in
-    let rk-stream-clean-one-answer = host_stream.rk-stream-clean-one-answer in
-    let rk-stream-clean-close-one-answer = host_stream.rk-stream-clean-close-one-answer in
-    named
-
 -- "AND REFUSES WHAT IT CAN'T USE WITH A NUMBER FROM DOCUMENT 01"
 
 -- what is seen at a place
 pub seen-numbered : (x : Seen) → Numbered (seenNumber x)
 seen-numbered x = verdict-numbered (x .answer)
-
--- the calls of a stream
-pub stream-numbered : (x : Fed) → Numbered (fedPaper x .number)
-stream-numbered x = verdict-numbered (x .answer)
-
-pub stream-clean-numbered : (x : Washed) → Numbered (washedPaper x .number)
-stream-clean-numbered x = verdict-numbered (x .answer)
 
 -- "A REFUSAL WRITES NOTHING INTO A LENT BUFFER": of each function that is lent one, that its later
 -- contents are fixed, and that a refusal leaves them.
@@ -186,15 +131,6 @@ walk-buffers =
     let walk-refused-keeps = walk.walk-refused-keeps in
     named
 
-stream-buffers : Named
-stream-buffers =
-    let keep-rest-one-buffer = stream.keep-rest-one-buffer in
-    let feed-one-buffer = stream.feed-one-buffer in
-    let feed-refused-keeps = stream.feed-refused-keeps in
-    let close-one-buffer = stream.close-one-buffer in
-    let close-refused-keeps = stream.close-refused-keeps in
-    named
-
 lines-buffers : Named
 lines-buffers =
     let put-lines-one-buffer = listing_text.put-lines-one-buffer in
@@ -207,14 +143,6 @@ clean-buffers : Named
 clean-buffers =
     let clean-one-buffer = clean.clean-one-buffer in
     let clean-refused-keeps = clean.clean-refused-keeps in
-    named
-
-stream-clean-buffers : Named
-stream-clean-buffers =
-    let clean-cut-one-buffer = stream_clean.clean-cut-one-buffer in
-    let clean-cut-refused-keeps = stream_clean.clean-cut-refused-keeps in
-    let clean-end-one-buffer = stream_clean.clean-end-one-buffer in
-    let clean-end-refused-keeps = stream_clean.clean-end-refused-keeps in
     named
 
 host-captures-buffers : Named
@@ -231,18 +159,4 @@ host-captures-buffers =
     let rk-clean-refused-keeps = host_captures.rk-clean-refused-keeps in
     let rk-is-clean-one-buffer = host_captures.rk-is-clean-one-buffer in
     let rk-is-clean-refused-keeps = host_captures.rk-is-clean-refused-keeps in
-    named
-
-follow-buffers : Named
-follow-buffers =
-    let rk-stream-open-one-buffer = host_stream.rk-stream-open-one-buffer in
-    let rk-stream-open-refused-keeps = host_stream.rk-stream-open-refused-keeps in
-    let rk-stream-feed-one-buffer = host_stream.rk-stream-feed-one-buffer in
-    let rk-stream-feed-refused-keeps = host_stream.rk-stream-feed-refused-keeps in
-    let rk-stream-close-one-buffer = host_stream.rk-stream-close-one-buffer in
-    let rk-stream-close-refused-keeps = host_stream.rk-stream-close-refused-keeps in
-    let rk-stream-clean-one-buffer = host_stream.rk-stream-clean-one-buffer in
-    let rk-stream-clean-refused-keeps = host_stream.rk-stream-clean-refused-keeps in
-    let rk-stream-clean-close-one-buffer = host_stream.rk-stream-clean-close-one-buffer in
-    let rk-stream-clean-close-refused-keeps = host_stream.rk-stream-clean-close-refused-keeps in
     named

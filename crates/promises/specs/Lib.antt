@@ -1,10 +1,7 @@
 pub mod Demand1
 pub mod HostNumbers
-pub mod Cuttings
 pub mod Marked
 pub mod NamedWrong
 pub mod Parts
 pub mod Pieces
-pub mod Arriving
-pub mod HostHeard
 pub mod CheckedByPieces

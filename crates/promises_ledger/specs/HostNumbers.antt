@@ -1,14 +1,11 @@
 -- Demand 1 through the host, for the ledger: an answer is 0, or one of document 01's table. This is
 -- said of each paper that a function of `host_ledger` names in its promise; then of each function.
-use Prim.Native.Nat.{ℕ, _+_}
+use Prim.Native.Nat.{ℕ}
 use mathlib.Core.Path.{refl}
-use mathlib.Core.Bool.{_&&_, not}
 use mathlib.Core.List.{List}
 use denote.Ref.{now}
-use lib.Dec.{eqb, ltb}
-use Rattle.terms.specs.Paper.{pick}
-use Rattle.ledger_spec.specs.State.{Book, largest, has, soundOf}
-use Rattle.ledger_spec.specs.Calls.{Call, Tick, Announce, Request, Reply, Ask, Missing, Held, Between, Renew, tickNumber, replyStatus, isPending, startsAt, elsewhere, ownNumber, checkedOf, numberTo, answerTo, openNumber}
+use lib.Dec.{ltb}
+use Rattle.ledger_spec.specs.Calls.{Call, Announce, Request, Reply, Ask, Missing, Between, Renew, openNumber}
 use Rattle.host_words.specs.Words.{bookIn}
 use Rattle.host_words.specs.Calls.{callTold}
 use Rattle.host_ledger.specs.Words.{ledgerTold}
@@ -29,28 +26,7 @@ use Rattle.host_ledger.proofs.rk_ledger_missing.Kinds as rk-ledger-missing-kind
 use Rattle.host_ledger.proofs.rk_ledger_told.Reads as rk-ledger-told
 use Rattle.host_ledger.proofs.rk_ledger_told.Kinds as rk-ledger-told-kinds
 use Rattle.promises_words.specs.Words.{Promises, inTable, Numbered, done, refused, picked, tells-numbered}
-
-own : (b : Book) (call : Call) → Numbered (ownNumber b call)
-unfolding ownNumber inTable
-own b (Tick channel n) =
-    picked (not (tickNumber n)) 10 (pick (has b n) 11 (pick (ltb (b .floor + 256) n) 12 0)) (refused refl)
-    (picked (has b n) 11 (pick (ltb (b .floor + 256) n) 12 0) (refused refl) (picked (ltb (b .floor + 256) n) 12 0 (refused refl) (done refl)))
-own b (Announce channel n) = picked (ltb largest n) 10 0 (refused refl) (done refl)
-own b (Request channel) =
-    picked (isPending (b .pending)) 14 (pick (eqb (b .top) (b .floor)) 15 0) (refused refl) (picked (eqb (b .top) (b .floor)) 15 0 (refused refl) (done refl))
-own b (Reply channel first status) =
-    picked (not (replyStatus status)) 17 (pick (not (startsAt (b .pending) first)) 16 0) (refused refl) (picked (not (startsAt (b .pending) first)) 16 0 (refused refl) (done refl))
-own b (Ask Missing) = done refl
-own b (Ask Held) = done refl
-own b (Ask (Between channel a z)) = picked (not (tickNumber a && tickNumber z)) 10 0 (refused refl) (done refl)
-own b Renew = done refl
-
--- whatever is called, in whatever state
-pub calling : (b : Book) (call : Call) → Numbered (answerTo b call .number)
-unfolding answerTo numberTo checkedOf inTable
-calling b call =
-    picked (not (soundOf b)) 13 (pick (elsewhere b call) 18 (ownNumber b call)) (refused refl)
-    (picked (elsewhere b call) 18 (ownNumber b call) (refused refl) (own b call))
+use Rattle.promises_words.specs.LedgerNumbers.{calling}
 
 -- EACH PAPER OF THE HOST
 
