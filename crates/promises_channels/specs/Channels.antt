@@ -57,7 +57,7 @@ up-to-32 = Lent.lent-place
 pub each-channel : {h : History} {x : Channels} → LentRan h x → (channel : ℕ) → opened channel h ≡ true → LentChannel h channel x
 each-channel = Lent.lent-channel
 
--- "The gateway serves one resend at a time, so one request is pending for the whole table."
+-- One request at a time is pending in a table, whichever channel it is on
 pub one-pending : {h : History} {x : Channels} → LentRan h x → LentPending h x
 one-pending = Lent.lent-pending
 
@@ -77,7 +77,7 @@ first-from-first = Fair.counts-from-first
 pub first-last : emptyChannels .index .last ≡ empty .last
 first-last = refl
 
--- "A channel that stays open and keeps something missing is asked within 32 granted requests."
+-- An open channel that goes on lacking a number has one of any 32 granted requests
 pub asked-within-32 : {h g : History} {x y : Channels} (channel : ℕ) → LentRan h x → LentThen channel h x g y → grants h + 32 ≤ grants g → grantsOn channel h < grantsOn channel g
 asked-within-32 = Lent.lent-within-32
 
@@ -114,7 +114,7 @@ module _ {h : History} {x : Channels} (ran : LentRan h x) {next : Channels} {tol
   pub lowest-free : (channel : ℕ) → callOf call ≡ Open channel → answered a 0 ≡ true → LentOpens x channel next
   lowest-free = Lent.lent-opens ran call serves
 
-  -- "Closing frees its place and clears its pending request."
+  -- A channel that is closed gives back its place, and what was pending on it is gone
   pub closing-frees : (channel : ℕ) → callOf call ≡ Close channel → answered a 0 ≡ true → LentCloses x channel next
   closing-frees = Lent.lent-closes ran call serves
 

@@ -172,7 +172,7 @@ module _ (cs : List ℕ) (z : startNumber cs ≡ 0) where
         rules = rw is rules;
       }
 
--- ======== "Where none is refused, the captures in another order give the same page sums."
+-- ======== If no capture is refused, the sums do not depend on their order.
 -- And then none is refused in the other order either.
 pub any-order : (p : Page) {a b : List Capture} → Reordered a b → Unrefused p a → SamePage p a b
 any-order = Order.any-order

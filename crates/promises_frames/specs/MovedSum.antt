@@ -1,6 +1,6 @@
--- Document 02, CR 4: "Work the new checksum out of the old one: take off each byte painted over and
--- add the byte put there." `moved-right` says it of any spans; here of the frame that scrubbing
--- leaves.
+-- CR 4: the new checksum comes of the old one, less the bytes that were painted over and with those
+-- that stand there now. `moved-right` says it of any spans, and here it is said of the frame that
+-- scrubbing leaves.
 use Prim.Native.Nat.{ℕ, _+_, _≤_}
 use mathlib.Core.Path.{_≡_, sym, ap, _∙_}
 use mathlib.Core.List.{List}
