@@ -101,9 +101,9 @@ pub record M102Rules (w : ℕ) (b : List ℕ) : Type 0 where
   pub whole-entries : length b ≡ fixed M102 + field M102 12 b * w
   pub entries : (i : ℕ) → i < field M102 12 b → EntryRules (field M102 4 b) (fixed M102 + i * w) b
 
--- Document 02, CR 2: "for each stream that they name; ExecType 0 and 4 choose the order layout, F
--- the trade layout". 000, 2.5.1, names MD211 to MD216 for orders and MD217 for trades. "A stream
--- and layout that 000 doesn't pair count as a stream not named."
+-- CR 2: which layout an extension has. 000, 2.5.1, has orders on the streams MD211 to MD216 and
+-- trades on MD217; ExecType 0 or 4 is an order's, F a trade's. A stream that does not go with the
+-- layout of its ExecType is as one that no paper names.
 pub data Orders (s e : ℕ) : Type 0 where
   order-0 : spelled "MD211" ≤ s → s ≤ spelled "MD216" → e ≡ spelled "0" → Orders s e
   order-4 : spelled "MD211" ≤ s → s ≤ spelled "MD216" → e ≡ spelled "4" → Orders s e
@@ -122,9 +122,9 @@ TailRule Order n = n ≡ fixed M201 + whole orderWidths  -- 45 + 139
 TailRule Trade n = n ≡ fixed M201 + whole tradeWidths  -- 45 + 53
 TailRule Other n = n ≡ n  -- any
 
--- "M201: SecurityType 13, ExecType 0, 4 or F, ApplSeqNum above 0. The stream is not judged."
--- ChannelNO 4 digits, ApplSeqNum at most 18, TransactTime 9, Price 13, OrderQty 15. Document 02, CR
--- 2: "a tail length that doesn't suit its layout is 6".
+-- M201: which values of SecurityType and ExecType there are, and that no ApplSeqNum is 0; any
+-- stream will do. ChannelNO 4 digits, ApplSeqNum at most 18, TransactTime 9, Price 13, OrderQty 15.
+-- By CR 2 the extension has the length of its layout.
 pub record M201Rules (b : List ℕ) : Type 0 where
   pub security-type : field M201 0 b ≡ 13
   pub channel-no : field M201 1 b < 10 ^ 4
