@@ -1,5 +1,7 @@
 // Which field of a body breaks a rule: the lowest, in the order of document 01's widths. It is
 // asked where reading has answered 6.
+#![tactic(auto)]
+
 ghost use Rattle.std.specs.Prelude.{◌≡◌, ◌++◌, ◌+◌, ◌-◌, ◌≤◌, length, take, drop};
 ghost use Rattle.terms.specs.Paper.{pick};
 ghost use Rattle.rules.specs.Sizes.{Wide, Entries};
@@ -13,7 +15,7 @@ use rules::Kind;
 // its number in the order of the type's widths, counted from 0. An M201's extension is number 9.
 // The fields of an M102 entry are numbers 13 to 16: type, price, size, position; `entry` is the
 // entry's number, counted from 1, and 0 for any other field. Where every rule holds, all are 0.
-#[derive(Drop)]
+#[derive(Clone, Copy)]
 pub struct Broken {
     pub found: u64,
     pub place: usize,

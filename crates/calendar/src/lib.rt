@@ -1,5 +1,7 @@
 // Real times: whether a SendingTime, the number YYYYMMDDHHMMSSsss, is a date and a time of day
 // that there is.
+#![tactic(auto)]
+
 ghost use Rattle.std.specs.Prelude.{◌≡◌, ◌/◌, ◌%◌, ◌^◌};
 ghost use Rattle.calendar.specs.Calendar.{leap, days_in, date_ok, clock_ok, real_time};
 

@@ -1,6 +1,8 @@
 // Thirty-two channels in one table: an index, the channel of each row, and a row of nine words for
 // each place. A call looks at the index and at one row, and gives both back. Row 32 is blank and
 // never used: a call that is about no place turns to it.
+#![tactic(auto)]
+
 ghost use Rattle.std.specs.Prelude.{◌≡◌, true, [], ◌∷◌, ◌≤◌, ◌<◌, ◌^◌, min, eqb};
 ghost use Rattle.std.specs.Int.Count.{count_trailing_zeros};
 ghost use Rattle.terms.specs.Paper.{answer, refusal};
@@ -28,7 +30,7 @@ use tick_map::Map;
 // the place whose request is pending, or 32; the place last asked, 31 at first. The fields are
 // open, so that a host can hand in any state; a broken one is refused by 13.
 #[repr(C)]
-#[derive(Drop)]
+#[derive(Clone, Copy)]
 pub struct Index {
     pub used: u64,
     pub lacking: u64,
@@ -38,21 +40,21 @@ pub struct Index {
 
 // The channel of each row: the first word of the row, so that a search stays within one array.
 #[repr(C)]
-#[derive(Drop)]
+#[derive(Clone, Copy)]
 pub struct Names {
     pub channels: [u64; 33],
 }
 
 // A ledger as its nine words.
 #[repr(C)]
-#[derive(Drop)]
+#[derive(Clone, Copy)]
 pub struct Row {
     pub words: [u64; 9],
 }
 
 // The table that a host lends: 32 places, and row 32.
 #[repr(C)]
-#[derive(Drop)]
+#[derive(Clone, Copy)]
 pub struct Channels {
     pub names: Names,
     pub index: Index,
@@ -63,7 +65,7 @@ pub struct Channels {
 // its status second), 6 counts what is missing from a number to a second one, 7 begins a new
 // session of the line; any other code only tells. 4 and 7 name no channel.
 #[repr(C)]
-#[derive(Drop)]
+#[derive(Clone, Copy)]
 pub struct ChannelCall {
     pub code: u64,
     pub channel: u64,
@@ -73,7 +75,7 @@ pub struct ChannelCall {
 
 // What a call is answered: the number, and the values that its paper has beside it, then zeros.
 #[repr(C)]
-#[derive(Drop)]
+#[derive(Clone, Copy)]
 pub struct ChannelTold {
     pub answer: u64,
     pub values: [u64; 9],
@@ -81,7 +83,7 @@ pub struct ChannelTold {
 
 // The row that a call is about, or 32; the channel beside it; and whether no second open place has
 // the channel that the call names.
-#[derive(Drop)]
+#[derive(Clone, Copy)]
 pub struct Turn {
     pub at: usize,
     pub name: u64,
@@ -90,7 +92,7 @@ pub struct Turn {
 
 // What a call leaves of the index, of the row that it is about and of the channel beside that, and
 // what it tells.
-#[derive(Drop)]
+#[derive(Clone, Copy)]
 pub struct Answered {
     pub index: Index,
     pub name: u64,

@@ -1,5 +1,7 @@
 // A whole capture, scrubbed: its accepted frames in order, stray bytes left out; and whether a
 // capture is clean already.
+#![tactic(auto)]
+
 ghost use Rattle.std.specs.Prelude.{◌≡◌, List, ◌∷◌, [], ◌++◌, ℕ, ◌+◌, ◌-◌, ◌≤◌, leb, ltb, length, take, drop};
 ghost use Rattle.terms.specs.Paper.{pick};
 ghost use Rattle.octets.specs.Octets.{be, laid};
@@ -19,7 +21,7 @@ use terms::Refusal;
 // What cleaning returns: 0, or 8 where the buffer can't take the cleaned bytes; how many bytes were
 // written, how many frames they are, and how many of these the search found after damage. Such a
 // frame may lie inside a damaged one, in bytes that were private there. Beside 8 the counts are 0.
-#[derive(Drop)]
+#[derive(Clone, Copy)]
 pub struct Cleaned {
     pub answer: Answer,
     pub bytes: usize,
@@ -28,7 +30,7 @@ pub struct Cleaned {
 }
 
 // Whether a capture is what cleaning it gives, or the first place where the two differ.
-#[derive(Drop)]
+#[derive(Clone, Copy)]
 pub enum Check {
     Clean,
     Changed(usize),
@@ -36,14 +38,14 @@ pub enum Check {
 
 // What became of a reading: its answer, and how many bytes its frame has, none where it
 // was refused.
-#[derive(Drop)]
+#[derive(Clone, Copy)]
 struct Kept {
     answer: u32,
     size: usize,
 }
 
 // What one pass over a capture comes to.
-#[derive(Drop)]
+#[derive(Clone, Copy)]
 struct Passed {
     bytes: usize,
     frames: usize,

@@ -1,6 +1,8 @@
 // Decimal text in ASCII: a number written over lent bytes as its digits, and read back from them.
 // Every function takes all input. Without room nothing is written and the answer is 8; text past
 // the end is no number.
+#![tactic(auto)]
+
 ghost use Rattle.std.specs.Prelude.{◌≡◌, ◌+◌, ◌≤◌, leb, length, take, drop};
 ghost use Rattle.octets.specs.Octets.{laid};
 ghost use Rattle.octets.specs.Papers.{written_paper, room_for, laid_if_room};
@@ -10,7 +12,7 @@ use octets::Written;
 use terms::Refusal;
 
 // What reading decimal text finds.
-#[derive(Drop)]
+#[derive(Clone, Copy)]
 pub enum Decimal {
     Number(u64),
     NoNumber,

@@ -1,6 +1,8 @@
 // The entries of an M102 body, walked by a small reader that carries the caller's bytes and its
 // place. A struct that holds a reference is proved by hand, so its functions are thin, over covered
 // ones on a plain slice.
+#![tactic(auto)]
+
 ghost use Rattle.std.specs.Prelude.{◌≡◌, ◌+◌, ◌≤◌, length};
 ghost use Rattle.terms.specs.Verdicts.{verdict_number};
 ghost use Rattle.entries.specs.Reader.{open_of, stands, entry_at, size_in, Carries, Opens, Stops, Steps};
@@ -10,14 +12,14 @@ use rules::Kind;
 use terms::{Refusal, Verdict};
 
 // The reader: the body that it walks, and where the next entry starts.
-#[derive(Drop)]
+#[derive(Clone, Copy)]
 pub struct Entries<'a> {
     pub body: &'a [u8],
     pub place: usize,
 }
 
 // One entry. Only those of stream MD001 are short.
-#[derive(Drop)]
+#[derive(Clone, Copy)]
 pub enum Entry {
     Short {
         kind: u16,
@@ -32,28 +34,28 @@ pub enum Entry {
 }
 
 // What a step returns.
-#[derive(Drop)]
+#[derive(Clone, Copy)]
 pub enum Answer {
     Done(Entry),
     Refused(Refusal),
 }
 
 // A step over a plain slice: the answer, and the place after it.
-#[derive(Drop)]
+#[derive(Clone, Copy)]
 pub struct Stop {
     pub answer: Answer,
     pub place: usize,
 }
 
 // An opening: the answer, and the reader; beside a refusal, one over nothing.
-#[derive(Drop)]
+#[derive(Clone, Copy)]
 pub struct Opened<'a> {
     pub answer: Verdict,
     pub reader: Entries<'a>,
 }
 
 // A step of a reader: the answer, and the reader after it; beside a refusal, the reader as it was.
-#[derive(Drop)]
+#[derive(Clone, Copy)]
 pub struct Stepped<'a> {
     pub answer: Answer,
     pub reader: Entries<'a>,

@@ -1,4 +1,6 @@
 // One BINARY frame: read, written, and the next good one found in a damaged capture.
+#![tactic(auto)]
+
 ghost use Rattle.std.specs.Prelude.{◌≡◌, ◌+◌, ◌≤◌, length, take, drop};
 ghost use Rattle.octets.specs.Octets.{be, sum8, laid};
 ghost use Rattle.octets.specs.Papers.{written_paper};
@@ -13,7 +15,7 @@ use rules::Kind;
 use terms::{Refusal, SessionNumber, Verdict};
 
 // What reading finds. A refusal carries nothing of the bytes.
-#[derive(Drop)]
+#[derive(Clone, Copy)]
 pub enum Read {
     Frame {
         msg_type: u32,
@@ -25,7 +27,7 @@ pub enum Read {
 }
 
 // What the search finds: a place, none, or that it was to start beyond the end.
-#[derive(Drop)]
+#[derive(Clone, Copy)]
 pub enum Found {
     At(usize),
     Nothing,
@@ -33,7 +35,7 @@ pub enum Found {
 }
 
 // A frame that is there as a whole, with its type and the length of its body; or why not.
-#[derive(Drop)]
+#[derive(Clone, Copy)]
 enum Head {
     Whole(Kind, usize),
     Refused(Refusal),

@@ -1,5 +1,7 @@
 // What an accepted frame's body tells the layers above: its counters, and a resend's status.
 // Nothing of it is private.
+#![tactic(auto)]
+
 ghost use Rattle.std.specs.Prelude.{◌≡◌};
 ghost use Rattle.octets.specs.Octets.{be};
 ghost use Rattle.frame_view.specs.View.{viewed, view_of};
@@ -8,7 +10,7 @@ use rules::Kind;
 use terms::{ChannelNumber, TickNumber};
 
 // What a type does not have is 0.
-#[derive(Drop)]
+#[derive(Clone, Copy)]
 pub struct View {
     pub kind: Kind,
     pub channel: ChannelNumber,

@@ -1,6 +1,8 @@
 // What C and Rust may call on whole captures: code and results as in `host_frames`. A refusal
 // writes nothing: neither a result, nor into a buffer, nor into the nine words of a ledger (crate
 // `host_words`).
+#![tactic(auto)]
+
 ghost use Rattle.std.specs.Prelude.{◌≡◌, [], ◌∷◌, length};
 ghost use Rattle.octets.specs.Papers.{room_for, laid_if_room};
 ghost use Rattle.listing_text.specs.Whole.{lines_in};

@@ -1,4 +1,6 @@
 // Thirty-two channels for C and Rust: each call updates the host's table in place.
+#![tactic(auto)]
+
 ghost use Rattle.host_channels.specs.Exchanges.{Exchanges};
 
 use channels::{ChannelCall, ChannelTold, Channels};
@@ -6,7 +8,7 @@ use channels::{ChannelCall, ChannelTold, Channels};
 // A call, and what it is answered: numbers alone, lent as one, so that every machine passes them in
 // the same way.
 #[repr(C)]
-#[derive(Drop)]
+#[derive(Clone, Copy)]
 pub struct Exchange {
     pub call: ChannelCall,
     pub told: ChannelTold,

@@ -1,6 +1,8 @@
 // What C and Rust may call on frames. Each function returns a code, a number of document 01 or 0;
 // results go to an out-parameter: a fixed row of numbers, in C a struct of 64-bit numbers
 // (host/include/rietknoest.h). A refusal writes nothing there, nor into a buffer.
+#![tactic(auto)]
+
 ghost use Rattle.std.specs.Prelude.{◌≡◌, [], ◌∷◌, ◌++◌, length, drop};
 ghost use Rattle.frame_spec.specs.Write.{message, write_of, left_of};
 ghost use Rattle.private.specs.Scrub.{scrub_answer, scrubbed};

@@ -1,6 +1,8 @@
 // What C and Rust may call on a ledger: code and results as in `host_frames`. A ledger is nine
 // numbers, those of the crate `host_words`. A refusal writes nothing; only 12 changes a ledger, and
 // only its top.
+#![tactic(auto)]
+
 ghost use Rattle.std.specs.Prelude.{◌≡◌, [], ◌∷◌};
 ghost use Rattle.ledger_spec.specs.Calls.{Tick, Announce, Request, Reply, Ask, Between, Renew, open_number};
 ghost use Rattle.host_words.specs.Told.{Tells};

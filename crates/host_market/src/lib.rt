@@ -1,5 +1,7 @@
 // What C and Rust may call on market files: each answers a number and the place or count beside it.
 // A refusal leaves the lent buffer as it was.
+#![tactic(auto)]
+
 ghost use Rattle.std.specs.Prelude.{◌≡◌, length};
 ghost use Rattle.market.specs.Papers.{fault_number, verdict_paper};
 ghost use Rattle.market_spec.specs.File.{fault_of};
@@ -11,7 +13,7 @@ use market::{Fault, Verdict};
 
 // 0, or CR 10's number; and beside 0 a count (lines, or bytes written), beside a refusal its place.
 #[repr(C)]
-#[derive(Drop)]
+#[derive(Clone, Copy)]
 pub struct Finding {
     pub number: u64,
     pub place: u64,

@@ -1,6 +1,8 @@
 // What C and Rust may call on a page over a month of captures, answered and told as in
 // `host_frames`. A page is 226 numbers, the host's to keep: 32 channels, how many of them are
 // named, how many captures were taken, and 192 sums, six for each place. A refusal writes nothing.
+#![tactic(auto)]
+
 ghost use Rattle.std.specs.Prelude.{◌≡◌, min};
 ghost use Rattle.month_spec.specs.Calls.{start_number, answer_to};
 ghost use Rattle.month.specs.State.{page_in, month_of};

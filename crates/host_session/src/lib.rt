@@ -2,6 +2,8 @@
 // numbers, the host's to keep and not to read: state (new 0, waiting 1, active 2, leaving 3,
 // over 4), the MsgSeqNum of our next message and of the next frame, the last time, when we last
 // sent, when a frame was last taken, the agreed interval, and 0. A refusal writes nothing.
+#![tactic(auto)]
+
 ghost use Rattle.std.specs.Prelude.{◌≡◌, ◌&&◌, eqb, leb};
 ghost use Rattle.terms.specs.Paper.{pick};
 ghost use Rattle.session_spec.specs.Table.{Begin, Time, Leave, Ask};

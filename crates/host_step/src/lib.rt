@@ -1,6 +1,8 @@
 // What C and Rust may call on STEP frames. Each function returns a code, a number of document 01 or
 // 02 or 0; results go to an out-parameter: a fixed row of numbers (host/include/rietknoest.h). A
 // refusal writes nothing there, nor into a buffer.
+#![tactic(auto)]
+
 ghost use Rattle.std.specs.Prelude.{◌≡◌, [], ◌∷◌, length, drop};
 ghost use Rattle.host_words.specs.Told.{Tells};
 ghost use Rattle.step_spec.specs.Fields.{field_at};

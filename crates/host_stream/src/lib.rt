@@ -2,6 +2,8 @@
 // calls that clean, to scrubbed frames. Between two calls the host keeps it as six numbers, the
 // nine words of its ledger, and the bytes that wait. Each call returns a code, 0 where all is well.
 // A refusal writes nothing.
+#![tactic(auto)]
+
 ghost use Rattle.std.specs.Prelude.{ℕ, ◌≡◌, List, length};
 ghost use Rattle.octets.specs.Octets.{Bytes};
 ghost use Rattle.stream_spec.specs.State.{opened};

@@ -1,6 +1,8 @@
 // A ledger as nine numbers, for C and Rust: channel, floor, top, the map's four words, the pending
 // request's first and last number, 0 and 0 where nothing is pending. They are the host's to keep
 // and not to read: the calls return all there is to know.
+#![tactic(auto)]
+
 ghost use Rattle.std.specs.Prelude.{◌≡◌, [], ◌∷◌, min};
 ghost use Rattle.terms.specs.Counters.{channel_of};
 ghost use Rattle.octets.specs.Papers.{written_paper};

@@ -1,6 +1,8 @@
 // The gap ledger of one tick channel: which numbers were received, which are handed out, and what
 // to ask for. Every call takes the ledger, sound or not, and gives back the next one
 // beside its answer.
+#![tactic(auto)]
+
 ghost use Rattle.std.specs.Prelude.{◌≡◌, true, false, ◌&&◌, not, [], ◌∷◌, ◌+◌, ◌-◌, ◌%◌, ◌≤◌, ◌<◌, min, max, eqb};
 ghost use Rattle.terms.specs.Paper.{answer, refusal, pick};
 ghost use Rattle.terms.specs.Refusals.{number_of};
@@ -15,14 +17,14 @@ use terms::{ChannelNumber, Refusal, TickNumber};
 use tick_map::Map;
 
 // The request that is pending: from its grant until a reply answered 0, or a new session.
-#[derive(Drop)]
+#[derive(Clone, Copy)]
 pub enum Pending {
     Nothing,
     Range { first: TickNumber, last: TickNumber },
 }
 
 // The fields are open, so that a host can hand in any state; a broken one is refused by 13.
-#[derive(Drop)]
+#[derive(Clone, Copy)]
 pub struct Ledger {
     pub channel: ChannelNumber,
     // All numbers up to it are received or given up.
@@ -35,32 +37,32 @@ pub struct Ledger {
     pub pending: Pending,
 }
 
-#[derive(Drop)]
+#[derive(Clone, Copy)]
 pub enum TickAnswer {
     // The floor has newly passed `count` numbers from `first` on, perhaps none.
     Passed { first: TickNumber, count: u64 },
     Refused(Refusal),
 }
 
-#[derive(Drop)]
+#[derive(Clone, Copy)]
 pub struct Ticked {
     pub next: Ledger,
     pub answer: TickAnswer,
 }
 
-#[derive(Drop)]
+#[derive(Clone, Copy)]
 pub enum RequestAnswer {
     Granted { first: TickNumber, last: TickNumber },
     Refused(Refusal),
 }
 
-#[derive(Drop)]
+#[derive(Clone, Copy)]
 pub struct Requested {
     pub next: Ledger,
     pub answer: RequestAnswer,
 }
 
-#[derive(Drop)]
+#[derive(Clone, Copy)]
 pub enum ReplyAnswer {
     Cleared,
     Refused(Refusal),
@@ -69,7 +71,7 @@ pub enum ReplyAnswer {
 // Beside the answer two sets, each a map whose places are read as the ledger's are: a number's
 // place is its remainder by 256. They hold numbers from `first`, the floor + 1 as it was before the
 // call, to 255 after it. Beside a refusal `first` is 0, and both are empty.
-#[derive(Drop)]
+#[derive(Clone, Copy)]
 pub struct Replied {
     pub next: Ledger,
     pub answer: ReplyAnswer,
@@ -80,21 +82,21 @@ pub struct Replied {
     pub passed: Map,
 }
 
-#[derive(Drop)]
+#[derive(Clone, Copy)]
 pub enum Answer {
     Done,
     Refused(Refusal),
 }
 
 // What opening, announcing and a new session answer.
-#[derive(Drop)]
+#[derive(Clone, Copy)]
 pub struct Noted {
     pub next: Ledger,
     pub answer: Answer,
 }
 
 // A count, 0 beside a refusal.
-#[derive(Drop)]
+#[derive(Clone, Copy)]
 pub struct Counted {
     pub next: Ledger,
     pub count: u64,
@@ -102,7 +104,7 @@ pub struct Counted {
 }
 
 // What the checks of a call come to.
-#[derive(Drop)]
+#[derive(Clone, Copy)]
 enum Verdict {
     Fine,
     Bad(Refusal),

@@ -1,4 +1,6 @@
 // Lists the capture on standard input. Document 01, "Fault records and the listing".
+#![tactic(auto)]
+
 ghost use Rattle.std.specs.Prelude.{◌≡◌, ◌+◌, ◌*◌, ◌/◌, ◌≤◌, length};
 ghost use Rattle.octets.specs.Octets.{Bytes};
 ghost use Rattle.record.specs.Stored.{Stored};

@@ -1,6 +1,8 @@
 // The text of the listing: a record's line, and the last line.
 // Every function takes all input. A single line is made aside first, and lines are written where
 // there is room for all: without room nothing is written and the answer is 8.
+#![tactic(auto)]
+
 ghost use Rattle.std.specs.Prelude.{◌≡◌, ◌+◌, ◌≤◌, ◌*◌, length, take, leb};
 ghost use Rattle.octets.specs.Papers.{written_paper, room_for, laid_if_room};
 ghost use Rattle.digits.specs.Digits.{width_of};
@@ -14,7 +16,7 @@ use record::Record;
 use terms::{Refusal, TickNumber};
 
 // What the listing says of a whole capture.
-#[derive(Drop)]
+#[derive(Clone, Copy)]
 pub struct Summary {
     pub frames: u64,
     pub refused: u64,

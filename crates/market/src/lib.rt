@@ -1,4 +1,6 @@
 // Whether a B-to-H market file is sound by 003, and if not what is wrong and where.
+#![tactic(auto)]
+
 ghost use Rattle.std.specs.Prelude.{◌≡◌, ◌∷◌, ◌+◌, ◌≤◌, ◌<◌, length, take, drop};
 ghost use Rattle.market_columns.specs.Columns.{columns};
 ghost use Rattle.market_spec.specs.File.{end_of, line_fault, begins_at, word_of, type_at, layout_of, first_of, last_of, tail_fault, marks, mark_ok, left_over, and_then, count_ok, sum_ok, closing, trailer_fault, lines_fault, fault_of, fault};
@@ -9,7 +11,7 @@ use market_columns::Amount;
 
 // What is wrong: CR 10's numbers 40 to 47, in its order; and 8, too small a buffer, which no check
 // gives.
-#[derive(Drop)]
+#[derive(Clone, Copy)]
 pub enum Fault {
     CutShort,
     Header,
@@ -24,7 +26,7 @@ pub enum Fault {
 
 // What a check finds: nothing wrong, and a number (the lines of a file, or the place behind a part
 // of it); or what is wrong, and where.
-#[derive(Drop)]
+#[derive(Clone, Copy)]
 pub enum Verdict {
     Fine(usize),
     Refused(Fault, usize),
@@ -143,7 +145,7 @@ pub fn line_type(s: &[u8], at: usize) -> u8
 }
 
 // The rows of a layout: from first up to last.
-#[derive(Drop)]
+#[derive(Clone, Copy)]
 pub struct Rows {
     pub first: usize,
     pub last: usize,

@@ -1,5 +1,7 @@
 // The values of a B-to-H market file taken out of it as bytes, and a file written from them.
 // First MDTime, MDUpdateType and MktStatus, then for each line its type and its columns' values.
+#![tactic(auto)]
+
 ghost use Rattle.std.specs.Prelude.{◌≡◌, true, ◌++◌, ◌∷◌, [], ◌+◌, ◌-◌, ◌≤◌, ◌<◌, length, take, drop};
 ghost use Rattle.terms.specs.Paper.{answer};
 ghost use Rattle.octets.specs.Octets.{laid, bytes_of, sum8, Bytes};
@@ -303,7 +305,7 @@ pub fn values(file: &[u8], out: &mut [u8]) -> Verdict
 
 // What judging values finds: how long the file is that they make, and how many lines it has;
 // or what is wrong, and where.
-#[derive(Drop)]
+#[derive(Clone, Copy)]
 enum Judged {
     Good(usize, usize),
     Bad(Fault, usize),

@@ -1,6 +1,8 @@
 // The month in whole numbers: a page of sums over up to 500 captures, for up to 32 channels named
 // at the start. Document 02, request 11. Every call takes the page, sound or not, and gives back
 // the next one beside its answer.
+#![tactic(auto)]
+
 ghost use Rattle.std.specs.Prelude.{◌≡◌, true, ◌&&◌, not, [], ◌∷◌, ◌+◌, ◌≤◌, ◌<◌, eqb, leb, get_or, take};
 ghost use Rattle.ledger_spec.specs.Words.{one};
 ghost use Rattle.walk_spec.specs.CallLaws.{is_tick};
@@ -16,7 +18,7 @@ use rules::Kind;
 use terms::ChannelNumber;
 
 // The fields are open, so that a host can hand in any state; a broken one is refused by 13.
-#[derive(Drop)]
+#[derive(Clone, Copy)]
 pub struct Month {
     // At 32 places: the channels named at the start, then 0.
     pub channels: [u16; 32],
@@ -28,7 +30,7 @@ pub struct Month {
 }
 
 // What starting answers: 0, or 10, 22 or 21, and beside it a page with no channel.
-#[derive(Drop)]
+#[derive(Clone, Copy)]
 pub struct Started {
     pub answer: u32,
     pub page: Month,
@@ -36,7 +38,7 @@ pub struct Started {
 
 // What adding a capture answers: 0 and its figures; or 13, 27 or 28, no figure, and the very page
 // that was passed in.
-#[derive(Drop)]
+#[derive(Clone, Copy)]
 pub struct Added {
     pub answer: u32,
     pub figures: [u64; 192],
@@ -44,7 +46,7 @@ pub struct Added {
 }
 
 // What one pass over a capture keeps of a channel.
-#[derive(Drop)]
+#[derive(Clone, Copy)]
 struct Row {
     ledger: Ledger,
     received: u64,

@@ -1,6 +1,8 @@
 // Bytes in lent slices: numbers high byte first, bytes written over bytes, a part filled, and the
 // one-byte sum. Every function takes all input. Past the end reads 0; without room nothing is
 // written and the answer is 8.
+#![tactic(auto)]
+
 ghost use Rattle.std.specs.Prelude.{◌≡◌, ◌+◌, ◌-◌, ◌*◌, ◌/◌, ◌%◌, ◌^◌, ◌<◌, ◌≤◌, min, [], ◌∷◌, length, take, drop, replicate, nat_le, slice_index};
 ghost use Rattle.octets.specs.Octets.{be, bytes_of, laid, sum8, sum_after};
 ghost use Rattle.octets.specs.Turns.{turn2, turn4, turn8};
@@ -9,7 +11,7 @@ ghost use Rattle.octets.specs.Papers.{written_paper, room_for, laid_if_room};
 use terms::Refusal;
 
 // What a function that writes into a lent buffer returns: how many bytes it wrote, or why none.
-#[derive(Drop)]
+#[derive(Clone, Copy)]
 pub enum Written {
     Bytes(usize),
     Refused(Refusal),

@@ -1,4 +1,6 @@
 // Which bytes of a frame's body are private. What a scrubbed frame is stands beside it, in specs/.
+#![tactic(auto)]
+
 ghost use Rattle.std.specs.Prelude.{◌≡◌, [], ◌∷◌, eqb, length};
 ghost use Rattle.terms.specs.Paper.{pick};
 ghost use Rattle.private.specs.Private.{spaces, tail_of, span_at};
@@ -9,7 +11,7 @@ use terms::{Refusal, Verdict};
 
 // A private part of a body: where it starts, how many bytes it has, and the byte that replaces
 // each of them.
-#[derive(Drop)]
+#[derive(Clone, Copy)]
 pub struct Span {
     pub place: usize,
     pub len: usize,
@@ -17,7 +19,7 @@ pub struct Span {
 }
 
 // All private spans of a body, in their order: no type has more than three.
-#[derive(Drop)]
+#[derive(Clone, Copy)]
 pub enum Parts {
     Nothing,
     One(Span),
@@ -26,7 +28,7 @@ pub enum Parts {
 }
 
 // What asking for one private span returns: the span, or why there is none to tell.
-#[derive(Drop)]
+#[derive(Clone, Copy)]
 pub enum Told {
     Part(Span),
     Refused(Refusal),

@@ -1,4 +1,6 @@
 // What is seen at a place of a capture. Document 01, "Fault records and the listing".
+#![tactic(auto)]
+
 ghost use Rattle.std.specs.Prelude.{◌≡◌, drop};
 ghost use Rattle.reading.specs.Seen.{blank, seen_of};
 
@@ -7,7 +9,7 @@ use terms::{ChannelNumber, Refusal, SessionNumber, TickNumber, Verdict};
 
 // All that a reading tells the layers above, and nothing private. A refused reading shows why, and
 // else four spaces and zeros. size is the frame's length, 0 where none was read.
-#[derive(Drop)]
+#[derive(Clone, Copy)]
 pub struct Seen {
     pub answer: Verdict,
     pub msg_type: u32,

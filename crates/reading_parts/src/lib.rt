@@ -1,5 +1,7 @@
 // A frame whose bytes lie in two parts, one behind the other: its reading. At most 512 bytes are
 // laid together; what a longer frame has behind them is summed and judged where it stands.
+#![tactic(auto)]
+
 ghost use Rattle.std.specs.Prelude.{◌≡◌, ◌+◌, ◌*◌, ◌≤◌, min, ◌++◌, length, take, drop, ◌==◌, nat_lt};
 ghost use Rattle.octets.specs.Octets.{be, sum8};
 ghost use Rattle.rules.specs.Fields.{entry_ok, entries_ok, m102_ok, fields_ok};

@@ -1,6 +1,8 @@
 // The fault record of 64 bytes, made and read back.
 // Every function takes all input. What is written is made aside first: without room nothing is
 // written and the answer is 8.
+#![tactic(auto)]
+
 ghost use Rattle.std.specs.Prelude.{◌≡◌, ◌≤◌, length};
 ghost use Rattle.octets.specs.Papers.{written_paper, room_for, laid_if_room};
 ghost use Rattle.record.specs.Record.{record_of, record_at};
@@ -10,7 +12,7 @@ use octets::Written;
 use terms::{ChannelNumber, SessionNumber, TickNumber};
 
 // One reading, as support sees it. msg_type is four spaces where the reading was refused.
-#[derive(Drop)]
+#[derive(Clone, Copy)]
 pub struct Record {
     pub place: u64,
     pub msg_type: u32,

@@ -1,5 +1,7 @@
 // The table of message types, and the field rules: what is checked before the checksum, and
 // what after it.
+#![tactic(auto)]
+
 ghost use Rattle.std.specs.Prelude.{◌≡◌, ◌+◌, ◌*◌, ◌≤◌, ◌<◌};
 ghost use Rattle.rules.specs.Table.{kind_paper, type_of, known, suits, measure_of};
 ghost use Rattle.terms.specs.Verdicts.{verdict_number};
@@ -9,7 +11,7 @@ ghost use Rattle.rules.specs.Sizes.{Entries};
 use terms::{Refusal, Verdict};
 
 // The types of the table, under their MsgType, and one case for every other MsgType.
-#[derive(Drop)]
+#[derive(Clone, Copy)]
 pub enum Kind {
     S001,
     S002,
@@ -23,7 +25,7 @@ pub enum Kind {
 }
 
 // How the extension of an M201 is laid out: as an order, as a trade, or as no table tells.
-#[derive(Drop)]
+#[derive(Clone, Copy)]
 pub enum Layout {
     Order,
     Trade,

@@ -1,5 +1,7 @@
 // The scrubber: the private fields of a frame painted over where it stands, and its
 // checksum set anew.
+#![tactic(auto)]
+
 ghost use Rattle.std.specs.Prelude.{◌≡◌, true, ◌+◌, ◌-◌, ◌≤◌, length, take, drop, replicate};
 ghost use Rattle.octets.specs.Octets.{laid, sum8, sum_after};
 ghost use Rattle.octets.specs.Papers.{written_paper};

@@ -1,5 +1,7 @@
 // The client's side of a line: what to send, when, and under which number. Every call takes the
 // session, sound or not, and gives back the next one beside its answer.
+#![tactic(auto)]
+
 ghost use Rattle.std.specs.Prelude.{◌≡◌, ◌||◌, ◌+◌, ◌-◌, ◌≤◌, max, eqb};
 ghost use Rattle.terms.specs.Refusals.{number_of};
 ghost use Rattle.terms.specs.Verdicts.{verdict_number};
@@ -15,7 +17,7 @@ use frame::Read;
 use rules::Kind as Row;
 use terms::{Refusal, SessionNumber, Verdict};
 
-#[derive(Drop)]
+#[derive(Clone, Copy)]
 pub enum State {
     New,
     Waiting,
@@ -25,7 +27,7 @@ pub enum State {
 }
 
 // What is to be sent: nothing, or a message of this type.
-#[derive(Drop)]
+#[derive(Clone, Copy)]
 pub enum Kind {
     Nothing,
     S001,
@@ -35,7 +37,7 @@ pub enum Kind {
 }
 
 // Why reading refused a frame: its numbers 1 to 7, and no other.
-#[derive(Drop)]
+#[derive(Clone, Copy)]
 pub enum Fault {
     More,
     MsgType,
@@ -47,7 +49,7 @@ pub enum Fault {
 }
 
 // What happens: the host begins, lets time pass, leaves, asks for a resend; or a frame has arrived.
-#[derive(Drop)]
+#[derive(Clone, Copy)]
 pub enum Event {
     Begin,
     Time,
@@ -62,7 +64,7 @@ pub enum Event {
 }
 
 // The fields are open, so that a host can hand in any state; a broken one is refused by 13.
-#[derive(Drop)]
+#[derive(Clone, Copy)]
 pub struct Session {
     pub state: State,
     // The MsgSeqNum of our next message, and of the next frame.
@@ -77,7 +79,7 @@ pub struct Session {
 }
 
 // What a call comes to: the next session, the answer, and what the host is to do.
-#[derive(Drop)]
+#[derive(Clone, Copy)]
 pub struct Turn {
     pub next: Session,
     pub answer: Verdict,
@@ -90,14 +92,14 @@ pub struct Turn {
 
 // A frame that has arrived: the turn it makes, and its length, 0 where none was read. A frame that
 // the session refuses has its length too, so that a host can step behind it.
-#[derive(Drop)]
+#[derive(Clone, Copy)]
 pub struct Arrival {
     pub turn: Turn,
     pub length: usize,
 }
 
 // A cell of the table of states.
-#[derive(Drop)]
+#[derive(Clone, Copy)]
 enum Cell {
     Refuse(Refusal),
     Does(Kind, State),
@@ -704,7 +706,7 @@ fn by_kind(kind: Row, number: SessionNumber, bytes: &[u8]) -> Event
 
 // What the bytes at the front are to a session, and how many of them a frame takes: 0 where none
 // was read.
-#[derive(Drop)]
+#[derive(Clone, Copy)]
 pub struct Told {
     pub event: Event,
     pub length: usize,

@@ -1,4 +1,6 @@
 // One STEP frame: its fields, reading, writing.
+#![tactic(auto)]
+
 ghost use Rattle.std.specs.Prelude.{◌≡◌, not, ◌&&◌, ◌+◌, ◌-◌, ◌^◌, ◌≤◌, ◌<◌, min, length, take, drop};
 ghost use Rattle.step_spec.specs.Pieces.{until_of, pieces};
 ghost use Rattle.step_spec.specs.Fields.{field_at, complete, begins52, unreal_in, judge_of};
@@ -15,7 +17,7 @@ ghost use Rattle.terms.specs.Checks.{or_else};
 use digits::Decimal;
 
 // Why a frame or a message is refused. The numbers are those of document 02.
-#[derive(Drop)]
+#[derive(Clone, Copy)]
 pub enum StepRefusal {
     More,
     Long,
@@ -29,14 +31,14 @@ pub enum StepRefusal {
 }
 
 // What a check says.
-#[derive(Drop)]
+#[derive(Clone, Copy)]
 enum Check {
     Passed,
     Refused(StepRefusal),
 }
 
 // A frame whose first checks passed: where its body starts, and how long it is; or why not.
-#[derive(Drop)]
+#[derive(Clone, Copy)]
 enum Head {
     Sized(usize, usize),
     Refused(StepRefusal),
@@ -44,7 +46,7 @@ enum Head {
 
 // What reading finds: the type, the place of the fields after the frame's start and their length,
 // and the length of the frame. A refusal carries nothing of the bytes.
-#[derive(Drop)]
+#[derive(Clone, Copy)]
 pub enum Read {
     Frame {
         kind: u8,
@@ -56,7 +58,7 @@ pub enum Read {
 }
 
 // What writing returns: the length of the frame, or why nothing was written.
-#[derive(Drop)]
+#[derive(Clone, Copy)]
 pub enum StepWritten {
     Bytes(usize),
     Refused(StepRefusal),
@@ -64,7 +66,7 @@ pub enum StepWritten {
 
 // What stands at a place among the fields of a message: a field with its tag, the place and the
 // length of its value and the place after it; or none.
-#[derive(Drop)]
+#[derive(Clone, Copy)]
 pub enum Field {
     At {
         tag: u64,
@@ -76,7 +78,7 @@ pub enum Field {
 }
 
 // A field as the pass sees it: its row, or 27, and the place after it; or none.
-#[derive(Drop)]
+#[derive(Clone, Copy)]
 enum Fit {
     Row(u32, usize),
     Bad,

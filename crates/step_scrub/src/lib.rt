@@ -1,4 +1,6 @@
 // A STEP frame with its private values painted over: the bytes that the host may keep.
+#![tactic(auto)]
+
 ghost use Rattle.std.specs.Prelude.{◌≡◌, true, ◌+◌, ◌-◌, ◌≤◌, length, take, drop, replicate};
 ghost use Rattle.terms.specs.Paper.{pick};
 ghost use Rattle.octets.specs.Octets.{laid, sum8};

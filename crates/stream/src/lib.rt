@@ -1,5 +1,7 @@
 // Bytes that arrive in cuts of any size, to records, counts and ledger. CR 1: what is given equals
 // the closed walk's, however the bytes are cut.
+#![tactic(auto)]
+
 ghost use Rattle.std.specs.Prelude.{◌≡◌, true, false, List, ◌++◌, ℕ, ◌+◌, ◌-◌, ◌*◌, ◌/◌, ◌≤◌, ◌<◌, ◌^◌, leb, length, take, drop, replicate};
 ghost use Rattle.octets.specs.Octets.{laid, Bytes};
 ghost use Rattle.walk_spec.specs.Tables.{written_from};
@@ -19,7 +21,7 @@ use terms::{Refusal, Verdict};
 
 // What stands between two calls but for the bytes that wait: those stand at the front of a store of
 // 8,191 bytes, which is lent to each call. The fields are those of a stream.
-#[derive(Drop)]
+#[derive(Clone, Copy)]
 pub struct Standing {
     pub place: u64,
     pub seeking: bool,
@@ -29,7 +31,7 @@ pub struct Standing {
 }
 
 // How many records a call gave, 0 beside a refusal; and how the stream stands after it.
-#[derive(Drop)]
+#[derive(Clone, Copy)]
 pub struct Answered {
     pub answer: Verdict,
     pub records: usize,
@@ -38,7 +40,7 @@ pub struct Answered {
 
 // How far a run over bytes got: the place among them where it stopped, and what it had made by
 // then.
-#[derive(Drop)]
+#[derive(Clone, Copy)]
 struct Ran {
     at: usize,
     seeking: bool,
@@ -46,7 +48,7 @@ struct Ran {
     tally: Tally,
 }
 
-#[derive(Drop)]
+#[derive(Clone, Copy)]
 struct Pushed {
     next: Standing,
     count: usize,

@@ -4,6 +4,8 @@
 // ledger stay as they are. The bytes that wait are read where they stand, in a lent store, with the
 // cut behind them: no call makes a copy of either. Behind them an accepted frame is read once, and
 // a refused place twice.
+#![tactic(auto)]
+
 ghost use Rattle.std.specs.Prelude.{◌≡◌, List, ◌++◌, ℕ, ◌+◌, ◌-◌, ◌≤◌, ◌<◌, ◌^◌, leb, length, take, drop};
 ghost use Rattle.octets.specs.Octets.{laid};
 ghost use Rattle.octets.specs.Papers.{laid_if_room};
@@ -23,7 +25,7 @@ use stream_clean_spec::Sums;
 use terms::{Refusal, Verdict};
 
 // What a call wrote, all 0 beside a refusal; and how the stream stands after it.
-#[derive(Drop)]
+#[derive(Clone, Copy)]
 pub struct Cleaned {
     pub answer: Verdict,
     pub sums: Sums,
@@ -32,7 +34,7 @@ pub struct Cleaned {
 
 // What became of a reading: its answer; how many bytes its frame has, none where it was refused;
 // and 1 where no rule judges its body.
-#[derive(Drop)]
+#[derive(Clone, Copy)]
 struct Taken {
     answer: u32,
     size: usize,
@@ -40,7 +42,7 @@ struct Taken {
 }
 
 // How far a run got: the place where it stopped, and what it had written by then.
-#[derive(Drop)]
+#[derive(Clone, Copy)]
 struct Ran {
     at: usize,
     seeking: bool,

@@ -1,11 +1,13 @@
 // What a stream that scrubs gives: the definitions of its calls stand in specs/, and the theorem
 // over them, `cleaned_as_it_arrives`, in proofs/; the crate `stream_clean` makes the calls.
+#![tactic(auto)]
+
 use stream_spec::Stream;
 use terms::Verdict;
 
 // What was written: how many bytes, and how many frames they are; how many of these the search
 // found after damage; and how many have a body that no rule judges (M101).
-#[derive(Drop)]
+#[derive(Clone, Copy)]
 pub struct Sums {
     pub bytes: usize,
     pub frames: usize,
@@ -15,7 +17,7 @@ pub struct Sums {
 
 // What a call returns: its answer, what it wrote, all 0 beside a refusal, and the stream after it,
 // the very one that was passed in beside a refusal.
-#[derive(Drop)]
+#[derive(Clone, Copy)]
 pub struct Washed {
     pub answer: Verdict,
     pub sums: Sums,

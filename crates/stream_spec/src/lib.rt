@@ -1,5 +1,7 @@
 // A stream between two calls, and its opening. The definitions of its calls stand in specs/, and CR
 // 1's theorems over them in proofs/; the crate `stream` makes the calls.
+#![tactic(auto)]
+
 ghost use Rattle.std.specs.Prelude.{◌≡◌};
 ghost use Rattle.stream_spec.specs.State.{opened};
 
@@ -7,7 +9,7 @@ use ledger::Ledger;
 use terms::{ChannelNumber, Verdict};
 
 // How many frames and refused readings there were so far, and the ledger after them.
-#[derive(Drop)]
+#[derive(Clone, Copy)]
 pub struct Tally {
     pub frames: u64,
     pub refused: u64,
@@ -16,7 +18,7 @@ pub struct Tally {
 
 // What stands between two calls. The fields are open, so that a host can keep it and hand it in
 // again; a broken one is refused by 13.
-#[derive(Drop)]
+#[derive(Clone, Copy)]
 pub struct Stream {
     // Of the first kept byte; of the next byte to come, where none is kept.
     pub place: u64,
@@ -31,7 +33,7 @@ pub struct Stream {
 
 // How many records this call gave, 0 beside a refusal; and the stream after it, the very one that
 // was passed in beside a refusal.
-#[derive(Drop)]
+#[derive(Clone, Copy)]
 pub struct Fed {
     pub answer: Verdict,
     pub records: usize,

@@ -1,5 +1,7 @@
 // The fields of an M201's extension, one by one: where each stands in the body, what it holds, and
 // whether it is private.
+#![tactic(auto)]
+
 ghost use Rattle.std.specs.Prelude.{◌≡◌};
 ghost use Rattle.tails.specs.Fields.{field_of, order_fields, trade_fields, all_behind, tail_fields, field_at};
 
@@ -7,7 +9,7 @@ use rules::Layout;
 
 // A field: its place in the body and how many bytes it has; 1 where it holds letters, 0 for a
 // number; 1 where it is private, else 0.
-#[derive(Drop)]
+#[derive(Clone, Copy)]
 pub struct TailField {
     pub place: usize,
     pub len: usize,

@@ -1,12 +1,14 @@
 // The words that all crates share: the three counters that the source keeps apart, and the refusals
 // of document 01.
+#![tactic(auto)]
+
 ghost use Rattle.std.specs.Prelude.{◌≡◌};
 ghost use Rattle.terms.specs.Counters.{session_of, tick_of, channel_of};
 ghost use Rattle.terms.specs.Refusals.{number_of};
 ghost use Rattle.terms.specs.Verdicts.{verdict_number};
 
 // The session's MsgSeqNum. Its field is private: only `new` and `value` make one or take one apart.
-#[derive(Drop)]
+#[derive(Clone, Copy)]
 pub struct SessionNumber(u64);
 
 impl SessionNumber {
@@ -26,7 +28,7 @@ impl SessionNumber {
 }
 
 // A channel's tick number: ApplSeqNum, ApplLastSeqNum, and both resend numbers.
-#[derive(Drop)]
+#[derive(Clone, Copy)]
 pub struct TickNumber(u64);
 
 impl TickNumber {
@@ -46,7 +48,7 @@ impl TickNumber {
 }
 
 // ChannelNO. Two bytes wide, so that a number above 9,999 can be offered and refused.
-#[derive(Drop)]
+#[derive(Clone, Copy)]
 pub struct ChannelNumber(u16);
 
 impl ChannelNumber {
@@ -67,7 +69,7 @@ impl ChannelNumber {
 
 // Why something is refused: a case for each row of document 01's table but 0, in its order, and for
 // the numbers that the requests add. (The rows "type" and "number" are MsgType and Range here.)
-#[derive(Drop)]
+#[derive(Clone, Copy)]
 pub enum Refusal {
     More,
     MsgType,
@@ -132,7 +134,7 @@ impl Refusal {
 }
 
 // What a check or a call says: fine, or why not.
-#[derive(Drop)]
+#[derive(Clone, Copy)]
 pub enum Verdict {
     Fine,
     Refused(Refusal),

@@ -1,5 +1,7 @@
 // 256 bits in four words, as one number: place i is digit i of it, bit i % 64 (the low bit first)
 // of word i / 64. A map is read round from any place: the place after 255 is 0.
+#![tactic(auto)]
+
 ghost use Rattle.std.specs.Prelude.{◌≡◌, [], ◌∷◌, ℕ, ◌+◌, ◌-◌, ◌*◌, ◌/◌, ◌%◌, ◌^◌, ◌<◌, ◌≤◌, min, eqb, ltb, get_or};
 ghost use Rattle.std.specs.Int.Bits.{bit_or, bit_and};
 ghost use Rattle.std.specs.Int.Count.{ones, count_trailing_zeros};
@@ -110,7 +112,7 @@ fn none_but_in(a: u64, b: u64, c: u64, d: u64, q: u64, k: u64) -> bool
 }
 
 // The lowest word first.
-#[derive(Drop)]
+#[derive(Clone, Copy)]
 pub struct Map {
     pub words: [u64; 4],
 }

@@ -1,4 +1,6 @@
 // A closed capture to records, counts and ledger. Document 01, "Fault records and the listing".
+#![tactic(auto)]
+
 ghost use Rattle.std.specs.Prelude.{◌≡◌, ◌+◌, ◌*◌, ◌/◌, leb, length};
 ghost use Rattle.terms.specs.Verdicts.{verdict_number};
 ghost use Rattle.ledger.specs.State.{ledger_of};
@@ -15,7 +17,7 @@ use tick_map::Map;
 // What the walk returns: 0, or 8 where the buffer can't take all records; how many records there
 // are, how many readings were frames and how many were refused; and the ledger after the last.
 // Beside 8 the counts are 0 and the ledger is the one just opened.
-#[derive(Drop)]
+#[derive(Clone, Copy)]
 pub struct Walked {
     pub answer: Answer,
     pub records: usize,
@@ -25,7 +27,7 @@ pub struct Walked {
 }
 
 // What one pass over a capture comes to.
-#[derive(Drop)]
+#[derive(Clone, Copy)]
 struct Passed {
     records: usize,
     frames: usize,

@@ -1,5 +1,7 @@
 // One step of the walk: a reading offered to the ledger and recorded, and where the next one is.
 // Document 01, "Fault records and the listing".
+#![tactic(auto)]
+
 ghost use Rattle.std.specs.Prelude.{◌≡◌, ◌+◌, ◌<◌, leb, length, get_or};
 ghost use Rattle.ledger.specs.State.{book_of, ledger_of};
 ghost use Rattle.ledger_spec.specs.Calls.{Tick, Announce, number_to, next_of};
@@ -18,7 +20,7 @@ use rules::Kind;
 use terms::{ChannelNumber, TickNumber};
 
 // What offering a reading to the ledger comes to: the record's answer, and the ledger after it.
-#[derive(Drop)]
+#[derive(Clone, Copy)]
 pub struct Offered {
     pub answer: u32,
     pub ledger: Ledger,
