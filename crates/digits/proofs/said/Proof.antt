@@ -25,8 +25,8 @@ decreases-loop s at n v₀ i₀ v i = n - i
 abbrev hand : tie.Else1 invariant-loop decreases-loop → ℕ
 hand c = get_or c.before.before.before.before.before.before.args.s.now (c.before.before.before.before.before.before.args.at + c.before.before.before.before.loop.i) 0
 
-is_digit : (c : tie.Else1 invariant-loop decreases-loop) → is_digit (hand c) ≡ true
-is_digit c = sym c.before.digit.ensures ∙ not-false _ c.if1.false
+digit_here : (c : tie.Else1 invariant-loop decreases-loop) → is_digit (hand c) ≡ true
+digit_here c = sym c.before.digit.ensures ∙ not-false _ c.if1.false
 
 small : (c : tie.Else1 invariant-loop decreases-loop) → c.before.before.before.before.loop.v < 10 ^ 18
 small c =
@@ -57,13 +57,13 @@ mul-v : tie.Need-overflow-mul-v invariant-loop decreases-loop
 mul-v c = omega (arith, small c)
 
 sub-v : tie.Need-overflow-sub-v invariant-loop decreases-loop
-sub-v c = (digit_bounds (hand c) (is_digit c)).0
+sub-v c = (digit_bounds (hand c) (digit_here c)).0
 
 cast-v : tie.Need-overflow-cast-v invariant-loop decreases-loop
-cast-v c = omega (arith, digit_bounds (hand c) (is_digit c))
+cast-v c = omega (arith, digit_bounds (hand c) (digit_here c))
 
 add-v : tie.Need-overflow-add-v invariant-loop decreases-loop
-add-v c = omega (arith, small c, digit_bounds (hand c) (is_digit c))
+add-v c = omega (arith, small c, digit_bounds (hand c) (digit_here c))
 
 add-i : tie.Need-overflow-add-i invariant-loop decreases-loop
 add-i c = search rules
@@ -75,7 +75,7 @@ loop-again : tie.Need-loop-preserved invariant-loop decreases-loop
 loop-again c =
     let l = c.before.before.before.before.loop in
     let a = c.before.before.before.before.before.before.args in
-    (omega arith, (all_on a.s.now a.at l.i (omega arith) l.invariant.1.0 (is_digit c), rw (said_on a.s.now a.at l.i (omega arith)) (omega arith)))
+    (omega arith, (all_on a.s.now a.at l.i (omega arith) l.invariant.1.0 (digit_here c), rw (said_on a.s.now a.at l.i (omega arith)) (omega arith)))
 
 returns-2 : tie.Need-returns-2 invariant-loop decreases-loop
 returns-2 c =

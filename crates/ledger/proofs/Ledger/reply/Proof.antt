@@ -33,8 +33,8 @@ book c = book_of (start c).args.self
 number : (c : tie.After-checked) → verdict_number c.checked.result ≡ number_to (book c) (call c)
 unfolding own_number
 number c =
-    judged (book c) (call c) c.checked.result c.before.«reply-verdict».result c.checked.ensures
-    (c.before.«reply-verdict».ensures ∙ ap (λ (x : ℕ). own_number (book c) (Reply 0 x (start c).args.status)) c.before.before.value.ensures)
+    judged (book c) (call c) c.checked.result c.before.reply_verdict.result c.checked.ensures
+    (c.before.reply_verdict.ensures ∙ ap (λ (x : ℕ). own_number (book c) (Reply 0 x (start c).args.status)) c.before.before.value.ensures)
 
 value-requires : tie.Need-value-requires
 value-requires c κs = search rules
@@ -78,7 +78,7 @@ returns c =
     let k = c.before.before.before.before in
     let why = c.before.before.verdict.given.0.0 in
     let e : number_of why ≡ number_to (book k) (call k) = sym (ap verdict_number c.before.before.verdict.given.1) ∙ number k in
-    let p = c.«reply-refused».ensures in (
+    let p = c.reply_refused.ensures in (
       p.0 ∙ refused_answer (book k) (call k) why e,
       p.1 ∙ same_in (start k).args.self (call k) why e (reply_not_12 (book k) _ _ _),
       p.2,

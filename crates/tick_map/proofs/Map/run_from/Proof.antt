@@ -23,7 +23,7 @@ words c = record { four = search rules; low = λ i. search rules }
 returns : tie.Need-returns
 returns c =
     let s = c.before.before in
-    c.«first-from».ensures ∙ ap (λ (x : ℕ). count_trailing_zeros 256 (rotated s.args.s x)) c.before.flipped.ensures
+    c.first_from.ensures ∙ ap (λ (x : ℕ). count_trailing_zeros 256 (rotated s.args.s x)) c.before.flipped.ensures
     ∙ rotated_run s.args.s _ (list_lt _ (words s))
 
 pub run-from-spec : {M : Type 1} → statement M
