@@ -61,14 +61,14 @@ reach-requires c κs = search rules
 done_0 : (c : tie.After-reach) → 0 ≡ number_to (book c.before.before.before) (call c.before.before.before)
 done_0 c = sym (ap verdict_number c.before.enum_told.given.1) ∙ number c.before.before.before
 
-rules : (c : tie.After-reach) → StateRules (book c.before.before.before)
-rules c = (checked_facts (book c.before.before.before) (call c.before.before.before) (sym (done_0 c)) (λ q. omega arith) (λ q. omega arith)).rules
+rules_hold : (c : tie.After-reach) → StateRules (book c.before.before.before)
+rules_hold c = (checked_facts (book c.before.before.before) (call c.before.before.before) (sym (done_0 c)) (λ q. omega arith) (λ q. omega arith)).rules
 
 replied-requires : tie.Need-replied-requires
 replied-requires c κs =
     let k = c.before.before.before in
-    let near = reach_near (book k) (start k).args.status (rules c) in (
-      rules_test (book k) (rules c),
+    let near = reach_near (book k) (start k).args.status (rules_hold c) in (
+      rules_test (book k) (rules_hold c),
       omega (arith, near.1, c.reach.ensures),
       ledger_known (start k).args.self c.reach.result (omega (arith, near.0, c.reach.ensures)),
     )
