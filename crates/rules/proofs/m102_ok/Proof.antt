@@ -18,14 +18,14 @@ use Rattle.rules.proofs.m102_ok.Tie as tie
 abbrev start : tie.After-entry-size → tie.Start
 start c = c.before.before.before.before.before
 
-small : (c : tie.After-entry-size) → c.before.u16-at.result * c.entry_size_holds.result ≤ 65535 * 19
-small c = entries_small c.before.u16-at.result c.entry_size_holds.result (omega arith) (omega (arith, size_small c.before.before.u40-at.result, c.entry_size_holds.ensures))
+small : (c : tie.After-entry-size) → c.before.u16-at.result * c.entry_size.result ≤ 65535 * 19
+small c = entries_small c.before.u16-at.result c.entry_size.result (omega arith) (omega (arith, size_small c.before.before.u40-at.result, c.entry_size.ensures))
 
 -- the width, the count and the whole length, as the definition has them
-width : (c : tie.After-entry-size) → c.entry_size_holds.result ≡ entry_size (be 5 10 (start c).args.b.now)
-width c = c.entry_size_holds.ensures ∙ ap entry_size c.before.before.u40-at.ensures
+width : (c : tie.After-entry-size) → c.entry_size.result ≡ entry_size (be 5 10 (start c).args.b.now)
+width c = c.entry_size.ensures ∙ ap entry_size c.before.before.u40-at.ensures
 
-whole : (c : tie.After-entry-size) → 73 + c.before.u16-at.result * c.entry_size_holds.result ≡ 73 + be 2 71 (start c).args.b.now * entry_size (be 5 10 (start c).args.b.now)
+whole : (c : tie.After-entry-size) → 73 + c.before.u16-at.result * c.entry_size.result ≡ 73 + be 2 71 (start c).args.b.now * entry_size (be 5 10 (start c).args.b.now)
 whole c = same_whole _ _ _ _ c.before.u16-at.ensures (width c)
 
 -- behind all tests
@@ -33,17 +33,17 @@ passed : (c : tie.Else3) → eqb (length (start c.before.before.before).args.b.n
 passed c = eq-eqb _ _ (c.before.before.if2.false ∙ whole c.before.before.before)
 
 -- where an entry has w bytes they fill the body
-filled : (c : tie.Else3) (w : ℕ) → c.before.before.before.entry_size_holds.result ≡ w → length (start c.before.before.before).args.b.now ≡ 73 + c.before.before.before.before.u16-at.result * w
+filled : (c : tie.Else3) (w : ℕ) → c.before.before.before.entry_size.result ≡ w → length (start c.before.before.before).args.b.now ≡ 73 + c.before.before.before.before.u16-at.result * w
 filled c w e = c.before.before.if2.false ∙ ap (λ (x : ℕ). 73 + c.before.before.before.before.u16-at.result * x) e
 
 -- and they alone decide
-decides : (c : tie.Else3) (w : ℕ) → c.before.before.before.entry_size_holds.result ≡ w → entries_ok c.before.before.before.before.u16-at.result w (start c.before.before.before).args.b.now ≡ m102_ok (start c.before.before.before).args.b.now
+decides : (c : tie.Else3) (w : ℕ) → c.before.before.before.entry_size.result ≡ w → entries_ok c.before.before.before.before.u16-at.result w (start c.before.before.before).args.b.now ≡ m102_ok (start c.before.before.before).args.b.now
 decides c w e =
     let k = c.before.before.before in
     m102_entries _ _ w (sym c.before.m102-fixed-ok.ensures ∙ not-false _ c.if3.false) (passed c) k.before.u16-at.ensures (sym e ∙ width k)
 
-nineteen : (c : tie.Else4) → c.before.before.before.before.entry_size_holds.result ≡ 19
-nineteen c = let k = c.before.before.before.before in wide_other _ (rw k.entry_size_holds.ensures (size_wide _)) c.if4.false
+nineteen : (c : tie.Else4) → c.before.before.before.before.entry_size.result ≡ 19
+nineteen c = let k = c.before.before.before.before in wide_other _ (rw k.entry_size.ensures (size_wide _)) c.if4.false
 
 returns : tie.Need-returns
 returns c = m102_short _ c.if1.true
