@@ -7,22 +7,6 @@ use Rattle.record.specs.RecordLaws.{record_part, record_past}
 use borrow.Author.Rules.{rules}
 use Rattle.record.proofs.record_at.Goals as goal
 
-pub record-at-spec : {M : Type 1} → statement M
-
-record-at-spec =
-    tie.close
-    (tie.spec
-    sub-front
-    part-front-start
-    part-front-end
-    front-requires
-    returns
-    sub-front-2
-    part-front-start-2
-    part-front-end-2
-    front-requires-2
-    returns-2)
-
 pub returns-then-n-at : goal.returns-then-n-at
 returns-then-n-at c =
     let a = c.args in
