@@ -50,16 +50,16 @@ fits_field : (type : ℕ) (p : List ℕ) → fits type p ≡ true → is_field p
 unfolding fits
 fits_field type p h = (both (is_field p) _ (both _ _ h).0).0
 
-passes_fields : (type : ℕ) (seen : List Bool) (ps : List (List ℕ)) → passes type seen ps ≡ true → all_fields ps ≡ true
+passes_fields : (type : ℕ) (ps : List (List ℕ)) (seen : List Bool) → passes type seen ps ≡ true → all_fields ps ≡ true
 unfolding passes all_fields
-passes_fields type seen [] h = refl
-passes_fields type seen (p ∷ ps) h =
+passes_fields type [] seen h = refl
+passes_fields type (p ∷ ps) seen h =
     let a = both _ _ h in
-    rw (fits_field type p (both _ _ a.0).0, passes_fields type _ ps a.1)
+    rw (fits_field type p (both _ _ a.0).0, passes_fields type ps _ a.1)
 
 pub sound_fields : (type : ℕ) (fs : List ℕ) → sound_of type fs ≡ true → all_fields (pieces fs) ≡ true
 unfolding sound_of sound_from
-sound_fields type fs h = passes_fields type _ (pieces fs) (both (closed fs) _ h).1
+sound_fields type fs h = passes_fields type (pieces fs) _ (both (closed fs) _ h).1
 
 -- A FRAME CUT AT ITS FIELDS
 

@@ -9,7 +9,7 @@ use lib.Count.{ones, count_trailing_zeros}
 use lib.Dec.{eqb}
 use Rattle.terms.specs.RuledOut.{Row, ◌never◌, ◌only◌, Kept, RulesOut, ruled, numbers, bools}
 use Rattle.tick_map.specs.Bits.{value_of, bits_in, map_of, is_set, run}
-use Rattle.tick_map.specs.Ring.{rotated, without, only, lacking}
+use Rattle.tick_map.specs.Ring.{rotated, without, only as only_those, lacking}
 use Rattle.tick_map.specs.declared.Map.{Map}
 use Rattle.tick_map.proofs.Map.new.Reads as new
 use Rattle.tick_map.proofs.Map.new.Kinds as new-kinds
@@ -168,8 +168,8 @@ Map-only-wrong =
     ∷ []
 
 pub Map-only-rules-out : RulesOut (Kept _ only-kinds.ps only-kinds.r only-reads.Post) (λ c. (bits_in c.args.0, c.args.1.0, c.args.1.1.0)) (λ c. bits_in c.result) Map-only-wrong
-unfolding value_of map_of rotated only
-Map-only-rules-out = ruled numbers (λ (i : ℕ × ℕ × ℕ). bits_in (map_of ((only) i.1 i.2 i.0))) (λ c p. ap bits_in p) _ refl
+unfolding value_of map_of rotated only_those
+Map-only-rules-out = ruled numbers (λ (i : ℕ × ℕ × ℕ). bits_in (map_of (only_those i.1 i.2 i.0))) (λ c p. ap bits_in p) _ refl
 
 abbrev pub Map-lacking-wrong : List (Row (ℕ × ℕ × ℕ) ℕ)
 Map-lacking-wrong =
@@ -180,5 +180,5 @@ Map-lacking-wrong =
     ∷ []
 
 pub Map-lacking-rules-out : RulesOut (Kept _ lacking-kinds.ps lacking-kinds.r lacking-reads.Post) (λ c. (bits_in c.args.0, c.args.1.0, c.args.1.1.0)) (λ c. bits_in c.result) Map-lacking-wrong
-unfolding value_of map_of rotated only lacking
+unfolding value_of map_of rotated only_those lacking
 Map-lacking-rules-out = ruled numbers (λ (i : ℕ × ℕ × ℕ). bits_in (map_of (lacking i.1 i.2 i.0))) (λ c p. ap bits_in p) _ refl

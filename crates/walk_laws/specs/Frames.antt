@@ -58,6 +58,8 @@ module _ {R : Type 0} (read_of : List ℕ → R) (says_of : R → Says) where
     tagged_alike p fs gs f_nil f_nil a_nil = refl
     tagged_alike p fs gs (f_cons {f = f} {fs = fs'} a r) (f_cons {f = g} {fs = gs'} b s) (a_cons e t) =
         rw (e, same_length f g a b e, tagged_alike (p + length g) fs' gs' r s t)
+    tagged_alike p _ _ f_nil (f_cons {f = g} {fs = gs'} b s) e = elim e [ ]
+    tagged_alike p _ _ (f_cons {f = f} {fs = fs'} a r) f_nil e = elim e [ ]
 
     -- CR 13: what is made of the readings is equal
     pub alike : (fs gs : List (List ℕ)) → Frames fs → Frames gs → ReadAlike fs gs → sights_of read_of says_of (within zero) 0 (joined fs) ≡ sights_of read_of says_of (within zero) 0 (joined gs)
@@ -177,7 +179,7 @@ module _ {R : Type 0} (read_of : List ℕ → R) (says_of : R → Says) where
     pub accepted_frames : (m : Mode) (s : List ℕ) → Frames read_of says_of (accepted_of m s)
     unfolding accepted_of
     accepted_frames m [] = f_nil
-    accepted_frames m (b ∷ s) = frames_append _ _ (taken_frames m (b ∷ s)) (accepted_frames _ s)
+    accepted_frames m (b ∷ s) = frames_append _ _ (taken_frames m (b ∷ s)) (accepted_frames (next m (says_of (read_of (b ∷ s)))) s)
 
     module _ (kept : (s t : List ℕ) → (says_of (read_of s) ≡ more → ⊥) → read_of (s ++ t) ≡ read_of s) (fits : (s : List ℕ) (n : ℕ) → says_of (read_of s) ≡ frame n → 1 ≤ n) (scrub : List ℕ → List ℕ) (same : (s : List ℕ) → read_of (scrub s) ≡ read_of s) (long : (s : List ℕ) → length (scrub s) ≡ length s) where
       scrubbed_frames : (fs : List (List ℕ)) → Frames read_of says_of fs → Frames read_of says_of (each_of scrub fs)

@@ -86,7 +86,7 @@ module _ {R : Type 0} (read_of : List ℕ → R) (says_of : R → Says) where
     pub rested : (m : Mode) (p : ℕ) (s : List ℕ) → Ends (length s) m → Between (ran_of read_of says_of m p s).mode
     unfolding ran_of
     rested m p [] h = ends_none m h
-    rested m p (b ∷ s) h = rested_by m p b s (rested _ (p + 1) s (ends_next m b s h)) (waits m (says_of (read_of (b ∷ s)))) refl
+    rested m p (b ∷ s) h = rested_by m p b s (rested (next m (says_of (read_of (b ∷ s)))) (p + 1) s (ends_next m b s h)) (waits m (says_of (read_of (b ∷ s)))) refl
 
 noted_few : {R : Type 0} (m : Mode) (w : Says) (p : ℕ) (r : R) → length (noted m w p r) ≤ 1
 unfolding noted found

@@ -90,11 +90,11 @@ covered q xs (i_in {x = x} {xs = ys} n e l m) =
     covers_here {x = x} {xs = ys} f.0 l (rw f.1 m)
 covered q xs (i_later {x = x} {xs = ys} h) = covers_later (covered q ys h)
 
-either : (b : Book) (q : ℕ) (xs : List (Sight Seen)) → Has says_of q xs → At q (account_of record_by book_by b xs).records ⊎ Covers q xs
+either : (q : ℕ) (b : Book) (xs : List (Sight Seen)) → Has says_of q xs → At q (account_of record_by book_by b xs).records ⊎ Covers q xs
 unfolding account_of record_by made_of
-either b q xs (h_at {x = x} {xs = ys} e) = inl (at_here {r = record_by b x} e)
-either b q xs (h_in h) = inr (covered q xs h)
-either b q xs (h_later {x = x} {xs = ys} h) = ⊎_elim (λ a. inl (at_later a)) (λ c. inr (covers_later c)) (either (book_by b x) q ys h)
+either q b xs (h_at {x = x} {xs = ys} e) = inl (at_here {r = record_by b x} e)
+either q b xs (h_in h) = inr (covered q xs h)
+either q b xs (h_later {x = x} {xs = ys} h) = ⊎_elim (λ a. inl (at_later a)) (λ c. inr (covers_later c)) (either q (book_by b x) ys h)
 
 -- a place that reads 0 and lies inside no frame that was read has a record
 pub no_frame_lost : (s : List ℕ) (q : ℕ) → (read_of (drop q s)).number ≡ 0 → (Covers q (sights s) → ⊥) → At q (walk_of s).records
@@ -102,4 +102,4 @@ unfolding Account.walk_of
 no_frame_lost s q z un =
     let h : 24 ≤ length s - q = simp length-drop at (good (drop q s) z).whole.header in
     ⊎_elim (λ a. a) (λ c. absurd (un c))
-    (either (fresh 100) q (sights s) (none_lost seen_of says_of s q (omega arith) ((seen_of (drop q s)).size, says_frame (seen_of (drop q s)) (seen_answer (drop q s) ∙ z))))
+    (either q (fresh 100) (sights s) (none_lost seen_of says_of s q (omega arith) ((seen_of (drop q s)).size, says_frame (seen_of (drop q s)) (seen_answer (drop q s) ∙ z))))

@@ -26,16 +26,16 @@ u40-at-requires c κs = search rules
 entry-size-requires : tie.Need-entry-size-requires
 entry-size-requires c κs = search rules
 
-small : (c : tie.After-entry-size) → c.before.before.u16-at.result * c.entry_size_holds.result ≤ 65535 * 19
-small c = entries_small c.before.before.u16-at.result c.entry_size_holds.result (omega arith) (omega (arith, size_small c.before.u40-at.result, c.entry_size_holds.ensures))
+small : (c : tie.After-entry-size) → c.before.before.u16-at.result * c.entry_size.result ≤ 65535 * 19
+small c = entries_small c.before.before.u16-at.result c.entry_size.result (omega arith) (omega (arith, size_small c.before.u40-at.result, c.entry_size.ensures))
 
 abbrev text : tie.After-entry-size → List ℕ
 text c = c.before.before.before.before.args.b.now
 
-width : (c : tie.After-entry-size) → c.entry_size_holds.result ≡ entry_size (be 5 10 (text c))
-width c = c.entry_size_holds.ensures ∙ ap entry_size c.before.u40-at.ensures
+width : (c : tie.After-entry-size) → c.entry_size.result ≡ entry_size (be 5 10 (text c))
+width c = c.entry_size.ensures ∙ ap entry_size c.before.u40-at.ensures
 
-whole : (c : tie.After-entry-size) → 73 + c.before.before.u16-at.result * c.entry_size_holds.result ≡ 73 + be 2 71 (text c) * entry_size (be 5 10 (text c))
+whole : (c : tie.After-entry-size) → 73 + c.before.before.u16-at.result * c.entry_size.result ≡ 73 + be 2 71 (text c) * entry_size (be 5 10 (text c))
 whole c = same_whole _ _ _ _ c.before.before.u16-at.ensures (width c)
 
 -- NoMDEntries
@@ -55,7 +55,7 @@ returns : tie.Need-returns
 returns c = let e = c.before.before in c.breaks.ensures ∙ sym (stopped (count (text e)) (entries_of (text e)) (ne_eqb _ _ (λ z. c.before.if1.true (z ∙ sym (whole e)))))
 
 entries-broken-requires : tie.Need-entries-broken-requires
-entries-broken-requires c κs = (rw c.before.entry_size_holds.ensures (size_wide _), c.if1.false)
+entries-broken-requires c κs = (rw c.before.entry_size.ensures (size_wide _), c.if1.false)
 
 returns-2 : tie.Need-returns-2
 returns-2 c =

@@ -31,15 +31,15 @@ sets-told-requires-2 c κs = search rules
 returns : tie.Need-returns
 returns c =
     let a = c.before.before.before.before.before.args in
-    let row = row_of a.first.0 a.given_up_holds a.passed in
+    let row = row_of a.first.0 a.given_up a.passed in
     c.sets-told.ensures ∙ ap (λ (n : ℕ). told_as (answer n row)) c.before.number.ensures
-    ∙ ap (λ (x : ReplyAnswer). told_as (answer (reply_paper x a.first a.given_up_holds a.passed).number row)) (sym c.before.before.before.a.given.1)
+    ∙ ap (λ (x : ReplyAnswer). told_as (answer (reply_paper x a.first a.given_up a.passed).number row)) (sym c.before.before.before.a.given.1)
 
 returns-2 : tie.Need-returns-2
 returns-2 c =
     let a = c.before.before.before.args in
-    let row = row_of a.first.0 a.given_up_holds a.passed in
-    c.sets-told2.ensures ∙ ap (λ (x : ReplyAnswer). told_as (answer (reply_paper x a.first a.given_up_holds a.passed).number row)) (sym c.before.enum_told.given.1)
+    let row = row_of a.first.0 a.given_up a.passed in
+    c.sets-told2.ensures ∙ ap (λ (x : ReplyAnswer). told_as (answer (reply_paper x a.first a.given_up a.passed).number row)) (sym c.before.enum_told.given.1)
 
 pub reply-told-spec : {M : Type 1} → statement M
 reply-told-spec =

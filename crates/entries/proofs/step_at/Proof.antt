@@ -17,10 +17,10 @@ use Rattle.entries.proofs.step_at.Tie as tie
 there : (c : tie.Else1) → stands c.before.before.before.before.before.args.body.now c.before.before.before.before.before.args.place ≡ true
 there c = sym c.before.is-entry.ensures ∙ not-false _ c.if1.false
 
-size : (c : tie.Else1) → c.before.before.entry_size_holds.result ≡ size_in c.before.before.before.before.before.args.body.now
-size c = c.before.before.entry_size_holds.ensures ∙ ap entry_size c.before.before.before.u40-at.ensures
+size : (c : tie.Else1) → c.before.before.entry_size.result ≡ size_in c.before.before.before.before.before.args.body.now
+size c = c.before.before.entry_size.ensures ∙ ap entry_size c.before.before.before.u40-at.ensures
 
-whole : (c : tie.Else1) → c.before.before.before.before.before.args.place + c.before.before.entry_size_holds.result ≤ length c.before.before.before.before.before.args.body.now
+whole : (c : tie.Else1) → c.before.before.before.before.before.args.place + c.before.before.entry_size.result ≤ length c.before.before.before.before.before.args.body.now
 whole c = rw (size c) (stands_whole _ _ (there c))
 
 u40-at-requires : tie.Need-u40-at-requires
@@ -30,7 +30,7 @@ entry-size-requires : tie.Need-entry-size-requires
 entry-size-requires c κs = search rules
 
 is-entry-requires : tie.Need-is-entry-requires
-is-entry-requires c κs = c.entry_size_holds.ensures ∙ ap entry_size c.before.u40-at.ensures
+is-entry-requires c κs = c.entry_size.ensures ∙ ap entry_size c.before.u40-at.ensures
 
 returns : tie.Need-returns
 returns c = let f = sym c.before.is-entry.ensures ∙ not-true _ c.if1.true in record { answered = sym (step_20 _ _ f); place = sym (after_20 _ _ f) }

@@ -12,9 +12,9 @@ use Rattle.frame.proofs.may_write.Tie as tie
 
 -- the message, as the function was called
 abbrev text : tie.Start → Message
-text c = message c.args.msg_type_holds c.args.sending-time c.args.seq.0 c.args.body.now
+text c = message c.args.msg_type c.args.sending-time c.args.seq.0 c.args.body.now
 
-kind : (c : tie.After-kind-of) → c.kind-of.result ≡ kind_of c.before.before.args.msg_type_holds
+kind : (c : tie.After-kind-of) → c.kind-of.result ≡ kind_of c.before.before.args.msg_type
 kind c = kind_is _ _ c.kind-of.ensures
 
 told1 : (c : tie.After-measure) → verdict_number c.measure.result ≡ measure_in (text c.before.before.before)

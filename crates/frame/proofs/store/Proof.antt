@@ -46,7 +46,7 @@ abbrev entry6 : tie.After-put5 → tie.Start
 entry6 c = entry5 (to5 c)
 
 abbrev text : tie.Start → Message
-text c = message c.args.msg_type_holds c.args.sending-time c.args.seq.0 c.args.body.now
+text c = message c.args.msg_type c.args.sending-time c.args.seq.0 c.args.body.now
 
 -- the frame's parts so far
 abbrev parts1 : Message → List ℕ

@@ -12,14 +12,14 @@ abbrev start : tie.After-may-write → tie.Start
 start c = c.before.before.before
 
 abbrev text : tie.After-may-write → Message
-text c = message (start c).args.msg_type_holds (start c).args.sending-time (start c).args.seq.0 (start c).args.body.now
+text c = message (start c).args.msg_type (start c).args.sending-time (start c).args.seq.0 (start c).args.body.now
 
 -- what writing answers, in the arm of its case
 refused : (c : tie.After-why) → refusal (number_of c.why.given.0.0) ≡ write_of (text c.before.before) (length (start c.before.before).args.out.now)
-refused c = sym (ap written_paper c.why.given.1) ∙ c.before.before.may_write_lem.ensures
+refused c = sym (ap written_paper c.why.given.1) ∙ c.before.before.may_write.ensures
 
 written : (c : tie.After-n) → answer 0 (c.n.given.0.0 ∷ []) ≡ write_of (text c.before.before) (length (start c.before.before).args.out.now)
-written c = sym (ap written_paper c.n.given.1) ∙ c.before.before.may_write_lem.ensures
+written c = sym (ap written_paper c.n.given.1) ∙ c.before.before.may_write.ensures
 
 done : (c : tie.After-n) → (write_of (text c.before.before) (length (start c.before.before).args.out.now)).number ≡ 0
 done c = sym (one_number (written c))

@@ -16,10 +16,10 @@ use Rattle.host_frames.proofs.rk_broken_field.Statement.{statement}
 use Rattle.host_frames.proofs.rk_broken_field.Tie as tie
 
 -- the type, and the number of the two checks on it
-kind : (c : tie.After-measure) → c.before.kind-of.result ≡ kind_of c.before.before.before.args.msg_type_holds
+kind : (c : tie.After-measure) → c.before.kind-of.result ≡ kind_of c.before.before.before.args.msg_type
 kind c = kind_is _ _ c.before.kind-of.ensures
 
-measured : (c : tie.After-measure) → verdict_number c.measure.result ≡ measure_of (kind_of c.before.before.before.args.msg_type_holds) (length c.before.before.before.args.body.now)
+measured : (c : tie.After-measure) → verdict_number c.measure.result ≡ measure_of (kind_of c.before.before.before.args.msg_type) (length c.before.before.before.args.body.now)
 measured c = c.measure.ensures ∙ ap (λ (k : Kind). measure_of k (length c.before.before.before.args.body.now)) (kind c)
 
 kind-of-requires : tie.Need-kind-of-requires
@@ -49,8 +49,8 @@ unfolding broken_told
 returns-2 c =
     let m = c.before.before.before.before in
     let a = m.before.before.before.args in
-    let fine : 0 ≡ measure_of (kind_of a.msg_type_holds) (length a.body.now) = sym (ap verdict_number c.before.before.enum_told.given.1) ∙ measured m in
-    let field : c.before.broken-field.result ≡ broken_of (kind_of a.msg_type_holds) a.body.now = c.before.broken-field.ensures ∙ ap (λ (k : Kind). broken_of k a.body.now) (kind m) in
+    let fine : 0 ≡ measure_of (kind_of a.msg_type) (length a.body.now) = sym (ap verdict_number c.before.before.enum_told.given.1) ∙ measured m in
+    let field : c.before.broken-field.result ≡ broken_of (kind_of a.msg_type) a.body.now = c.before.broken-field.ensures ∙ ap (λ (k : Kind). broken_of k a.body.now) (kind m) in
     tells_done _ _ _ (ap₂ (λ (n : ℕ) (f : Broken). answer n (broken_numbers f)) fine field)
 
 pub rk-broken-field-spec : {M : Type 1} → statement M

@@ -22,13 +22,13 @@ abbrev text : tie.After-read-at → List ℕ
 text c = let a = c.before.before.args in drop a.place a.bytes.now
 
 abbrev header : tie.After-msg-type → Paper
-header c = let g = c.msg_type_holds.given.0 in answer 0 (g.0 ∷ g.1.0 ∷ g.1.1.0.0 ∷ g.1.1.1.0 ∷ [])
+header c = let g = c.msg_type.given.0 in answer 0 (g.0 ∷ g.1.0 ∷ g.1.1.0.0 ∷ g.1.1.1.0 ∷ [])
 
 paper : (c : tie.After-msg-type) → header c ≡ read_of (text c.before.before)
-paper c = sym (ap read_paper c.msg_type_holds.given.1) ∙ c.before.before.read_at.ensures
+paper c = sym (ap read_paper c.msg_type.given.1) ∙ c.before.before.read_at.ensures
 
 -- the frame ends within the bytes
-inside : (c : tie.After-msg-type) → c.before.before.before.before.args.place + (28 + c.msg_type_holds.given.0.1.1.1.0) ≤ length c.before.before.before.before.args.bytes.now
+inside : (c : tie.After-msg-type) → c.before.before.before.before.args.place + (28 + c.msg_type.given.0.1.1.1.0) ≤ length c.before.before.before.before.args.bytes.now
 inside c = read_inside _ _ _ _ _ _ (paper c)
 
 -- and the view of its body

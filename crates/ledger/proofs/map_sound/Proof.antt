@@ -48,7 +48,7 @@ returns-4 c =
     let s = c.before.before.before.before.before in
     let some : 0 < s.args.known = omega arith in
     let few : s.args.known < 256 = omega arith in
-    c.«none-but».ensures ∙ rules_few s.args.from s.args.known _ (list_lt _ (words s)) some few
+    c.none_but.ensures ∙ rules_few s.args.from s.args.known _ (list_lt _ (words s)) some few
 
 pub map-sound-spec : {M : Type 1} → statement M
 map-sound-spec =

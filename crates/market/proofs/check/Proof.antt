@@ -11,7 +11,7 @@ use Rattle.market.proofs.check.Statement.{statement}
 use Rattle.market.proofs.check.Tie as tie
 
 head : (c : tie.After-known-told2) → line_fault 41 header 0 c.before.before.before.before.before.before.args.file.now ≡ fine c.before.p.given.0.0
-head c = sym c.before.before.before.line_at_lem.ensures ∙ ap verdict_paper c.before.p.given.1
+head c = sym c.before.before.before.line_at.ensures ∙ ap verdict_paper c.before.p.given.1
 
 returns : tie.Need-returns
 returns c = sym (file_large _ c.if1.true)
@@ -29,7 +29,7 @@ lines-at-requires : tie.Need-lines-at-requires
 lines-at-requires c κs = (line_long 41 header 0 _ _ (λ z. omega arith) (omega arith) (head c)).1
 
 returns-2 : tie.Need-returns-2
-returns-2 c = sym (file_header _ _ _ c.before.before.before.before.if1.false (fault_some c.before.f.given.0.0) (sym c.before.before.before.line_at_lem.ensures ∙ ap verdict_paper c.before.f.given.1))
+returns-2 c = sym (file_header _ _ _ c.before.before.before.before.if1.false (fault_some c.before.f.given.0.0) (sym c.before.before.before.line_at.ensures ∙ ap verdict_paper c.before.f.given.1))
 
 returns-3 : tie.Need-returns-3
 returns-3 c = c.lines_at.ensures ∙ sym (file_lines _ _ c.before.before.before.before.before.if1.false (head c.before))

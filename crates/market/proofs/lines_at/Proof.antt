@@ -20,7 +20,7 @@ abbrev decreases-loop : tie.decreases-loop
 decreases-loop s at p₀ k₀ p k = length s - p
 
 told : (c : tie.After-known-told2 invariant-loop decreases-loop) → let p = c.before.before.before.before.before.before.before.before.before.loop.p in let s = c.before.before.before.before.before.before.before.before.before.before.before.args.s.now in line_fault 43 (layout_of (type_at p s)) p s ≡ fine c.before.q.given.0.0
-told c = ap (λ (cs : List Column). line_fault 43 cs c.before.before.before.before.before.before.before.before.before.loop.p c.before.before.before.before.before.before.before.before.before.before.before.args.s.now) (ap layout_of (sym c.before.before.before.before.before.before.before.before.type_at.ensures) ∙ sym c.before.before.before.before.rows_of_lem.ensures.0) ∙ sym c.before.before.before.line_at_lem.ensures ∙ ap verdict_paper c.before.q.given.1
+told c = ap (λ (cs : List Column). line_fault 43 cs c.before.before.before.before.before.before.before.before.before.loop.p c.before.before.before.before.before.before.before.before.before.before.before.args.s.now) (ap layout_of (sym c.before.before.before.before.before.before.before.before.type_at.ensures) ∙ sym c.before.before.before.before.rows_of.ensures.0) ∙ sym c.before.before.before.line_at.ensures ∙ ap verdict_paper c.before.q.given.1
 
 loop-holds : tie.Need-loop-init invariant-loop decreases-loop
 loop-holds c = left_first _ _ (search rules)
@@ -44,13 +44,13 @@ rows-of-requires : tie.Need-rows-of-requires invariant-loop decreases-loop
 rows-of-requires c κs = search rules
 
 line-at-requires : tie.Need-line-at-requires invariant-loop decreases-loop
-line-at-requires c κs = (c.before.before.before.before.before.loop.invariant.inside, c.rows_of_lem.ensures.1.0)
+line-at-requires c κs = (c.before.before.before.before.before.loop.invariant.inside, c.rows_of.ensures.1.0)
 
 enum-known-f : tie.Need-enum-known-f invariant-loop decreases-loop
 enum-known-f c = search rules
 
 returns-4 : tie.Need-returns-4 invariant-loop decreases-loop
-returns-4 c = left_wrong _ _ _ _ c.before.before.before.before.before.before.before.before.before.loop.invariant (λ e. c.before.before.before.before.before.before.before.if1.false (c.before.before.before.before.before.before.before.before.type_at.ensures ∙ e)) (λ e. c.before.before.before.before.before.before.if2.false (c.before.before.before.before.before.before.before.before.type_at.ensures ∙ e)) (λ e. c.before.before.before.before.before.if3.false (c.before.before.before.before.before.before.before.before.type_at.ensures ∙ e)) _ _ (fault_some c.before.f.given.0.0) (ap (λ (cs : List Column). line_fault 43 cs c.before.before.before.before.before.before.before.before.before.loop.p c.before.before.before.before.before.before.before.before.before.before.before.args.s.now) (ap layout_of (sym c.before.before.before.before.before.before.before.before.type_at.ensures) ∙ sym c.before.before.before.before.rows_of_lem.ensures.0) ∙ sym c.before.before.before.line_at_lem.ensures ∙ ap verdict_paper c.before.f.given.1)
+returns-4 c = left_wrong _ _ _ _ c.before.before.before.before.before.before.before.before.before.loop.invariant (λ e. c.before.before.before.before.before.before.before.if1.false (c.before.before.before.before.before.before.before.before.type_at.ensures ∙ e)) (λ e. c.before.before.before.before.before.before.if2.false (c.before.before.before.before.before.before.before.before.type_at.ensures ∙ e)) (λ e. c.before.before.before.before.before.if3.false (c.before.before.before.before.before.before.before.before.type_at.ensures ∙ e)) _ _ (fault_some c.before.f.given.0.0) (ap (λ (cs : List Column). line_fault 43 cs c.before.before.before.before.before.before.before.before.before.loop.p c.before.before.before.before.before.before.before.before.before.before.before.args.s.now) (ap layout_of (sym c.before.before.before.before.before.before.before.before.type_at.ensures) ∙ sym c.before.before.before.before.rows_of.ensures.0) ∙ sym c.before.before.before.line_at.ensures ∙ ap verdict_paper c.before.f.given.1)
 
 enum-known-q : tie.Need-enum-known-q invariant-loop decreases-loop
 enum-known-q c = search rules

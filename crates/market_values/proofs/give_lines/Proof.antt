@@ -49,7 +49,7 @@ laid-line g =
     let e = y.before.before.before in
     let l = e.before.before.loop in
     let s = e.before.before.before.before.before.args.s.now in
-    g.give-line.ensures ∙ ap (λ (cs : List Column). laid (l.a + 2) (row_bytes (line_values cs (drop l.p s))) y.put.new.0) (g.before.before.rows_of_lem.ensures.0 ∙ ap layout_of e.before.line-type.ensures)
+    g.give-line.ensures ∙ ap (λ (cs : List Column). laid (l.a + 2) (row_bytes (line_values cs (drop l.p s))) y.put.new.0) (g.before.before.rows_of.ensures.0 ∙ ap layout_of e.before.line-type.ensures)
 
 after : (c : tie.After-line-long invariant-loop decreases-loop) → let g = c.before.before.before.before in let e = g.before.before.before.before.before.before.before.before in let l = e.before.before.loop in let a = e.before.before.before.before.before.args in
     GiveLeft a.s.now (l.p + c.line-long.result) (l.a + c.before.line-size.result) g.give-line.new.0 (laid 38 (lines_bytes (values_of a.s.now).lines) a.out.now)
@@ -92,9 +92,9 @@ give-line-requires c κs =
     let e = y.before.before.before in
     let l = e.before.before.loop in
     let s = e.before.before.before.before.before.args.s.now in
-    let f = c.before.rows_of_lem.ensures.0 ∙ ap layout_of e.before.line-type.ensures in
+    let f = c.before.rows_of.ensures.0 ∙ ap layout_of e.before.line-type.ensures in
     let k : length y.put.new.0 ≡ length l.out = give_kept_1 s l.p l.a l.out _ l.invariant.1 (is_line_holds e) y.put.new.0 _ (typed y) refl in
-    (c.before.rows_of_lem.ensures.1.0, (rw (f, k) (omega (arith, give_room s l.p l.a l.out _ l.invariant.1 (is_line_holds e))), rw f (give_right s l.p l.a l.out _ l.invariant.1 (is_line_holds e))))
+    (c.before.rows_of.ensures.1.0, (rw (f, k) (omega (arith, give_room s l.p l.a l.out _ l.invariant.1 (is_line_holds e))), rw f (give_right s l.p l.a l.out _ l.invariant.1 (is_line_holds e))))
 
 line-size-requires : tie.Need-line-size-requires invariant-loop decreases-loop
 line-size-requires c κs = search rules

@@ -38,7 +38,7 @@ told : (v : tie.After-values-fit invariant-loop decreases-loop) → let y = v.be
 told v =
     let y = v.before.before.before in
     let i = y.before.before.before in
-    v.values-fit.ensures ∙ ap (λ (cs : List Column). taken_fault cs (i.before.loop.p + 2) i.before.before.before.args.s.now) (v.before.rows_of_lem.ensures.0 ∙ ap layout_of (typed y))
+    v.values-fit.ensures ∙ ap (λ (cs : List Column). taken_fault cs (i.before.loop.p + 2) i.before.before.before.args.s.now) (v.before.rows_of.ensures.0 ∙ ap layout_of (typed y))
 
 other : (e : tie.Else2 invariant-loop decreases-loop) → let y = e.before in let i = y.before.before.before in type_of (be 2 i.before.loop.p i.before.before.before.args.s.now) ≡ 0 → ⊥
 other e q = e.if2.false (typed e.before ∙ q)
@@ -89,7 +89,7 @@ add-values-fit : tie.Need-overflow-add-values-fit invariant-loop decreases-loop
 add-values-fit c = let e = c.before.before.before.before in record { fits = omega (arith, whole e, small e.before) }
 
 values-fit-requires : tie.Need-values-fit-requires invariant-loop decreases-loop
-values-fit-requires c κs = (whole c.before.before.before.before, c.rows_of_lem.ensures.1.0)
+values-fit-requires c κs = (whole c.before.before.before.before, c.rows_of.ensures.1.0)
 
 enum-known-f : tie.Need-enum-known-f invariant-loop decreases-loop
 enum-known-f c = search rules

@@ -29,8 +29,8 @@ small : (i : tie.In-loop invariant-loop decreases-loop) → (length i.before.bef
 small i = (search rules, search rules)
 
 -- the rows are those of the type that stands there
-rows : (y : tie.After-rows-of invariant-loop decreases-loop) → let i = y.before.before.before in columns y.rows_of_lem.result.first y.rows_of_lem.result.last ≡ layout_of (type_of (be 2 i.before.loop.p i.before.before.before.before.args.s.now))
-rows y = y.rows_of_lem.ensures.0 ∙ ap layout_of (y.before.type-of.ensures ∙ ap type_of y.before.before.u16-at.ensures)
+rows : (y : tie.After-rows-of invariant-loop decreases-loop) → let i = y.before.before.before in columns y.rows_of.result.first y.rows_of.result.last ≡ layout_of (type_of (be 2 i.before.loop.p i.before.before.before.before.args.s.now))
+rows y = y.rows_of.ensures.0 ∙ ap layout_of (y.before.type-of.ensures ∙ ap type_of y.before.before.u16-at.ensures)
 
 typed : (y : tie.After-type-of invariant-loop decreases-loop) → let i = y.before.before in y.type-of.result ≡ type_of (be 2 i.before.loop.p i.before.before.before.before.args.s.now)
 typed y = y.type-of.ensures ∙ ap type_of y.before.u16-at.ensures
@@ -77,7 +77,7 @@ put-line-requires c κs =
     let y = c.before in
     let i = y.before.before.before in
     let l = i.before.loop in
-    (y.rows_of_lem.ensures.1.0, (rw (rows y) (room i), rw (rows y) (put_fits i.before.before.before.before.args.s.now l.p l.a l.out _ l.invariant.1 (search rules))))
+    (y.rows_of.ensures.1.0, (rw (rows y) (room i), rw (rows y) (put_fits i.before.before.before.before.args.s.now l.p l.a l.out _ l.invariant.1 (search rules))))
 
 line-long-requires : tie.Need-line-long-requires invariant-loop decreases-loop
 line-long-requires c κs = search rules

@@ -84,7 +84,7 @@ add-t20 c = omega (arith, c.before.before.before.before.before.before.before.bef
 returns : tie.Need-returns
 returns c =
     turned_of _ _ _ _ _ _ _ _ _ _ _ c.before.before.before.before.before.before.before.before.before.before.before.before.before.before.before.before.offer.ensures.0 c.before.before.before.before.before.before.before.before.before.before.before.before.before.before.before.before.offer.ensures.1
-    (c.before.before.before.before.before.before.before.before.before.before.before.before.is_tick_holds.ensures ∙ ap is_tick (kind_is c.before.before.before.before.before.before.before.before.before.before.before.before.before.kind-of.result _ c.before.before.before.before.before.before.before.before.before.before.before.before.before.kind-of.ensures)) (c.before.before.before.before.before.before.before.before.before.before.is-resend.ensures ∙ ap is_resend (kind_is c.before.before.before.before.before.before.before.before.before.before.before.kind-of2.result _ c.before.before.before.before.before.before.before.before.before.before.before.kind-of2.ensures))
+    (c.before.before.before.before.before.before.before.before.before.before.before.before.is_tick.ensures ∙ ap is_tick (kind_is c.before.before.before.before.before.before.before.before.before.before.before.before.before.kind-of.result _ c.before.before.before.before.before.before.before.before.before.before.before.before.before.kind-of.ensures)) (c.before.before.before.before.before.before.before.before.before.before.is-resend.ensures ∙ ap is_resend (kind_is c.before.before.before.before.before.before.before.before.before.before.before.kind-of2.result _ c.before.before.before.before.before.before.before.before.before.before.before.kind-of2.ensures))
     c.before.before.before.before.before.before.before.before.before.counted.ensures.0 c.before.before.before.before.before.before.before.counted2.ensures.0 c.before.before.before.before.before.counted3.ensures.0 c.before.before.before.counted4.ensures.0 c.before.counted5.ensures.0
 
 pub turned-spec : {M : Type 1} → statement M

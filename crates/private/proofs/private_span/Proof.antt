@@ -18,25 +18,25 @@ use Rattle.private.proofs.private_span.Statement.{statement}
 use Rattle.private.proofs.private_span.Tie as tie
 
 -- the type, and the number of the checks on it
-kind : (c : tie.After-measure) → c.before.kind-of.result ≡ kind_of c.before.before.before.args.msg_type_holds
+kind : (c : tie.After-measure) → c.before.kind-of.result ≡ kind_of c.before.before.before.args.msg_type
 kind c = kind_is _ _ c.before.kind-of.ensures
 
-checked : (c : tie.After-measure) → verdict_number c.measure.result ≡ measure_of (kind_of c.before.before.before.args.msg_type_holds) (length c.before.before.before.args.body.now)
+checked : (c : tie.After-measure) → verdict_number c.measure.result ≡ measure_of (kind_of c.before.before.before.args.msg_type) (length c.before.before.before.args.body.now)
 checked c = c.measure.ensures ∙ ap (λ (k : Kind). measure_of k (length c.before.before.before.args.body.now)) (kind c)
 
-refused : (c : tie.After-why) → refusal (number_of c.why.given.0.0) ≡ span_answer c.before.before.before.before.before.args.msg_type_holds c.before.before.before.before.before.args.body.now c.before.before.before.before.before.args.i
+refused : (c : tie.After-why) → refusal (number_of c.why.given.0.0) ≡ span_answer c.before.before.before.before.before.args.msg_type c.before.before.before.before.before.args.body.now c.before.before.before.before.before.args.i
 refused c =
     let e = sym (ap verdict_number c.why.given.1) ∙ checked c.before.before in
     ap refusal e ∙ sym (span_refused _ _ _ (λ (z : _ ≡ 0). refusal_pos c.why.given.0.0 (e ∙ z)))
 
-spanned : (c : tie.After-span-at) → let a = c.before.before.before.before.before.before.before.args in answer 0 (span_numbers c.span-at.result) ≡ span_answer a.msg_type_holds a.body.now a.i
+spanned : (c : tie.After-span-at) → let a = c.before.before.before.before.before.before.before.args in answer 0 (span_numbers c.span-at.result) ≡ span_answer a.msg_type a.body.now a.i
 spanned c =
     let m = c.before.before.before.before in
     let a = m.before.before.before.args in
-    let k = kind_of a.msg_type_holds in
+    let k = kind_of a.msg_type in
     let fine : measure_of k (length a.body.now) ≡ 0 = sym (checked m) ∙ ap verdict_number c.before.before.enum_told.given.1 in
     let all : parts_spans c.before.Parts-in.result ≡ private_of k a.body.now = c.before.Parts-in.ensures ∙ ap (λ (x : Kind). suited_spans x a.body.now) (kind m) ∙ suited_is k a.body.now (fits k (length a.body.now) fine).suit in
-    ap (λ (p : Span). answer 0 (span_numbers p)) (c.span-at.ensures ∙ ap (λ (ps : List Span). span_at a.i ps) all) ∙ sym (span_told_lem a.msg_type_holds a.body.now a.i fine)
+    ap (λ (p : Span). answer 0 (span_numbers p)) (c.span-at.ensures ∙ ap (λ (ps : List Span). span_at a.i ps) all) ∙ sym (span_told_lem a.msg_type a.body.now a.i fine)
 
 kind-of-requires : tie.Need-kind-of-requires
 kind-of-requires c κs = search rules

@@ -25,19 +25,19 @@ abbrev text : tie.After-read-at → List ℕ
 text c = drop (start c).args.at (start c).args.bytes.now
 
 -- in the arm of a frame: its paper, its length, and that it ends within the bytes
-paper : (c : tie.After-msg-type) → answer 0 (c.msg_type_holds.given.0.0 ∷ c.msg_type_holds.given.0.1.0 ∷ c.msg_type_holds.given.0.1.1.0.0 ∷ c.msg_type_holds.given.0.1.1.1.0 ∷ []) ≡ read_of (text c.before.before)
-paper c = sym (ap read_paper c.msg_type_holds.given.1) ∙ c.before.before.read_at.ensures
+paper : (c : tie.After-msg-type) → answer 0 (c.msg_type.given.0.0 ∷ c.msg_type.given.0.1.0 ∷ c.msg_type.given.0.1.1.0.0 ∷ c.msg_type.given.0.1.1.1.0 ∷ []) ≡ read_of (text c.before.before)
+paper c = sym (ap read_paper c.msg_type.given.1) ∙ c.before.before.read_at.ensures
 
-len_is : (c : tie.After-msg-type) → c.msg_type_holds.given.0.1.1.1.0 ≡ body_length (text c.before.before)
+len_is : (c : tie.After-msg-type) → c.msg_type.given.0.1.1.1.0 ≡ body_length (text c.before.before)
 len_is c = read_length _ _ _ _ _ (paper c)
 
 whole : (c : tie.After-msg-type) → Whole (text c.before.before)
 whole c = (good _ (read_done _ _ _ _ _ (paper c))).whole
 
-inside : (c : tie.After-msg-type) → (start c.before.before).args.at + (28 + c.msg_type_holds.given.0.1.1.1.0) ≤ length (start c.before.before).args.bytes.now
-inside c = let s = start c.before.before in inside_at s.args.at s.args.bytes.now c.msg_type_holds.given.0.1.1.1.0 (len_is c) (whole c).there
+inside : (c : tie.After-msg-type) → (start c.before.before).args.at + (28 + c.msg_type.given.0.1.1.1.0) ≤ length (start c.before.before).args.bytes.now
+inside c = let s = start c.before.before in inside_at s.args.at s.args.bytes.now c.msg_type.given.0.1.1.1.0 (len_is c) (whole c).there
 
-small : (c : tie.After-msg-type) → c.msg_type_holds.given.0.1.1.1.0 ≤ 8164
+small : (c : tie.After-msg-type) → c.msg_type.given.0.1.1.1.0 ≤ 8164
 small c = rw (len_is c) (fits _ _ (whole c).decreases).small
 
 read-at-requires : tie.Need-read-at-requires

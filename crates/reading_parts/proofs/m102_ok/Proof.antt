@@ -17,17 +17,17 @@ start c = c.before.before.before.before.before.before
 abbrev both : tie.Start → List ℕ
 both s = s.args.first.now ++ s.args.second.now
 
-small : (c : tie.After-entry-size) → c.before.before.u16-at.result * c.entry_size_holds.result ≤ 65535 * 19
-small c = entries_small c.before.before.u16-at.result c.entry_size_holds.result (omega arith) (omega (arith, size_small c.before.u40-at.result, c.entry_size_holds.ensures))
+small : (c : tie.After-entry-size) → c.before.before.u16-at.result * c.entry_size.result ≤ 65535 * 19
+small c = entries_small c.before.before.u16-at.result c.entry_size.result (omega arith) (omega (arith, size_small c.before.u40-at.result, c.entry_size.ensures))
 
 -- the count, the width and the whole length, as the definition has them
 count : (c : tie.After-entry-size) → c.before.before.u16-at.result ≡ be 2 71 (body (both (start c)))
 count c = c.before.before.u16-at.ensures ∙ in_body _ _ (start c).requires.0 2 71 (omega arith)
 
-width : (c : tie.After-entry-size) → c.entry_size_holds.result ≡ entry_size (be 5 10 (body (both (start c))))
-width c = c.entry_size_holds.ensures ∙ ap entry_size (c.before.u40-at.ensures ∙ in_body _ _ (start c).requires.0 5 10 (omega arith))
+width : (c : tie.After-entry-size) → c.entry_size.result ≡ entry_size (be 5 10 (body (both (start c))))
+width c = c.entry_size.ensures ∙ ap entry_size (c.before.u40-at.ensures ∙ in_body _ _ (start c).requires.0 5 10 (omega arith))
 
-whole : (c : tie.After-entry-size) → 73 + c.before.before.u16-at.result * c.entry_size_holds.result ≡ 73 + be 2 71 (body (both (start c))) * entry_size (be 5 10 (body (both (start c))))
+whole : (c : tie.After-entry-size) → 73 + c.before.before.u16-at.result * c.entry_size.result ≡ 73 + be 2 71 (body (both (start c))) * entry_size (be 5 10 (body (both (start c))))
 whole c = same_whole _ _ _ _ (count c) (width c)
 
 long : (s : tie.Start) → s.args.len ≡ length (body (both s))
@@ -76,14 +76,14 @@ returns-2 : tie.Need-returns-2
 returns-2 c = m102_fields _ (sym (fixed c.before) ∙ not-true _ c.if2.true)
 
 entries-ok-requires : tie.Need-entries-ok-requires
-entries-ok-requires c κs = let k = c.before.before.before.before in (rw k.entry_size_holds.ensures (size_wide _), (c.before.before.before.if1.false, bounds (start k)))
+entries-ok-requires c κs = let k = c.before.before.before.before in (rw k.entry_size.ensures (size_wide _), (c.before.before.before.if1.false, bounds (start k)))
 
 returns-3 : tie.Need-returns-3
 returns-3 c =
     let k = c.before.before.before.before.before in
     let s = start k in
     c.entries-ok.ensures
-    ∙ ap (λ (x : ℕ). entries_ok k.before.before.u16-at.result k.entry_size_holds.result (take x (drop 24 (both s)))) s.pre.1
+    ∙ ap (λ (x : ℕ). entries_ok k.before.before.u16-at.result k.entry_size.result (take x (drop 24 (both s)))) s.pre.1
     ∙ m102_entries _ _ _ (sym (fixed c.before.before) ∙ not-false _ c.before.if2.false) (eq-eqb _ _ (sym (long s) ∙ c.before.before.before.before.if1.false ∙ whole k)) (count k) (width k)
 
 pub m102-ok-spec : {M : Type 1} → statement M

@@ -28,10 +28,10 @@ not_done c z = refusal_pos c.why.given.0.0 (one_number (refused c) ∙ z)
 
 -- the paper of a frame that reads: its type and its length
 abbrev len : tie.After-msg-type → ℕ
-len c = c.msg_type_holds.given.0.1.1.1.0
+len c = c.msg_type.given.0.1.1.1.0
 
-paper : (c : tie.After-msg-type) → answer 0 (c.msg_type_holds.given.0.0 ∷ c.msg_type_holds.given.0.1.0 ∷ c.msg_type_holds.given.0.1.1.0.0 ∷ len c ∷ []) ≡ read_of (text c.before.before)
-paper c = sym (ap read_paper c.msg_type_holds.given.1) ∙ c.before.before.read_at.ensures
+paper : (c : tie.After-msg-type) → answer 0 (c.msg_type.given.0.0 ∷ c.msg_type.given.0.1.0 ∷ c.msg_type.given.0.1.1.0.0 ∷ len c ∷ []) ≡ read_of (text c.before.before)
+paper c = sym (ap read_paper c.msg_type.given.1) ∙ c.before.before.read_at.ensures
 
 kind : (c : tie.After-kind-of) → c.kind-of.result ≡ kind_of (msg_type (text c.before.before.before.before))
 kind c =

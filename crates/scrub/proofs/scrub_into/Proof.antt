@@ -21,8 +21,8 @@ text c = let a = c.before.before.before.args in drop a.at a.bytes.now
 told : (c : tie.After-why) → refusal (number_of c.why.given.0.0) ≡ read_of (text c.before.before)
 told c = sym (ap read_paper c.why.given.1) ∙ c.before.before.read_at.ensures
 
-paper : (c : tie.After-msg-type) → answer 0 (c.msg_type_holds.given.0.0 ∷ c.msg_type_holds.given.0.1.0 ∷ c.msg_type_holds.given.0.1.1.0.0 ∷ c.msg_type_holds.given.0.1.1.1.0 ∷ []) ≡ read_of (text c.before.before)
-paper c = sym (ap read_paper c.msg_type_holds.given.1) ∙ c.before.before.read_at.ensures
+paper : (c : tie.After-msg-type) → answer 0 (c.msg_type.given.0.0 ∷ c.msg_type.given.0.1.0 ∷ c.msg_type.given.0.1.1.0.0 ∷ c.msg_type.given.0.1.1.1.0 ∷ []) ≡ read_of (text c.before.before)
+paper c = sym (ap read_paper c.msg_type.given.1) ∙ c.before.before.read_at.ensures
 
 read-at-requires : tie.Need-read-at-requires
 read-at-requires c κs = search rules

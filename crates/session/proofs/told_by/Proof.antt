@@ -18,11 +18,11 @@ abbrev text : tie.After-msg-type → List ℕ
 text c = c.before.before.before.before.args.bytes.now
 
 abbrev size : tie.After-msg-type → ℕ
-size c = c.msg_type_holds.given.0.1.1.1.0
+size c = c.msg_type.given.0.1.1.1.0
 
 -- in the arm of a frame: its paper, and that it is short
-paper : (c : tie.After-msg-type) → answer 0 (c.msg_type_holds.given.0.0 ∷ c.msg_type_holds.given.0.1.0 ∷ c.msg_type_holds.given.0.1.1.0.0 ∷ size c ∷ []) ≡ read_of (text c)
-paper c = sym (ap read_paper c.msg_type_holds.given.1) ∙ c.before.before.read_at.ensures
+paper : (c : tie.After-msg-type) → answer 0 (c.msg_type.given.0.0 ∷ c.msg_type.given.0.1.0 ∷ c.msg_type.given.0.1.1.0.0 ∷ size c ∷ []) ≡ read_of (text c)
+paper c = sym (ap read_paper c.msg_type.given.1) ∙ c.before.before.read_at.ensures
 
 small : (c : tie.After-msg-type) → size c ≤ 8164
 small c = rw (read_length (text c) _ _ _ _ (paper c)) (fits _ _ (good (text c) (read_done (text c) _ _ _ _ (paper c))).whole.measured).small

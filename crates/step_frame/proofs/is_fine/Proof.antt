@@ -41,7 +41,7 @@ fitting c = rw c.row.given.1 at c.before.before.fit_at.ensures
 stands : (c : tie.After-may-stand invariant-loop decreases-loop) → let o = c.before.before.before.before.before.before in let t = left o in c.may-stand.result ≡ (is_set (rows_of o.before.before.before.args.kind) (fit_row (tag_of (piece t)) (value_of (piece t))) && not (is_set o.loop.seen (fit_row (tag_of (piece t)) (value_of (piece t)))))
 stands c =
     let o = c.before.before.before.before.before.before in
-    rw ((fitting c.before.before).rows, o.before.rows_of_lem.ensures) at c.may-stand.ensures
+    rw ((fitting c.before.before).rows, o.before.rows_of.ensures) at c.may-stand.ensures
 
 -- what is left behind the field at hand
 next : (c : tie.After-row invariant-loop decreases-loop) → let o = c.before.before.before.before in (o.loop.i < c.row.given.0.1.0) × (c.row.given.0.1.0 ≤ length o.before.before.before.args.fields.now) × (drop (suc (until_of SOH (left o))) (left o) ≡ drop c.row.given.0.1.0 o.before.before.before.args.fields.now)

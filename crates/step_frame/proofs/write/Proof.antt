@@ -14,7 +14,7 @@ use Rattle.step_frame.proofs.write.Statement.{statement}
 use Rattle.step_frame.proofs.write.Tie as tie
 
 fine : (c : tie.After-n) → let o = c.before.before.before.before.before in answer 0 (c.n.given.0.0 ∷ []) ≡ step_write_of o.args.kind o.args.fields.now (length o.args.out.now)
-fine c = ap step_written_paper (sym c.n.given.1) ∙ c.before.before.may_write_lem.ensures
+fine c = ap step_written_paper (sym c.n.given.1) ∙ c.before.before.may_write.ensures
 
 may-write-requires : tie.Need-may-write-requires
 may-write-requires c κs = search rules
@@ -32,7 +32,7 @@ store-requires c κs = let o = c.before.before.before.before.before.before.befor
 
 returns : tie.Need-returns
 returns c = let o = c.before.before.before.before.before.before in
-    let e = ap step_written_paper (sym c.before.why.given.1) ∙ c.before.before.before.may_write_lem.ensures in
+    let e = ap step_written_paper (sym c.before.why.given.1) ∙ c.before.before.before.may_write.ensures in
     (e, sym (left_kept o.args.kind o.args.fields.now o.args.out.now _ (sym e) (step_pos c.before.why.given.0.0)))
 
 same_length : tie.Need-same-length

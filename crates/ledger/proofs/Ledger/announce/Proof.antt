@@ -30,8 +30,8 @@ book c = book_of (start c).args.self
 number : (c : tie.After-checked) → verdict_number c.checked.result ≡ number_to (book c) (call c)
 unfolding own_number
 number c =
-    judged (book c) (call c) c.checked.result c.before.«announce-verdict».result c.checked.ensures
-    (c.before.«announce-verdict».ensures ∙ ap (λ (x : ℕ). own_number (book c) (Announce 0 x)) c.before.before.value.ensures)
+    judged (book c) (call c) c.checked.result c.before.announce_verdict.result c.checked.ensures
+    (c.before.announce_verdict.ensures ∙ ap (λ (x : ℕ). own_number (book c) (Announce 0 x)) c.before.before.value.ensures)
 
 value-requires : tie.Need-value-requires
 value-requires c κs = search rules

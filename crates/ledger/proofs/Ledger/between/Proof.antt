@@ -88,7 +88,7 @@ held-from-requires c κs = search rules
 sub-result : tie.Need-sub-result
 sub-result c =
     let k = far-off c.before in
-    let e : c.«held-from».result ≤ c.before.smaller2.result = within _ _ _ c.«held-from».ensures in
+    let e : c.held_from.result ≤ c.before.smaller2.result = within _ _ _ c.held_from.ensures in
     omega (arith, e, c.before.smaller2.ensures)
 
 returns-3 : tie.Need-returns-3
@@ -98,7 +98,7 @@ returns-3 c =
     let f : k.before.before.before.before.value.result ≡ l.floor.0 = k.before.before.before.before.value.ensures in
     let h : k.before.larger.result - l.floor.0 - 1 < 256 = omega (arith, f, c.before.before.if2.left) in
     ap (λ (x : ℕ). k.smaller.result + 1 - k.before.larger.result - x)
-    (c.«held-from».ensures ∙ ap (λ (x : ℕ). ones (rotated k.before.larger.result (bits_in l.map) % 2 ^ x))
+    (c.held_from.ensures ∙ ap (λ (x : ℕ). ones (rotated k.before.larger.result (bits_in l.map) % 2 ^ x))
     (c.before.smaller2.ensures ∙ ap (λ (x : ℕ). min (k.smaller.result + 1 - k.before.larger.result) (256 - (k.before.larger.result - x - 1))) f))
     ∙ between_near l (words (start k)) (start k).args.from (start k).args.to _ _ (low-is k) (high_is k) h
 

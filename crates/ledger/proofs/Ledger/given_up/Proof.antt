@@ -38,8 +38,8 @@ add-run-from-2 c = omega (arith, c.value.ensures, low c.before.before.before.bef
 run-from-requires : tie.Need-run-from-requires
 run-from-requires c κs = search rules
 
-run_small : (c : tie.After-run-from) → c.«run-from».result ≤ 256
-run_small c = omega (arith, c.«run-from».ensures, run_le 256 (rotated (c.before.value.result + 1 + c.before.before.before.before.before.args.w) (bits_in c.before.before.before.before.before.args.self.map)))
+run_small : (c : tie.After-run-from) → c.run_from.result ≤ 256
+run_small c = omega (arith, c.run_from.ensures, run_le 256 (rotated (c.before.value.result + 1 + c.before.before.before.before.before.args.w) (bits_in c.before.before.before.before.before.args.self.map)))
 
 add-count : tie.Need-overflow-add-count
 add-count c = omega (arith, run_small c, c.before.before.before.before.before.requires.1)
@@ -85,19 +85,19 @@ returns c =
     let known = book_known l w st.requires.2 in
     let short = st.requires.1 in
     let e : v.value.result ≡ l.floor.0 = v.value.ensures in
-    let k : w + r.«run-from».result ≡ leaps (book_of l) w =
-    ap (λ (x : ℕ). w + x) (r.«run-from».ensures ∙ ap (λ (x : ℕ). run 256 (rotated (x + 1 + w) (bits_in l.map))) e) ∙ leaps_of l (words st) rules w known short in
+    let k : w + r.run_from.result ≡ leaps (book_of l) w =
+    ap (λ (x : ℕ). w + x) (r.run_from.ensures ∙ ap (λ (x : ℕ). run 256 (rotated (x + 1 + w) (bits_in l.map))) e) ∙ leaps_of l (words st) rules w known short in
     let first : c.before.before.new2.result ≡ tick_of (l.floor.0 + 1) = c.before.before.new2.ensures ∙ ap (λ (x : ℕ). tick_of (x + 1)) e in
     let given : c.before.lacking.result ≡ map_of (lacking (l.floor.0 + 1) w (bits_in l.map)) =
     c.before.lacking.ensures ∙ ap (λ (x : ℕ). map_of (lacking (x + 1) w (bits_in l.map))) e in
-    let passed : c.only.result ≡ map_of (only (l.floor.0 + 1) (w + r.«run-from».result) (bits_in l.map)) =
-    c.only.ensures ∙ ap (λ (x : ℕ). map_of (only (x + 1) (w + r.«run-from».result) (bits_in l.map))) e in (
+    let passed : c.only.result ≡ map_of (only (l.floor.0 + 1) (w + r.run_from.result) (bits_in l.map)) =
+    c.only.ensures ∙ ap (λ (x : ℕ). map_of (only (x + 1) (w + r.run_from.result) (bits_in l.map))) e in (
       ap (λ (f : TickNumber). answer 0 (f.0 ∷ rotated f.0 (bits_in c.before.lacking.result) ∷ rotated f.0 (bits_in c.only.result) ∷ [])) first
           ∙ ap₂ (λ (g p : Map). answer 0 ((l.floor.0 + 1) ∷ rotated (l.floor.0 + 1) (bits_in g) ∷ rotated (l.floor.0 + 1) (bits_in p) ∷ [])) given passed
           ∙ ap₂ (λ (g p : ℕ). answer 0 ((l.floor.0 + 1) ∷ g ∷ p ∷ [])) (given_of l (words st) rules w known short) (passed_of l (words st) rules w known short _ k),
-      replied_of l (words st) rules w known short (w + r.«run-from».result) _ _ k
-          (c.before.before.before.before.new.ensures ∙ ap (λ (x : ℕ). tick_of (x + (w + r.«run-from».result))) e)
-          (c.before.before.before.cleared.ensures ∙ ap (λ (x : ℕ). map_of (without (x + 1) (w + r.«run-from».result) (bits_in l.map))) e),
+      replied_of l (words st) rules w known short (w + r.run_from.result) _ _ k
+          (c.before.before.before.before.new.ensures ∙ ap (λ (x : ℕ). tick_of (x + (w + r.run_from.result))) e)
+          (c.before.before.before.cleared.ensures ∙ ap (λ (x : ℕ). map_of (without (x + 1) (w + r.run_from.result) (bits_in l.map))) e),
       given ∙ laid_kept c.before.before.new2.result _ (given_lt l (words st) rules w known short) ∙ ap (laid_from c.before.before.new2.result) (sym given),
       passed ∙ laid_kept c.before.before.new2.result _ (passed_lt l (words st) rules w known short _) ∙ ap (laid_from c.before.before.new2.result) (sym passed),
     )

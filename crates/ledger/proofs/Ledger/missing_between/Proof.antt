@@ -35,10 +35,10 @@ abbrev book : tie.After-span-checked → Book
 book c = book_of (self c)
 
 -- the verdict has the number of the call
-number : (c : tie.After-span-checked) → verdict_number c.«span-checked».result ≡ number_to (book c) (call c)
+number : (c : tie.After-span-checked) → verdict_number c.span_checked.result ≡ number_to (book c) (call c)
 unfolding number_to own_number
 number c =
-    c.«span-checked».ensures
+    c.span_checked.ensures
     ∙ ap₂ (λ (x y : ℕ). checked_of (book c) (elsewhere (book c) (call c)) (pick (not (tick_number x && tick_number y)) 10 0)) c.before.before.value.ensures c.before.value2.ensures
 
 value-requires : tie.Need-value-requires

@@ -28,7 +28,7 @@ abbrev book : tie.Else4 → Book
 book c = book_of (start c).args.self
 
 digits : (c : tie.Else4) → tick_number (start c).args.n ≡ true
-digits c = sym c.before.before.before.before.before.«tick-number».ensures ∙ not-false _ c.before.before.before.before.if1.false
+digits c = sym c.before.before.before.before.before.tick_number.ensures ∙ not-false _ c.before.before.before.before.if1.false
 
 value-requires : tie.Need-value-requires
 value-requires c κs = search rules
@@ -45,8 +45,8 @@ returns c =
     let l = s.args.self in
     let n = s.args.n in
     let e : number_of Range ≡ number_to (book_of l) (Tick (book_of l).channel n) =
-    own_fine (book_of l) n (number_of Range) s.requires (own_range l (words s) n (sym c.before.before.«tick-number».ensures ∙ not-true _ c.before.if1.true)) in
-    (c.«tick-refused».ensures.0 ∙ refused_answer (book_of l) (Tick (book_of l).channel n) Range e, c.«tick-refused».ensures.1 ∙ refused_in l (Tick (book_of l).channel n) Range e)
+    own_fine (book_of l) n (number_of Range) s.requires (own_range l (words s) n (sym c.before.before.tick_number.ensures ∙ not-true _ c.before.if1.true)) in
+    (c.tick_refused.ensures.0 ∙ refused_answer (book_of l) (Tick (book_of l).channel n) Range e, c.tick_refused.ensures.1 ∙ refused_in l (Tick (book_of l).channel n) Range e)
 
 tick-refused-requires-2 : tie.Need-tick-refused-requires-2
 tick-refused-requires-2 c κs = search rules
@@ -57,8 +57,8 @@ returns-2 c =
     let l = s.args.self in
     let n = s.args.n in
     let e : number_of Repeat ≡ number_to (book_of l) (Tick (book_of l).channel n) =
-    own_fine (book_of l) n (number_of Repeat) s.requires (own_below l (words s) n (sym c.before.before.before.«tick-number».ensures ∙ not-false _ c.before.before.if1.false) (omega arith)) in
-    (c.«tick-refused2».ensures.0 ∙ refused_answer (book_of l) (Tick (book_of l).channel n) Repeat e, c.«tick-refused2».ensures.1 ∙ refused_in l (Tick (book_of l).channel n) Repeat e)
+    own_fine (book_of l) n (number_of Repeat) s.requires (own_below l (words s) n (sym c.before.before.before.tick_number.ensures ∙ not-false _ c.before.before.if1.false) (omega arith)) in
+    (c.tick_refused2.ensures.0 ∙ refused_answer (book_of l) (Tick (book_of l).channel n) Repeat e, c.tick_refused2.ensures.1 ∙ refused_in l (Tick (book_of l).channel n) Repeat e)
 
 sub-if3 : tie.Need-overflow-sub-if3
 sub-if3 c = search rules
@@ -72,8 +72,8 @@ returns-3 c =
     let l = s.args.self in
     let n = s.args.n in
     let e : number_of Far ≡ number_to (book_of l) (Tick (book_of l).channel n) =
-    own_fine (book_of l) n (number_of Far) s.requires (own_far l (words s) n (sym c.before.before.before.before.«tick-number».ensures ∙ not-false _ c.before.before.before.if1.false) (omega arith)) in
-    (c.«tick-refused3».ensures.0 ∙ refused_answer (book_of l) (Tick (book_of l).channel n) Far e, c.«tick-refused3».ensures.1 ∙ refused_in l (Tick (book_of l).channel n) Far e)
+    own_fine (book_of l) n (number_of Far) s.requires (own_far l (words s) n (sym c.before.before.before.before.tick_number.ensures ∙ not-false _ c.before.before.before.if1.false) (omega arith)) in
+    (c.tick_refused3.ensures.0 ∙ refused_answer (book_of l) (Tick (book_of l).channel n) Far e, c.tick_refused3.ensures.1 ∙ refused_in l (Tick (book_of l).channel n) Far e)
 
 holds-requires : tie.Need-holds-requires
 holds-requires c κs = search rules
@@ -87,8 +87,8 @@ returns-4 c =
     let l = s.args.self in
     let n = s.args.n in
     let e : number_of Repeat ≡ number_to (book_of l) (Tick (book_of l).channel n) =
-    own_fine (book_of l) n (number_of Repeat) s.requires (own_held l (words s) n (sym c.before.before.before.before.before.before.«tick-number».ensures ∙ not-false _ c.before.before.before.before.before.if1.false) (omega arith) (omega arith) (sym c.before.before.holds.ensures ∙ c.before.if4.true)) in
-    (c.«tick-refused4».ensures.0 ∙ refused_answer (book_of l) (Tick (book_of l).channel n) Repeat e, c.«tick-refused4».ensures.1 ∙ refused_in l (Tick (book_of l).channel n) Repeat e)
+    own_fine (book_of l) n (number_of Repeat) s.requires (own_held l (words s) n (sym c.before.before.before.before.before.before.tick_number.ensures ∙ not-false _ c.before.before.before.before.before.if1.false) (omega arith) (omega arith) (sym c.before.before.holds.ensures ∙ c.before.if4.true)) in
+    (c.tick_refused4.ensures.0 ∙ refused_answer (book_of l) (Tick (book_of l).channel n) Repeat e, c.tick_refused4.ensures.1 ∙ refused_in l (Tick (book_of l).channel n) Repeat e)
 
 -- none of the tests holds: the number is 0
 number : (c : tie.Else4) → 0 ≡ number_to (book c) (Tick (book c).channel (start c).args.n)

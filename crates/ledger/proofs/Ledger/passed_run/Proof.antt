@@ -42,7 +42,7 @@ run-from-requires : tie.Need-run-from-requires
 run-from-requires c κs = search rules
 
 add-new : tie.Need-overflow-add-new
-add-new c = omega (arith, c.«run-from».ensures, run_le 256 (rotated (c.before.before.before.value.result + 1) (bits_in c.before.with.result)))
+add-new c = omega (arith, c.run_from.ensures, run_le 256 (rotated (c.before.before.before.value.result + 1) (bits_in c.before.with.result)))
 
 new-requires : tie.Need-new-requires
 new-requires c κs = search rules
@@ -70,7 +70,7 @@ unfolding passes
 returns c =
     let w = c.before.before.before.before.before.before in
     let s = w.before.before.before.before.before in
-    let r = c.before.before.before.before.before.«run-from» in
+    let r = c.before.before.before.before.before.run_from in
     let v : w.before.before.value.result ≡ s.args.self.floor.0 = w.before.before.value.ensures in
     let m = marked-is w in
     let k : r.result ≡ run 256 (rotated (s.args.self.floor.0 + 1) (bits_in w.with.result)) =

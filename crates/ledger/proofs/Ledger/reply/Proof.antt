@@ -33,8 +33,8 @@ book c = book_of (start c).args.self
 number : (c : tie.After-checked) → verdict_number c.checked.result ≡ number_to (book c) (call c)
 unfolding own_number
 number c =
-    judged (book c) (call c) c.checked.result c.before.«reply-verdict».result c.checked.ensures
-    (c.before.«reply-verdict».ensures ∙ ap (λ (x : ℕ). own_number (book c) (Reply 0 x (start c).args.status)) c.before.before.value.ensures)
+    judged (book c) (call c) c.checked.result c.before.reply_verdict.result c.checked.ensures
+    (c.before.reply_verdict.ensures ∙ ap (λ (x : ℕ). own_number (book c) (Reply 0 x (start c).args.status)) c.before.before.value.ensures)
 
 value-requires : tie.Need-value-requires
 value-requires c κs = search rules
@@ -61,14 +61,14 @@ reach-requires c κs = search rules
 done_0 : (c : tie.After-reach) → 0 ≡ number_to (book c.before.before.before) (call c.before.before.before)
 done_0 c = sym (ap verdict_number c.before.enum_told.given.1) ∙ number c.before.before.before
 
-rules : (c : tie.After-reach) → StateRules (book c.before.before.before)
-rules c = (checked_facts (book c.before.before.before) (call c.before.before.before) (sym (done_0 c)) (λ q. omega arith) (λ q. omega arith)).rules
+rules_hold : (c : tie.After-reach) → StateRules (book c.before.before.before)
+rules_hold c = (checked_facts (book c.before.before.before) (call c.before.before.before) (sym (done_0 c)) (λ q. omega arith) (λ q. omega arith)).rules
 
 replied-requires : tie.Need-replied-requires
 replied-requires c κs =
     let k = c.before.before.before in
-    let near = reach_near (book k) (start k).args.status (rules c) in (
-      rules_test (book k) (rules c),
+    let near = reach_near (book k) (start k).args.status (rules_hold c) in (
+      rules_test (book k) (rules_hold c),
       omega (arith, near.1, c.reach.ensures),
       ledger_known (start k).args.self c.reach.result (omega (arith, near.0, c.reach.ensures)),
     )
@@ -78,7 +78,7 @@ returns c =
     let k = c.before.before.before.before in
     let why = c.before.before.verdict.given.0.0 in
     let e : number_of why ≡ number_to (book k) (call k) = sym (ap verdict_number c.before.before.verdict.given.1) ∙ number k in
-    let p = c.«reply-refused».ensures in (
+    let p = c.reply_refused.ensures in (
       p.0 ∙ refused_answer (book k) (call k) why e,
       p.1 ∙ same_in (start k).args.self (call k) why e (reply_not_12 (book k) _ _ _),
       p.2,

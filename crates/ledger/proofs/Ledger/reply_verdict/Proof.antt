@@ -14,7 +14,7 @@ reply-status-requires c κs = search rules
 returns : tie.Need-returns
 unfolding own_number
 returns c =
-    let e : reply_status c.before.before.args.status ≡ false = sym c.before.«reply-status».ensures ∙ not-true _ c.if1.true in
+    let e : reply_status c.before.before.args.status ≡ false = sym c.before.reply_status.ensures ∙ not-true _ c.if1.true in
     simp e
 
 starts-at-requires : tie.Need-starts-at-requires
@@ -24,15 +24,15 @@ returns-2 : tie.Need-returns-2
 unfolding own_number book_of
 returns-2 c =
     let s = c.before.before.before.before in
-    let e : reply_status s.args.status ≡ true = sym c.before.before.before.«reply-status».ensures ∙ not-false _ c.before.before.if1.false in
-    simp (e, sym c.before.«starts-at».ensures ∙ not-true _ c.if2.true)
+    let e : reply_status s.args.status ≡ true = sym c.before.before.before.reply_status.ensures ∙ not-false _ c.before.before.if1.false in
+    simp (e, sym c.before.starts_at.ensures ∙ not-true _ c.if2.true)
 
 returns-3 : tie.Need-returns-3
 unfolding own_number book_of
 returns-3 c =
     let s = c.before.before.before.before in
-    let e : reply_status s.args.status ≡ true = sym c.before.before.before.«reply-status».ensures ∙ not-false _ c.before.before.if1.false in
-    simp (e, sym c.before.«starts-at».ensures ∙ not-false _ c.if2.false)
+    let e : reply_status s.args.status ≡ true = sym c.before.before.before.reply_status.ensures ∙ not-false _ c.before.before.if1.false in
+    simp (e, sym c.before.starts_at.ensures ∙ not-false _ c.if2.false)
 
 pub reply-verdict-spec : {M : Type 1} → statement M
 reply-verdict-spec =

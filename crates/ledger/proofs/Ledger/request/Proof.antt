@@ -27,8 +27,8 @@ book c = book_of (start c).args.self
 number : (c : tie.After-checked) → verdict_number c.checked.result ≡ number_to (book c) (call c)
 unfolding own_number
 number c =
-    judged (book c) (call c) c.checked.result c.before.«request-verdict».result c.checked.ensures
-    c.before.«request-verdict».ensures
+    judged (book c) (call c) c.checked.result c.before.request_verdict.result c.checked.ensures
+    c.before.request_verdict.ensures
 
 request-verdict-requires : tie.Need-request-verdict-requires
 request-verdict-requires c κs = search rules

@@ -16,10 +16,10 @@ abbrev start : tie.After-value3 → tie.Start
 start c = c.before.before.before.before.before
 
 -- what the code asks of the map is what the rule says
-map_is : (c : tie.After-map-sound) → map_rules (rotated ((start c.before.before.before.before).args.self.floor.0 + 1) (bits_in (start c.before.before.before.before).args.self.map)) ((start c.before.before.before.before).args.self.top.0 - (start c.before.before.before.before).args.self.floor.0) ≡ c.«map-sound».result
+map_is : (c : tie.After-map-sound) → map_rules (rotated ((start c.before.before.before.before).args.self.floor.0 + 1) (bits_in (start c.before.before.before.before).args.self.map)) ((start c.before.before.before.before).args.self.top.0 - (start c.before.before.before.before).args.self.floor.0) ≡ c.map_sound.result
 map_is c =
     let v = c.before.before.before.before in
-    sym (c.«map-sound».ensures ∙ ap₂ (λ (x y : ℕ). map_rules (rotated (y + 1) (bits_in (start v).args.self.map)) (x - y)) v.before.before.value2.ensures v.before.before.before.value.ensures)
+    sym (c.map_sound.ensures ∙ ap₂ (λ (x y : ℕ). map_rules (rotated (y + 1) (bits_in (start v).args.self.map)) (x - y)) v.before.before.value2.ensures v.before.before.before.value.ensures)
 
 value-requires : tie.Need-value-requires
 value-requires c κs = search rules

@@ -28,7 +28,7 @@ returns c =
 returns-2 : tie.Need-returns-2
 returns-2 c =
     let k = c.before.before.before in
-    c.«span-verdict».ensures ∙ checked_fine _ _ _ (sym (ap verdict_number c.before.enum_told.given.1) ∙ k.checked.ensures)
+    c.span_verdict.ensures ∙ checked_fine _ _ _ (sym (ap verdict_number c.before.enum_told.given.1) ∙ k.checked.ensures)
 
 pub span-checked-spec : {M : Type 1} → statement M
 span-checked-spec =

@@ -57,8 +57,8 @@ returns c =
     let e : number_of why ≡ number_to (book k) (call k) =
     checked_bad _ _ _ (number_of why) (sym (ap verdict_number c.before.before.verdict.given.1) ∙ k.checked.ensures) (refusal_not_0 why) in
     let v : k.before.value.result ≡ (start k).args.number.0 = k.before.value.ensures in (
-      c.«tick-refused».ensures.0 ∙ refused_answer (book k) (call k) why e,
-      c.«tick-refused».ensures.1 ∙ ap (λ (x : ℕ). pick (eqb (number_of why) 12) (topped (self k) (max (self k).top.0 x)) (self k)) v ∙ refused_in (self k) (call k) why e,
+      c.tick_refused.ensures.0 ∙ refused_answer (book k) (call k) why e,
+      c.tick_refused.ensures.1 ∙ ap (λ (x : ℕ). pick (eqb (number_of why) 12) (topped (self k) (max (self k).top.0 x)) (self k)) v ∙ refused_in (self k) (call k) why e,
     )
 
 returns-2 : tie.Need-returns-2
