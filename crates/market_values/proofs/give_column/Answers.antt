@@ -18,11 +18,10 @@ inside : (k : goal.After-column-f) → let a = k.args in a.p + k.column-f.result
 inside k = rw k.column-f.ensures.0.width_is k.requires.1.0
 
 -- what the number there is
-said : (n : goal.After-number_at) → let k = n in let a = k.args in amount_paper n.number_at.result ≡ number_in k.column-f.result.decimals (take k.column-f.result.width (drop a.p a.s.now))
-said n =
-    let k = n in
-    let a = k.args in
-    n.number_at.ensures ∙ at_there a.p k.column-f.result.width k.column-f.result.decimals a.s.now (le-leb (a.p + k.column-f.result.width) (length a.s.now) (inside (record { before = n.before.before.before.before; type_inv = record { s = n.shared_slice_known-1.given; out = n.slice_known-1.given } })))
+said : (n : goal.After-number_at) → let a = n.args in a.p + n.column-f.result.width ≤ length a.s.now → amount_paper n.number_at.result ≡ number_in n.column-f.result.decimals (take n.column-f.result.width (drop a.p a.s.now))
+said n h =
+    let a = n.args in
+    n.number_at.ensures ∙ at_there a.p n.column-f.result.width n.column-f.result.decimals a.s.now (le-leb (a.p + n.column-f.result.width) (length a.s.now) h)
 
 pub returns-then-kind-le1 : goal.returns-then-kind-le1
 returns-then-kind-le1 c = let a = c.args in step_none a.i a.p a.s.now _ _ _ _ c.column-f.ensures.0 a.at a.out.now c.if-kind-le1.true
@@ -32,14 +31,14 @@ returns-in-Units c =
     let n = c in
     let k = n in
     let a = k.args in
-    step_amount a.i a.p a.s.now _ _ _ _ k.column-f.ensures.0 a.at a.out.now n.if-kind-eq2.true _ _ (sym (said (goal.at.returns-in-Units c).After-number_at) ∙ ap amount_paper c.in-Units.is) _ c.give_number.ensures
+    step_amount a.i a.p a.s.now _ _ _ _ k.column-f.ensures.0 a.at a.out.now n.if-kind-eq2.true _ _ (sym (said (goal.at.returns-in-Units c).After-number_at (inside (goal.at.returns-in-Units c).After-column-f)) ∙ ap amount_paper c.in-Units.is) _ c.give_number.ensures
 
 pub returns-in-Nothing : goal.returns-in-Nothing
 returns-in-Nothing c =
     let n = c in
     let k = n in
     let a = k.args in
-    absurd (step_clash a.i a.p a.s.now _ _ _ _ k.column-f.ensures.0 a.at a.out.now n.if-kind-eq2.true (sym (said (goal.at.returns-in-Nothing c).After-number_at) ∙ ap amount_paper c.in-Nothing.is) k.requires.1.1)
+    absurd (step_clash a.i a.p a.s.now _ _ _ _ k.column-f.ensures.0 a.at a.out.now n.if-kind-eq2.true (sym (said (goal.at.returns-in-Nothing c).After-number_at (inside (goal.at.returns-in-Nothing c).After-column-f)) ∙ ap amount_paper c.in-Nothing.is) k.requires.1.1)
 
 pub returns : goal.returns
 returns c =

@@ -17,19 +17,10 @@ use Rattle.market_spec.specs.Sound.{values_of}
 use Rattle.market_spec.specs.FileBytes.{type_number, lines_bytes}
 use Rattle.market_values.specs.Giving.{GiveLeft, Right, give_first, give_end, give_room, give_right, give_kept_1, give_kept, give_next}
 use Rattle.market_values.proofs.give_lines.Goals as goal
-use Rattle.market_values.proofs.give_lines.Goals.{After-give_line, After-line_long-p, After-line_type-t, After-put, Else-t-gt4}
-
-small : (k : goal.After-line_type-t) → (length k.args.out.now < 2 ^ 63) × (length k.args.s.now < 2 ^ 63)
-small k = (search rules, search rules)
+use Rattle.market_values.proofs.give_lines.Goals.{After-give_line, After-line_long-p, After-put, Else-t-gt4}
 
 is_line_holds : (e : goal.Else-t-gt4) → type_at e.loop-a.p e.args.s.now ≤ 4
 is_line_holds e = rw (sym e.line_type-t.ensures) (omega arith)
-
-room : (e : goal.Else-t-gt4) → let l = e.loop-a in l.a + (2 + sizes_of (layout_of e.line_type-t.result)) ≤ length l.out
-room e =
-    let l = e.loop-a in
-    let s = e.args.s.now in
-    rw e.line_type-t.ensures (give_room s l.p l.a l.out _ l.invariant.1 (is_line_holds e))
 
 typed : (y : goal.After-put) → let e = y in let l = e.loop-a in y.put.new.d ≡ laid_if_room l.a (bytes_of 2 (type_number (type_at l.p e.args.s.now))) l.out
 typed y = let e = y in rw (y.type_number.ensures, e.line_type-t.ensures) at y.put.ensures.1

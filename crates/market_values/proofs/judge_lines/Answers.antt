@@ -12,10 +12,7 @@ use Rattle.market_spec.specs.FileBytes.{type_of}
 use Rattle.market.specs.Papers.{verdict_paper, fault_some}
 use Rattle.market_values.specs.Writing.{JudgeLeft, judge_first, judge_end, judge_short, judge_type, judge_wrong, judge_farther, judge_next}
 use Rattle.market_values.proofs.judge_lines.Goals as goal
-use Rattle.market_values.proofs.judge_lines.Goals.{After-line_long-n, After-type_of-t, After-values_fit, Else-s-p-lt2, Else-t-eq0, In-loop-p}
-
-small : (i : goal.In-loop-p) → length i.args.s.now < 2 ^ 63
-small i = search rules
+use Rattle.market_values.proofs.judge_lines.Goals.{After-line_long-n, After-type_of-t, After-values_fit, Else-s-p-lt2, Else-t-eq0}
 
 -- the type, and that two bytes stand there
 typed : (y : goal.After-type_of-t) → let i = y in y.type_of-t.result ≡ type_of (be 2 i.loop-p.p i.args.s.now)

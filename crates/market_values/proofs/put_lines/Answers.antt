@@ -14,17 +14,11 @@ use Rattle.market_spec.specs.ValueBytes.{taken_line, AllFit}
 use Rattle.market_spec.specs.FileBytes.{type_of, values_given}
 use Rattle.market_values.specs.Writing.{PutLeft, put_first, put_end, put_two, put_room, put_fits, put_kept, put_next}
 use Rattle.market_values.proofs.put_lines.Goals as goal
-use Rattle.market_values.proofs.put_lines.Goals.{After-line_size-p, After-put_line, After-rows_of-r, After-type_of-t, In-loop-p}
-
-small : (i : goal.In-loop-p) → (length i.args.out.now < 2 ^ 63) × (length i.args.s.now < 2 ^ 63)
-small i = (search rules, search rules)
+use Rattle.market_values.proofs.put_lines.Goals.{After-line_size-p, After-put_line, After-rows_of-r, In-loop-p}
 
 -- the rows are those of the type that stands there
 rows : (y : goal.After-rows_of-r) → let i = y in columns y.rows_of-r.result.first y.rows_of-r.result.last ≡ layout_of (type_of (be 2 i.loop-p.p i.args.s.now))
 rows y = y.rows_of-r.ensures.0 ∙ ap layout_of (y.type_of-t.ensures ∙ ap type_of y.u16_at.ensures)
-
-typed : (y : goal.After-type_of-t) → let i = y in y.type_of-t.result ≡ type_of (be 2 i.loop-p.p i.args.s.now)
-typed y = y.type_of-t.ensures ∙ ap type_of y.u16_at.ensures
 
 line : (g : goal.After-put_line) → let l = g.loop-p in let s = g.args.s.now in g.put_line.new.out ≡ laid l.a (line_text (layout_of (type_of (be 2 l.p s))) (taken_line (layout_of (type_of (be 2 l.p s))) (drop (l.p + 2) s))) l.out
 line g =
@@ -37,9 +31,6 @@ after : (c : goal.After-line_size-p) → let l = c.loop-p in let a = c.args in c
 after c k =
     let l = c.loop-p in
     rw (c.line_size-p.ensures.0, c.line_long-a.ensures.0, c.type_of-t.ensures ∙ ap type_of c.u16_at.ensures) (put_next _ l.p l.a l.out _ l.invariant.1 (search rules) c.put_line.new.out k)
-
-two_more : (i : goal.In-loop-p) → i.loop-p.p + 2 ≤ length i.args.s.now
-two_more i = let l = i.loop-p in put_two i.args.s.now l.p l.a l.out _ l.invariant.1 (search rules)
 
 room : (i : goal.In-loop-p) → let l = i.loop-p in l.a + length_of (layout_of (type_of (be 2 l.p i.args.s.now))) ≤ length l.out
 room i = let l = i.loop-p in put_room i.args.s.now l.p l.a l.out _ l.invariant.1 (search rules)

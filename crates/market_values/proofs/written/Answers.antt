@@ -13,14 +13,14 @@ pub returns-then-n-gt65536 : goal.returns-then-n-gt65536
 returns-then-n-gt65536 c =
     let x = c in
     let j = judged_good _ _ _ (ap judged_paper (sym x.in-Good.is) ∙ x.judge.ensures) in
-    with_bytes (λ i. (x.shared_slice_known-1.given i).fits) (not_laid _ 47 0 _ _ (λ z. omega arith) (written_large _ _ j.taken (good_large _ _ _ j c.if-n-gt65536.true)))
+    with_bytes (λ i. (x.type_inv.values i).fits) (not_laid _ 47 0 _ _ (λ z. omega arith) (written_large _ _ j.taken (good_large _ _ _ j c.if-n-gt65536.true)))
 
 pub returns-then-out-n : goal.returns-then-out-n
 returns-then-out-n c =
     let x = c in
     let j = judged_good _ _ _ (ap judged_paper (sym x.in-Good.is) ∙ x.judge.ensures) in
     let f = good_file _ _ _ j c.if-n-gt65536.false in
-    with_bytes (λ i. (x.shared_slice_known-1.given i).fits) (not_laid _ 8 0 _ _ (λ z. omega arith) (written_lacks _ _ j.taken (rw f.1 c.if-n-gt65536.false) (rw f.1 c.if-out-n.true)))
+    with_bytes (λ i. (x.type_inv.values i).fits) (not_laid _ 8 0 _ _ (λ z. omega arith) (written_lacks _ _ j.taken (rw f.1 c.if-n-gt65536.false) (rw f.1 c.if-out-n.true)))
 
 pub put_file-requires : goal.put_file-requires
 put_file-requires c =
@@ -31,7 +31,7 @@ put_file-requires c =
 pub returns-in-Bad : goal.returns-in-Bad
 returns-in-Bad c =
     let e = judged_bad _ _ _ (fault_some c.in-Bad.f) (ap judged_paper (sym c.in-Bad.is) ∙ c.judge.ensures) in
-    with_bytes (λ i. (c.shared_slice_known-1.given i).fits) (not_laid _ _ _ _ _ (fault_some c.in-Bad.f) (written_wrong _ _ _ _ (fault_some c.in-Bad.f) e))
+    with_bytes (λ i. (c.type_inv.values i).fits) (not_laid _ _ _ _ _ (fault_some c.in-Bad.f) (written_wrong _ _ _ _ (fault_some c.in-Bad.f) e))
 
 pub returns-else-out-n : goal.returns-else-out-n
 returns-else-out-n c =
@@ -40,4 +40,4 @@ returns-else-out-n c =
     let j = judged_good _ _ _ (ap judged_paper (sym x.in-Good.is) ∙ x.judge.ensures) in
     let f = good_file _ _ _ j y.if-n-gt65536.false in
     let b = x.args in
-    with_bytes (λ i. (x.shared_slice_known-1.given i).fits) (is_laid _ _ _ _ _ (rw f.1 at (written_fine (length b.out.now) b.values.now j.taken (rw f.1 y.if-n-gt65536.false) (rw f.1 y.if-out-n.false))) c.put_file.ensures)
+    with_bytes (λ i. (x.type_inv.values i).fits) (is_laid _ _ _ _ _ (rw f.1 at (written_fine (length b.out.now) b.values.now j.taken (rw f.1 y.if-n-gt65536.false) (rw f.1 y.if-out-n.false))) c.put_file.ensures)
