@@ -216,8 +216,8 @@ module _ (x : Channels) (i : ℕ) (once : Bool) where
 said_13 : (b : Book) (call : ledger.Call) → eqb (ledger.answer_to b call).number 13 ≡ not (sound_of b)
 unfolding ledger.answer_to
 said_13 b call = ⊎_elim
-    (λ y. ne_eqb _ 13 (λ e. (goal.given-13 b call).0 e (rules_facts b y)) ∙ sym (ap not y))
-    (λ n. eq-eqb _ 13 ((goal.given-13 b call).1 (λ r. clash (rules_test b r) n)) ∙ sym (ap not n))
+    (λ y. ne_eqb _ 13 (λ e. (goal.given_13 b call).0 e (rules_facts b y)) ∙ sym (ap not y))
+    (λ n. eq-eqb _ 13 ((goal.given_13 b call).1 (λ r. clash (rules_test b r) n)) ∙ sym (ap not n))
     (two (sound_of b))
 
 -- what is told stays, whether the next ledger is stored or not

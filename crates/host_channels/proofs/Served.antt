@@ -19,7 +19,7 @@ neither n t =
     (λ e. let f = rw e at t in cc, λ e. let f = rw e at t in cc)
 
 module _ (h : Channels) (k : ChannelCall) (n : Turn) (r : Answered) (e : n ≡ turned_of h.index h.names.channels k) (f : r ≡ answered_of (row_at h n.at) h.index n k) where
-  pub serves : Serves h k r.told (stored_at h n.at r)
+  serves : Serves h k r.told (stored_at h n.at r)
   serves =
       let g : r ≡ answered_by h k = f ∙ ap (λ (q : Turn). answered_of (row_at h q.at) h.index q k) e in
       record { told_is = ap (λ (t : Answered). t.told) g; table_is = λ i. stored_at h (e i).at (g i) }
