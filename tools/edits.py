@@ -1,4 +1,4 @@
-"""Reads edits, for tools/apart.
+"""Reads edits, for tools/edits and tools/apart.
 
 A `file:` line applies to the `old:` and `new:` pairs after it; any other line says what the edit
 is."""

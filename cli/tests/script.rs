@@ -46,17 +46,18 @@ fn put(path: PathBuf, text: &str, mode: u32) {
 
 fn project() -> Folder {
     let folder = Folder::new();
-    for ours in ["rietknoest", "tools/below", "tools/exports"] {
+    for ours in ["rietknoest", "tools/below"] {
         let script = fs::read_to_string(root().join(ours)).unwrap();
         put(folder.path("project").join(ours), &script, 0o755);
     }
     put(folder.path("project/tools/archive"), ARCHIVE, 0o755);
     put(
         folder.path("project/crates.txt"),
-        "# all\nterms:\nrules: terms\nother: terms\nhost: rules\nhost_ledger: terms\nhost_captures: rules\nlast: host\nfollow: rules\n",
+        "# all\nterms:\nrules: terms\nother: terms\nhost: rules\nhost_ledger: terms\nhost_captures: rules\nlast: host\nfollow: rules\nrietknoest staticlib: host host_ledger host_captures follow\n",
         0o644,
     );
     let files = [
+        "tools/prove",
         "crates/terms/src/lib.rt",
         "crates/terms/specs/Lib.antt",
         "Cargo.toml",
@@ -69,10 +70,6 @@ fn project() -> Folder {
     ];
     for file in files {
         put(folder.path("project").join(file), "", 0o644);
-    }
-    for exporting in ["host", "host_ledger", "host_captures", "follow"] {
-        let file = format!("project/crates/{exporting}/src/lib.rt");
-        put(folder.path(&file), "#[no_mangle]\n", 0o644);
     }
     fs::create_dir(folder.path("bin")).unwrap();
     let paths = std::env::var_os("PATH").unwrap();
@@ -114,7 +111,7 @@ fn the_script() {
 fn it_builds_once_and_again_when_something_changed() {
     let folder = project();
     let script = folder.path("project/rietknoest");
-    let first = "rietknoest: first use: 6 crates are proved, a line for each, then the command is built
+    let first = "rietknoest: first use: 7 crates are proved, a line for each, then the command is built
 rietknoest: that takes about five to ten minutes, once; what is proved stays proved if you break it off
 rietknoest: terms proved (1 s)
 rietknoest: the library is proved and built
@@ -184,10 +181,11 @@ fn a_library_that_is_there_takes_no_minutes() {
 fn what_is_left_after_an_interruption_is_told() {
     let folder = project();
     for proved in ["terms", "rules", "other"] {
-        put(folder.path("project/target/stamp").join(proved), "", 0o644);
+        let mark = format!("project/crates/{proved}/out/rlib/stamp");
+        put(folder.path(&mark), "", 0o644);
     }
     let ran = run_script(&folder, &folder.path("project/rietknoest"), &[]);
-    let first = "rietknoest: it was broken off before: 2 of 6 crates are proved, and 4 are left, ";
+    let first = "rietknoest: it was broken off before: 2 of 7 crates are proved, and 5 are left, ";
     assert!(ran.error().starts_with(first), "{}", ran.error());
     // each line comes as it is printed, and those of crates that are proved already do not
     assert!(ran.error().contains("\nrietknoest: terms proved (1 s)\n"));

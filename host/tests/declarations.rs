@@ -1,5 +1,5 @@
 //! The declarations: the header, the Rust wrapper and the library say the same as the proved
-//! crates' sources, and a C program that calls every function gets the wrapper's answers.
+//! crate's sources, and a C program that calls every function gets the wrapper's answers.
 
 use oracle::cases::NUMBERS;
 use oracle::made::{self, about, Dice, Ticks};
@@ -42,17 +42,17 @@ fn run(command: &mut Command, input: &[u8]) -> Vec<u8> {
     output.stdout
 }
 
-/// The crates of which the library is made, and how many functions each has for others.
+/// The modules of the crate that exports the library's functions, and how many each has.
 const EXPORTS: [(&str, usize); 9] = [
-    ("host_frames", 9),
-    ("host_ledger", 8),
-    ("host_channels", 1),
-    ("host_session", 7),
-    ("host_captures", 6),
-    ("host_stream", 5),
-    ("host_step", 4),
-    ("host_market", 3),
-    ("host_month", 2),
+    ("frames", 9),
+    ("ledgers", 8),
+    ("tables", 1),
+    ("sessions", 7),
+    ("captures", 6),
+    ("streams", 5),
+    ("step", 4),
+    ("markets", 3),
+    ("months", 2),
 ];
 
 /// The numbers of a call on a table of channels and its answer: four, its number, and nine that it
@@ -128,11 +128,12 @@ fn row(pointer: &str, numbers: usize) -> String {
     format!("*{pointer} {numbers} u64")
 }
 
-/// What a proved crate exports, in its own words; a slice is a pointer and a length.
-fn of_crate(name: &str) -> Functions {
-    let text = text_of(&format!("crates/{name}/src/lib.rt"));
+/// What a module of the proved crate exports, in its own words; a slice is a pointer and a length.
+fn of_module(name: &str) -> Functions {
+    let text = text_of(&format!("crates/rietknoest/src/{name}.rt"));
     let mut all = Functions::new();
-    for (name, parameters, behind) in functions(&text, "#[no_mangle]\npub extern \"C\" fn ") {
+    let mark = "#[unsafe(no_mangle)]\npub extern \"C\" fn ";
+    for (name, parameters, behind) in functions(&text, mark) {
         let mut kinds = Vec::new();
         for p in parameters {
             let kind = p.split_once(": ").expect("a type").1;
@@ -261,13 +262,13 @@ fn of_wrapper() -> Functions {
 fn everyone_declares_the_same_functions() {
     let mut exported = Functions::new();
     for (name, count) in EXPORTS {
-        let functions = of_crate(name);
+        let functions = of_module(name);
         assert_eq!(functions.len(), count);
         // a market file's number and place come back as one struct, a table's stands beside the
         // call
         let answer = match name {
-            "host_market" => "Finding",
-            "host_channels" => "()",
+            "markets" => "Finding",
+            "tables" => "()",
             _ => "u32",
         };
         assert!(functions.values().all(|(_, said)| said == answer));

@@ -17,13 +17,7 @@ use listing_text::Summary;
 // Walks a capture: a record of 64 bytes for each reading, and channel 100's ledger. Results: how
 // many records, frames, and readings refused. Where the records have no room, 8, and nothing is
 // written anywhere.
-#[unsafe(no_mangle)]
-pub extern "C" fn rk_walk(
-    capture: &[u8],
-    records: &mut [u8],
-    state: &mut [u64; 9],
-    told: &mut [u64; 3],
-) -> u32
+pub fn rk_walk(capture: &[u8], records: &mut [u8], state: &mut [u64; 9], told: &mut [u64; 3]) -> u32
     ensures { Tells (walk_answer capture.now (length records.old)) told.old result told.new
         × ((state.new ≡ walk_words capture.now (length records.old) state.old)
         × (records.new ≡ walk_leaves capture.now records.old)) }
@@ -45,8 +39,7 @@ pub extern "C" fn rk_walk(
 
 // One record of a walk, the first 64 bytes; 1 where there are fewer. Results, as document 01 lays
 // them out: place, MsgType, answer, MsgSeqNum, tick number, channel, BodyLength, floor, top.
-#[unsafe(no_mangle)]
-pub extern "C" fn rk_record(bytes: &[u8], told: &mut [u64; 9]) -> u32
+pub fn rk_record(bytes: &[u8], told: &mut [u64; 9]) -> u32
     ensures { Tells (record_told bytes.now) told.old result told.new }
 {
     if bytes.len() < 64 {
@@ -74,8 +67,7 @@ pub extern "C" fn rk_record(bytes: &[u8], told: &mut [u64; 9]) -> u32
 
 // The lines of the listing without the last one: a line of each whole record. Result: how many
 // bytes; or 8.
-#[unsafe(no_mangle)]
-pub extern "C" fn rk_lines(records: &[u8], text: &mut [u8], told: &mut u64) -> u32
+pub fn rk_lines(records: &[u8], text: &mut [u8], told: &mut u64) -> u32
     ensures { Tells (room_for 0 (length (lines_in records.now)) (length text.old)) (told.old ∷ []) result (told.new ∷ [])
         × (text.new ≡ laid_if_room 0 (lines_in records.now) text.old) }
 {
@@ -85,8 +77,7 @@ pub extern "C" fn rk_lines(records: &[u8], text: &mut [u8], told: &mut u64) -> u
 
 // The listing of what a walk left: the line of each whole record, then the last line. Result: how
 // many bytes. 13 where the words break the state rules, then 8.
-#[unsafe(no_mangle)]
-pub extern "C" fn rk_listing(
+pub fn rk_listing(
     records: &[u8],
     frames: u64,
     refused: u64,
@@ -119,8 +110,7 @@ pub extern "C" fn rk_listing(
 
 // A capture, scrubbed: its accepted frames at the front of out, stray bytes left out. Results: how
 // many bytes, how many frames, and how many of these the search found after damage.
-#[unsafe(no_mangle)]
-pub extern "C" fn rk_clean(capture: &[u8], out: &mut [u8], told: &mut [u64; 3]) -> u32
+pub fn rk_clean(capture: &[u8], out: &mut [u8], told: &mut [u64; 3]) -> u32
     ensures { Tells (clean_answer capture.now (length out.old)) told.old result told.new
         × (out.new ≡ clean_leaves capture.now out.old) }
 {
@@ -139,8 +129,7 @@ pub extern "C" fn rk_clean(capture: &[u8], out: &mut [u8], told: &mut [u64; 3]) 
 
 // Whether a capture is what cleaning it gives. Results: 1 and the first place where the two differ,
 // or 0 and 0 where none does.
-#[unsafe(no_mangle)]
-pub extern "C" fn rk_is_clean(capture: &[u8], told: &mut [u64; 2]) -> u32
+pub fn rk_is_clean(capture: &[u8], told: &mut [u64; 2]) -> u32
     ensures { Tells (clean_told capture.now) told.old result told.new }
 {
     match clean::is_clean(capture) {

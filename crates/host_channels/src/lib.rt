@@ -17,8 +17,7 @@ pub struct Exchange {
 // Every call on a table, by its code. The names are lent; the index and the one row that the call
 // is about are copied out. The answer is put beside the call. A refusal but 12 ends there; else
 // index, row and the name beside it are put back.
-#[unsafe(no_mangle)]
-pub extern "C" fn rk_channels(table: &mut Channels, exchange: &mut Exchange)
+pub fn rk_channels(table: &mut Channels, exchange: &mut Exchange)
     ensures { Exchanges table.old exchange.old table.new exchange.new }
 {
     let call = exchange.call;

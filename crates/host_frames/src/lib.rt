@@ -20,8 +20,7 @@ use terms::{SessionNumber, Verdict};
 // Reads the frame at a place. Results: MsgType, SendingTime, MsgSeqNum, BodyLength, and what the
 // view has of the body: channel, tick number, a resend's first and last number, and its status; 0
 // where the type has none.
-#[unsafe(no_mangle)]
-pub extern "C" fn rk_read(bytes: &[u8], place: usize, told: &mut [u64; 9]) -> u32
+pub fn rk_read(bytes: &[u8], place: usize, told: &mut [u64; 9]) -> u32
     ensures { Tells (read_told (drop place bytes.now)) told.old result told.new }
 {
     match frame::read_at(bytes, place) {
@@ -56,8 +55,7 @@ pub extern "C" fn rk_read(bytes: &[u8], place: usize, told: &mut [u64; 9]) -> u3
 }
 
 // Writes a frame at the front of out. Result: how many bytes.
-#[unsafe(no_mangle)]
-pub extern "C" fn rk_write(
+pub fn rk_write(
     msg_type: u32,
     sending_time: u64,
     seq: u64,
@@ -74,8 +72,7 @@ pub extern "C" fn rk_write(
 
 // Finds the lowest place from `from` on at which a frame reads. Results: 1 and the place, or 0 and
 // 0 where there is none.
-#[unsafe(no_mangle)]
-pub extern "C" fn rk_search(bytes: &[u8], from: usize, told: &mut [u64; 2]) -> u32
+pub fn rk_search(bytes: &[u8], from: usize, told: &mut [u64; 2]) -> u32
     ensures { Tells (search_told bytes.now from) told.old result told.new }
 {
     match frame::search(bytes, from) {
@@ -92,8 +89,7 @@ pub extern "C" fn rk_search(bytes: &[u8], from: usize, told: &mut [u64; 2]) -> u
 }
 
 // Scrubs the frame at the front of a buffer where it stands. Result: how many bytes it has.
-#[unsafe(no_mangle)]
-pub extern "C" fn rk_scrub(frame: &mut [u8], told: &mut u64) -> u32
+pub fn rk_scrub(frame: &mut [u8], told: &mut u64) -> u32
     ensures { Tells (scrub_answer frame.old) (told.old ∷ []) result (told.new ∷ [])
         × (frame.new ≡ scrubbed frame.old) }
 {
@@ -104,8 +100,7 @@ pub extern "C" fn rk_scrub(frame: &mut [u8], told: &mut u64) -> u32
 // Private span number i of a body of that type, counted from 0. Results: where it starts in the
 // body, how many bytes it has, and the byte that replaces each; from the last on, an empty one. Or
 // 2, 3 or 4 where no frame of that type has a body of this length.
-#[unsafe(no_mangle)]
-pub extern "C" fn rk_private(msg_type: u32, body: &[u8], i: usize, told: &mut [u64; 3]) -> u32
+pub fn rk_private(msg_type: u32, body: &[u8], i: usize, told: &mut [u64; 3]) -> u32
     ensures { Tells (span_answer msg_type body.now i) told.old result told.new }
 {
     match private::private_span(msg_type, body, i) {
@@ -120,8 +115,7 @@ pub extern "C" fn rk_private(msg_type: u32, body: &[u8], i: usize, told: &mut [u
 // Field number i of the extension of an M201 body, counted from 0; or 3, 4 or 6 where no M201 has
 // such a body, by its length. Results: where it starts in the body and how many bytes it has, 1 for
 // letters and 0 for a number, 1 for private and 0 else; from the last on, an empty one.
-#[unsafe(no_mangle)]
-pub extern "C" fn rk_tail_field(body: &[u8], i: usize, told: &mut [u64; 4]) -> u32
+pub fn rk_tail_field(body: &[u8], i: usize, told: &mut [u64; 4]) -> u32
     ensures { Tells (tail_told body.now i) told.old result told.new }
 {
     match rules::measure(Kind::M201, body.len()) {
@@ -143,8 +137,7 @@ pub extern "C" fn rk_tail_field(body: &[u8], i: usize, told: &mut [u64; 4]) -> u
 // number in that order, counted from 0, and for a field of an M102 entry the number of the entry,
 // counted from 1, else 0; or five times 0 where every rule holds. An M201's extension is number 9;
 // the fields of an entry are numbers 13 to 16.
-#[unsafe(no_mangle)]
-pub extern "C" fn rk_broken_field(msg_type: u32, body: &[u8], told: &mut [u64; 5]) -> u32
+pub fn rk_broken_field(msg_type: u32, body: &[u8], told: &mut [u64; 5]) -> u32
     ensures { Tells (broken_told msg_type body.now) told.old result told.new }
 {
     let kind = rules::kind_of(msg_type);
@@ -165,8 +158,7 @@ pub extern "C" fn rk_broken_field(msg_type: u32, body: &[u8], told: &mut [u64; 5
 }
 
 // Whether an M102 body may be walked. Result: the place of its first entry.
-#[unsafe(no_mangle)]
-pub extern "C" fn rk_entries(body: &[u8], told: &mut u64) -> u32
+pub fn rk_entries(body: &[u8], told: &mut u64) -> u32
     ensures { Tells (entries_told body.now) (told.old ∷ []) result (told.new ∷ []) }
 {
     match entries::open_at(body) {
@@ -195,8 +187,7 @@ fn entry_told(entry: Entry, behind: u64) -> [u64; 6]
 
 // The entry of a body at a place. Results: 1 for an entry of MD001, which has neither size nor
 // position, else 0; type, price, size, position, and the place after it.
-#[unsafe(no_mangle)]
-pub extern "C" fn rk_entry(body: &[u8], place: usize, told: &mut [u64; 6]) -> u32
+pub fn rk_entry(body: &[u8], place: usize, told: &mut [u64; 6]) -> u32
     ensures { Tells (entry_told body.now place) told.old result told.new }
 {
     let s = entries::step_from(body, place);

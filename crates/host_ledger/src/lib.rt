@@ -14,8 +14,7 @@ use terms::{ChannelNumber, TickNumber};
 use tick_map::Map;
 
 // A fresh ledger for a channel; or 10, and the words stay as they were.
-#[unsafe(no_mangle)]
-pub extern "C" fn rk_ledger_open(channel: u16, state: &mut [u64; 9]) -> u32
+pub fn rk_ledger_open(channel: u16, state: &mut [u64; 9]) -> u32
     ensures { (result ≡ open_number channel) × (state.new ≡ open_words channel state.old) }
 {
     let opened = Ledger::opened(ChannelNumber::new(channel));
@@ -28,13 +27,7 @@ pub extern "C" fn rk_ledger_open(channel: u16, state: &mut [u64; 9]) -> u32
 
 // Offers a tick. Results: the first number that the floor has newly passed and how many, perhaps
 // none. 12 raises the top.
-#[unsafe(no_mangle)]
-pub extern "C" fn rk_ledger_tick(
-    state: &mut [u64; 9],
-    channel: u16,
-    number: u64,
-    told: &mut [u64; 2],
-) -> u32
+pub fn rk_ledger_tick(state: &mut [u64; 9], channel: u16, number: u64, told: &mut [u64; 2]) -> u32
     ensures { Tells (call_told state.old (Tick channel number)) told.old result told.new
         × (state.new ≡ words_after state.old (Tick channel number)) }
 {
@@ -59,8 +52,7 @@ pub extern "C" fn rk_ledger_tick(
 }
 
 // Announces the channel's last number.
-#[unsafe(no_mangle)]
-pub extern "C" fn rk_ledger_announce(state: &mut [u64; 9], channel: u16, last: u64) -> u32
+pub fn rk_ledger_announce(state: &mut [u64; 9], channel: u16, last: u64) -> u32
     ensures { (result ≡ (call_told state.old (Announce channel last)).number)
         × (state.new ≡ words_after state.old (Announce channel last)) }
 {
@@ -76,8 +68,7 @@ pub extern "C" fn rk_ledger_announce(state: &mut [u64; 9], channel: u16, last: u
 }
 
 // Asks for a resend request. Results: its first and last number, pending from now on.
-#[unsafe(no_mangle)]
-pub extern "C" fn rk_ledger_request(state: &mut [u64; 9], channel: u16, told: &mut [u64; 2]) -> u32
+pub fn rk_ledger_request(state: &mut [u64; 9], channel: u16, told: &mut [u64; 2]) -> u32
     ensures { Tells (call_told state.old (Request channel)) told.old result told.new
         × (state.new ≡ words_after state.old (Request channel)) }
 {
@@ -120,8 +111,7 @@ fn settled_row(first: TickNumber, given_up: Map, passed: Map) -> [u64; 9]
 // The exchange's reply to the pending request, which is cleared. Results: the floor + 1 as it was,
 // the numbers given up, and the received ones that the floor has newly passed, for delivery; both
 // sets are empty but on status 4.
-#[unsafe(no_mangle)]
-pub extern "C" fn rk_ledger_reply(
+pub fn rk_ledger_reply(
     state: &mut [u64; 9],
     channel: u16,
     first: u64,
@@ -156,8 +146,7 @@ pub extern "C" fn rk_ledger_reply(
 }
 
 // A new session of the line begins: the pending request is cleared, and all else is kept.
-#[unsafe(no_mangle)]
-pub extern "C" fn rk_ledger_renew(state: &mut [u64; 9]) -> u32
+pub fn rk_ledger_renew(state: &mut [u64; 9]) -> u32
     ensures { (result ≡ (call_told state.old Renew).number)
         × (state.new ≡ words_after state.old Renew) }
 {
@@ -171,8 +160,7 @@ pub extern "C" fn rk_ledger_renew(state: &mut [u64; 9]) -> u32
 
 // What a ledger holds. Results: channel, floor, top, how many numbers are missing and how many are
 // held, and the pending request's first and last number, 0 and 0 where nothing is pending.
-#[unsafe(no_mangle)]
-pub extern "C" fn rk_ledger_told(state: &[u64; 9], told: &mut [u64; 7]) -> u32
+pub fn rk_ledger_told(state: &[u64; 9], told: &mut [u64; 7]) -> u32
     ensures { Tells (ledger_told state.now) told.old result told.new }
 {
     let ledger = host_words::ledger_in(state);
@@ -199,14 +187,7 @@ pub extern "C" fn rk_ledger_told(state: &[u64; 9], told: &mut [u64; 7]) -> u32
 }
 
 // How many numbers from a to b, both counted, are missing. Told: the count.
-#[unsafe(no_mangle)]
-pub extern "C" fn rk_ledger_missing(
-    state: &[u64; 9],
-    channel: u16,
-    a: u64,
-    b: u64,
-    told: &mut u64,
-) -> u32
+pub fn rk_ledger_missing(state: &[u64; 9], channel: u16, a: u64, b: u64, told: &mut u64) -> u32
     ensures { Tells (call_told state.now (Ask (Between channel a b))) (told.old ∷ []) result (told.new ∷ []) }
 {
     let counted = host_words::ledger_in(state).missing_between(

@@ -51,8 +51,7 @@ fn finding_of(v: Verdict) -> Finding
 }
 
 // Whether a file is sound: 0 and its lines, or the first fault and its place.
-#[unsafe(no_mangle)]
-pub extern "C" fn rk_market_check(file: &[u8]) -> Finding
+pub fn rk_market_check(file: &[u8]) -> Finding
     ensures { finding_paper result ≡ fault_of file.now }
 {
     let v = market::check(file);
@@ -61,8 +60,7 @@ pub extern "C" fn rk_market_check(file: &[u8]) -> Finding
 
 // Takes the values out of a file, over the front of out: 0 and how many bytes they are, or as the
 // check answers, then 8.
-#[unsafe(no_mangle)]
-pub extern "C" fn rk_market_values(file: &[u8], out: &mut [u8]) -> Finding
+pub fn rk_market_values(file: &[u8], out: &mut [u8]) -> Finding
     ensures { (finding_paper result ≡ values_answer (length out.old) file.now)
         × (out.new ≡ laid_if0 (values_answer (length out.old) file.now) (values_bytes (values_of file.now)) out.old) }
 {
@@ -72,8 +70,7 @@ pub extern "C" fn rk_market_values(file: &[u8], out: &mut [u8]) -> Finding
 
 // Writes the file that values make over the front of out: 0 and how long it is, or 40, 42, 43, then
 // 47, then 8.
-#[unsafe(no_mangle)]
-pub extern "C" fn rk_market_write(values: &[u8], out: &mut [u8]) -> Finding
+pub fn rk_market_write(values: &[u8], out: &mut [u8]) -> Finding
     ensures { (finding_paper result ≡ written_answer (length out.old) values.now)
         × (out.new ≡ laid_if0 (written_answer (length out.old) values.now) (file_of (values_given values.now)) out.old) }
 {

@@ -104,8 +104,7 @@ fn words_of(page: Month) -> [u64; 226]
 }
 
 // A page of these channels, with nothing taken. 10, 22, 21, judged channel by channel.
-#[unsafe(no_mangle)]
-pub extern "C" fn rk_month_start(channels: &[u16], state: &mut [u64; 226]) -> u32
+pub fn rk_month_start(channels: &[u16], state: &mut [u64; 226]) -> u32
     ensures { (result ≡ start_number channels.now) × (state.new ≡ start_words channels.now state.old) }
 {
     let started = Month::started(channels);
@@ -118,8 +117,7 @@ pub extern "C" fn rk_month_start(channels: &[u16], state: &mut [u64; 226]) -> u3
 
 // One more capture on a page: told are its own figures, six for each place, and the page has
 // the sums. 13, 27, 28.
-#[unsafe(no_mangle)]
-pub extern "C" fn rk_month_add(state: &mut [u64; 226], capture: &[u8], told: &mut [u64; 192]) -> u32
+pub fn rk_month_add(state: &mut [u64; 226], capture: &[u8], told: &mut [u64; 192]) -> u32
     ensures { Tells (answer_to (page_words state.old) capture.now) told.old result told.new
         × (state.new ≡ words_after state.old capture.now) }
 {

@@ -110,8 +110,7 @@ fn one_if(b: bool) -> u64
 }
 
 // A new session: both counters 1. Always 0.
-#[unsafe(no_mangle)]
-pub extern "C" fn rk_session_open(state: &mut [u64; 8]) -> u32
+pub fn rk_session_open(state: &mut [u64; 8]) -> u32
     ensures { (result ≡ 0) × (state.new ≡ words_of opened) }
 {
     *state = words_of(Session::opened());
@@ -139,8 +138,7 @@ fn call(state: &mut [u64; 8], time: u64, event: Event, told: &mut [u64; 3]) -> u
 }
 
 // Begins: our logon is to be sent.
-#[unsafe(no_mangle)]
-pub extern "C" fn rk_session_begin(state: &mut [u64; 8], time: u64, told: &mut [u64; 3]) -> u32
+pub fn rk_session_begin(state: &mut [u64; 8], time: u64, told: &mut [u64; 3]) -> u32
     ensures { Tells (call_told state.old time Begin) told.old result told.new
         × (state.new ≡ words_after state.old time Begin) }
 {
@@ -148,8 +146,7 @@ pub extern "C" fn rk_session_begin(state: &mut [u64; 8], time: u64, told: &mut [
 }
 
 // Lets time pass: a heartbeat may be due, or the line dead.
-#[unsafe(no_mangle)]
-pub extern "C" fn rk_session_time(state: &mut [u64; 8], time: u64, told: &mut [u64; 3]) -> u32
+pub fn rk_session_time(state: &mut [u64; 8], time: u64, told: &mut [u64; 3]) -> u32
     ensures { Tells (call_told state.old time Time) told.old result told.new
         × (state.new ≡ words_after state.old time Time) }
 {
@@ -157,8 +154,7 @@ pub extern "C" fn rk_session_time(state: &mut [u64; 8], time: u64, told: &mut [u
 }
 
 // Leaves: our logout is to be sent, and nothing after it.
-#[unsafe(no_mangle)]
-pub extern "C" fn rk_session_leave(state: &mut [u64; 8], time: u64, told: &mut [u64; 3]) -> u32
+pub fn rk_session_leave(state: &mut [u64; 8], time: u64, told: &mut [u64; 3]) -> u32
     ensures { Tells (call_told state.old time Leave) told.old result told.new
         × (state.new ≡ words_after state.old time Leave) }
 {
@@ -166,8 +162,7 @@ pub extern "C" fn rk_session_leave(state: &mut [u64; 8], time: u64, told: &mut [
 }
 
 // Asks for a resend: a P002 is to be sent.
-#[unsafe(no_mangle)]
-pub extern "C" fn rk_session_ask(state: &mut [u64; 8], time: u64, told: &mut [u64; 3]) -> u32
+pub fn rk_session_ask(state: &mut [u64; 8], time: u64, told: &mut [u64; 3]) -> u32
     ensures { Tells (call_told state.old time Ask) told.old result told.new
         × (state.new ≡ words_after state.old time Ask) }
 {
@@ -175,13 +170,7 @@ pub extern "C" fn rk_session_ask(state: &mut [u64; 8], time: u64, told: &mut [u6
 }
 
 // The frame at the front has arrived. Told beside 0: as of the other calls, and its length.
-#[unsafe(no_mangle)]
-pub extern "C" fn rk_session_receive(
-    state: &mut [u64; 8],
-    time: u64,
-    bytes: &[u8],
-    told: &mut [u64; 4],
-) -> u32
+pub fn rk_session_receive(state: &mut [u64; 8], time: u64, bytes: &[u8], told: &mut [u64; 4]) -> u32
     ensures { Tells (arrival_told state.old time bytes.now) told.old result told.new
         × (state.new ≡ words_after state.old time (event_in bytes.now)) }
 {
@@ -203,8 +192,7 @@ pub extern "C" fn rk_session_receive(
 }
 
 // What sending a request would be answered now. Nothing is sent, and nothing moves.
-#[unsafe(no_mangle)]
-pub extern "C" fn rk_session_may_send(state: &[u64; 8], time: u64) -> u32
+pub fn rk_session_may_send(state: &[u64; 8], time: u64) -> u32
     ensures { result ≡ (answer_to (line_in state.now) time Ask).number }
 {
     let verdict = session_in(state).may_send(time);

@@ -32,8 +32,7 @@ fn number(why: StepRefusal) -> u32
 
 // Reads the frame at a place. Results: its type, the place of the fields after the frame's start,
 // their length, the frame's length.
-#[unsafe(no_mangle)]
-pub extern "C" fn rk_step_read(bytes: &[u8], place: usize, told: &mut [u64; 4]) -> u32
+pub fn rk_step_read(bytes: &[u8], place: usize, told: &mut [u64; 4]) -> u32
     ensures { Tells (step_read_of (drop place bytes.now)) told.old result told.new }
 {
     match step_frame::read_at(bytes, place) {
@@ -52,8 +51,7 @@ pub extern "C" fn rk_step_read(bytes: &[u8], place: usize, told: &mut [u64; 4]) 
 
 // The field at a place among fields. Results: its tag, the place and the length of its value, the
 // place after it; 26 where none stands there.
-#[unsafe(no_mangle)]
-pub extern "C" fn rk_step_field(fields: &[u8], place: usize, told: &mut [u64; 4]) -> u32
+pub fn rk_step_field(fields: &[u8], place: usize, told: &mut [u64; 4]) -> u32
     ensures { Tells (field_at place fields.now) told.old result told.new }
 {
     match step_frame::field_at(fields, place) {
@@ -85,8 +83,7 @@ fn told_bytes(w: StepWritten, told: &mut u64) -> u32
 
 // Writes a message at the front of out: a type and its fields, `tag=value` SOH one after the other.
 // Result: how many bytes.
-#[unsafe(no_mangle)]
-pub extern "C" fn rk_step_write(kind: u8, fields: &[u8], out: &mut [u8], told: &mut u64) -> u32
+pub fn rk_step_write(kind: u8, fields: &[u8], out: &mut [u8], told: &mut u64) -> u32
     ensures { Tells (step_write_of kind fields.now (length out.old)) (told.old ∷ []) result (told.new ∷ [])
         × (out.new ≡ step_left_of kind fields.now out.old) }
 {
@@ -95,8 +92,7 @@ pub extern "C" fn rk_step_write(kind: u8, fields: &[u8], out: &mut [u8], told: &
 }
 
 // Scrubs the frame at the front of a buffer where it stands. Result: how many bytes it has.
-#[unsafe(no_mangle)]
-pub extern "C" fn rk_step_scrub(frame: &mut [u8], told: &mut u64) -> u32
+pub fn rk_step_scrub(frame: &mut [u8], told: &mut u64) -> u32
     ensures { Tells (step_scrub_of frame.old) (told.old ∷ []) result (told.new ∷ [])
         × (frame.new ≡ step_scrub_left frame.old) }
 {

@@ -124,12 +124,7 @@ fn settle(state: &mut [u64; 6], ledger: &mut [u64; 9], told: &mut [u64; 5], done
 }
 
 // A stream before its first call; its ledger is that of channel 100. Always 0.
-#[unsafe(no_mangle)]
-pub extern "C" fn rk_stream_open(
-    state: &mut [u64; 6],
-    ledger: &mut [u64; 9],
-    kept: &mut [u8; 8191],
-) -> u32
+pub fn rk_stream_open(state: &mut [u64; 6], ledger: &mut [u64; 9], kept: &mut [u8; 8191]) -> u32
     ensures { (result ≡ 0) × (lent state.new ledger.new kept.new ≡ lent_of opened) }
 {
     keep(state, ledger, kept, Stream::opened());
@@ -139,8 +134,7 @@ pub extern "C" fn rk_stream_open(
 // One more cut, perhaps of no bytes: a record of 64 bytes for each reading that it decides.
 // Results: how many records; frames and refused readings so far; the place of the first byte that
 // waits, or of the next to come; how many bytes wait. Refusals 13, 19, 29, 8.
-#[unsafe(no_mangle)]
-pub extern "C" fn rk_stream_feed(
+pub fn rk_stream_feed(
     state: &mut [u64; 6],
     ledger: &mut [u64; 9],
     kept: &mut [u8; 8191],
@@ -159,8 +153,7 @@ pub extern "C" fn rk_stream_feed(
 
 // No more bytes come: what remains is walked as the end of a closed capture is. Results as for a
 // cut. Refusals 13, 19, 8.
-#[unsafe(no_mangle)]
-pub extern "C" fn rk_stream_close(
+pub fn rk_stream_close(
     state: &mut [u64; 6],
     ledger: &mut [u64; 9],
     kept: &mut [u8; 8191],
@@ -211,8 +204,7 @@ fn settle_washed(
 // frames, whose bodies are passed on unjudged; then the place of the first byte that waits, or of
 // the next to come, and how many bytes wait. Counts and ledger stay as they are. Refusals 13, 19,
 // 29, 8.
-#[unsafe(no_mangle)]
-pub extern "C" fn rk_stream_clean(
+pub fn rk_stream_clean(
     state: &mut [u64; 6],
     ledger: &mut [u64; 9],
     kept: &mut [u8; 8191],
@@ -231,8 +223,7 @@ pub extern "C" fn rk_stream_clean(
 
 // No more bytes come: what remains is cleaned as the end of a closed capture is. Results as for a
 // cut. Refusals 13, 19, 8.
-#[unsafe(no_mangle)]
-pub extern "C" fn rk_stream_clean_close(
+pub fn rk_stream_clean_close(
     state: &mut [u64; 6],
     ledger: &mut [u64; 9],
     kept: &mut [u8; 8191],

@@ -8,9 +8,9 @@ ghost use Rattle.listing_text.specs.Listed.{listed_of};
 ghost use Rattle.listing.specs.LastLine.{last_by};
 ghost use Rattle.listing_text.specs.Output.{output_of};
 
-use libc::{STDIN_FILENO, STDOUT_FILENO};
 use listing_text::Summary;
 use octets::Written;
+use std::io::{self, Read, Write};
 use walk::Walked;
 
 // The largest capture that is taken. One byte more is read, which tells a capture that is too long.
@@ -65,11 +65,13 @@ fn output(input: &[u8], records: &mut [u8], text: &mut [u8]) -> usize
     list(input, records, text)
 }
 
-fn main() {
-    let mut input: [u8; 65537] = [0; 65537];
-    let mut records: [u8; RECORDS] = [0; RECORDS];
-    let mut text: [u8; TEXT] = [0; TEXT];
-    let n = io::read_full(STDIN_FILENO, &mut input);
-    let e = output(&input[..n], &mut records, &mut text);
-    io::write_all(STDOUT_FILENO, &text[..e]);
+// One byte more than is taken is read, and all that is listed is written.
+fn main(rt: HostRuntime) -> io::Result<()> {
+    let alloc = rt.alloc();
+    let mut input = Vec::new(alloc);
+    rt.stdin().take(65537).read_to_end(&mut input)?;
+    let mut records = Vec::from_elem(alloc, 0u8, RECORDS)?;
+    let mut text = Vec::from_elem(alloc, 0u8, TEXT)?;
+    let e = output(&input, &mut records, &mut text);
+    rt.stdout().write_all(&text[..e])
 }

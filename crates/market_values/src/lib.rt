@@ -49,7 +49,7 @@ fn value_fits(s: &[u8], p: usize, i: usize) -> bool
         return true;
     }
     if kind == 2 {
-        return market_columns::number_fits_lem(f.width, f.decimals, s[p], octets::u64_at(s, p + 1));
+        return market_columns::number_fits(f.width, f.decimals, s[p], octets::u64_at(s, p + 1));
     }
     if kind == 3 {
         return market_columns::column_ok(s, p, i);

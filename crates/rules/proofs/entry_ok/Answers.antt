@@ -1,0 +1,9 @@
+-- `entry_ok`: each field is the number that the definition reads, so the tests are the same.
+-- Assumes nothing.
+use Rattle.rules.specs.Fields.{entry_ok}
+use borrow.Author.Rules.{rules}
+use Rattle.rules.proofs.entry_ok.Goals as goal
+
+pub returns : goal.returns
+unfolding entry_ok
+returns c = rw (c.u64_at-price.ensures, c.u64_at-size.ensures, c.u8_at-position.ensures)

@@ -1,0 +1,7 @@
+-- `m102_fixed_ok`: the pair and the values, as the definition has them. Assumes nothing.
+use Rattle.rules.specs.Sizes.{same_both}
+use borrow.Author.Rules.{rules}
+use Rattle.rules.proofs.m102_fixed_ok.Goals as goal
+
+pub returns : goal.returns
+returns c = same_both _ _ _ _ _ _ _ c.pair_ok-pair.ensures c.u8_at.ensures c.u40_at.ensures c.m102_values_ok-values.ensures

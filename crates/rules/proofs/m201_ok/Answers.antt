@@ -1,0 +1,19 @@
+-- `m201_ok`: each field is the number that the definition reads, so the tests are the same.
+-- Assumes nothing.
+use Rattle.rules.specs.Fields.{m201_ok}
+use borrow.Author.Rules.{rules}
+use Rattle.rules.proofs.m201_ok.Goals as goal
+
+pub returns : goal.returns
+unfolding m201_ok
+returns c =
+    rw (
+      c.u8_at-security_type.ensures,
+      c.u16_at-channel_no.ensures,
+      c.u64_at-appl_seq_num.ensures,
+      c.u32_at-transact_time.ensures,
+      c.u8_at-exec_type.ensures,
+      c.u64_at-price.ensures,
+      c.u64_at-order_qty.ensures,
+      c.tail_ok-tail.ensures,
+    )
