@@ -6,12 +6,8 @@ use borrow.Author.Rules.{rules}
 use mathlib.Core.List.{List}
 use Rattle.month.specs.State.{no_figures, empty_with}
 use Rattle.month.proofs.Fill.{zeros_are}
-use Rattle.month.proofs.empty.Statement.{statement}
-use Rattle.month.proofs.empty.Tie as tie
+use Rattle.month.proofs.empty.Goals as goal
 
-returns : tie.Need-returns
+pub returns : goal.returns
 unfolding empty_with no_figures
 returns c = ap (λ (l : List ℕ). record { channels = c.args.channels; named = c.args.named; taken = 0; sums = l }) (zeros_are 192)
-
-pub empty-spec : {M : Type 1} → statement M
-empty-spec = tie.close (tie.spec returns)

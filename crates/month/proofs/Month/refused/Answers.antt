@@ -6,12 +6,8 @@ use borrow.Author.Rules.{rules}
 use mathlib.Core.List.{List}
 use Rattle.month.specs.State.{no_figures, refused_with}
 use Rattle.month.proofs.Fill.{zeros_are}
-use Rattle.month.proofs.Month.refused.Statement.{statement}
-use Rattle.month.proofs.Month.refused.Tie as tie
+use Rattle.month.proofs.Month.refused.Goals as goal
 
-returns : tie.Need-returns
+pub returns : goal.returns
 unfolding refused_with no_figures
 returns c = ap (λ (l : List ℕ). record { answer = c.args.answer; figures = l; page = c.args.self }) (zeros_are 192)
-
-pub refused-spec : {M : Type 1} → statement M
-refused-spec = tie.close (tie.spec returns)
