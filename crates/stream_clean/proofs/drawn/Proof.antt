@@ -45,7 +45,7 @@ slice-aggregate-wash c = let s = c.before.before.before.before.before.before.bef
 
 wash-requires : tie.Need-wash-requires
 wash-requires c κs =
-    let s = c.before.before.before.before.before.before.before.before.before in omega (arith, Pushed.waiting_long s.args.st s.args.kept.now s.args.cut.now (ready s), (ready s).ranges)
+    let s = c.before.before.before.before.before.before.before.before.before in omega (arith, Pushed.waiting_long s.args.st s.args.kept.now s.args.cut.now (ready s), (ready s).fits)
 
 keep-rest-requires : tie.Need-keep-rest-requires
 keep-rest-requires c κs = search rules
