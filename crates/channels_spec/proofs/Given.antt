@@ -172,42 +172,42 @@ sound_in t r channel o = r.sound o.place o.book o.is
 pub given_10_tick : (t : Table) (channel n : ℕ) → TableRules t → ((answer_to t (To channel (Tick n))).number ≡ 10) ↔ Given10Tick t channel n
 given_10_tick t channel n r = (
   λ e. (let s = said_at t r channel (Tick n) 10 (λ z. omega arith) e in
-      record { at = s.at; number = ((goal.given-10-tick s.at.book channel n).0 s.gives).number }),
+      record { at = s.at; number = ((goal.given_10_tick s.at.book channel n).0 s.gives).number }),
   λ g. said_back t r channel (Tick n) 10 g.at
-      ((goal.given-10-tick g.at.book channel n).1 (record { rules = sound_in t r channel g.at; own = sym g.at.own; number = g.number })),
+      ((goal.given_10_tick g.at.book channel n).1 (record { rules = sound_in t r channel g.at; own = sym g.at.own; number = g.number })),
 )
 
 pub given_10_announcement : (t : Table) (channel n : ℕ) → TableRules t → ((answer_to t (To channel (Announce n))).number ≡ 10) ↔ Given10Announcement t channel n
 given_10_announcement t channel n r = (
   λ e. (let s = said_at t r channel (Announce n) 10 (λ z. omega arith) e in
-      record { at = s.at; number = ((goal.given-10-announcement s.at.book channel n).0 s.gives).number }),
+      record { at = s.at; number = ((goal.given_10_announcement s.at.book channel n).0 s.gives).number }),
   λ g. said_back t r channel (Announce n) 10 g.at
-      ((goal.given-10-announcement g.at.book channel n).1 (record { rules = sound_in t r channel g.at; own = sym g.at.own; number = g.number })),
+      ((goal.given_10_announcement g.at.book channel n).1 (record { rules = sound_in t r channel g.at; own = sym g.at.own; number = g.number })),
 )
 
 pub given_10_between : (t : Table) (channel a z : ℕ) → TableRules t → ((answer_to t (To channel (Between a z))).number ≡ 10) ↔ Given10Between t channel a z
 given_10_between t channel a z r = (
   λ e. (let s = said_at t r channel (Between a z) 10 (λ y. omega arith) e in
-      record { at = s.at; number = ((goal.given-10-between s.at.book channel a z).0 s.gives).number }),
+      record { at = s.at; number = ((goal.given_10_between s.at.book channel a z).0 s.gives).number }),
   λ g. said_back t r channel (Between a z) 10 g.at
-      ((goal.given-10-between g.at.book channel a z).1 (record { rules = sound_in t r channel g.at; own = sym g.at.own; number = g.number })),
+      ((goal.given_10_between g.at.book channel a z).1 (record { rules = sound_in t r channel g.at; own = sym g.at.own; number = g.number })),
 )
 
 pub given_17 : (t : Table) (channel first status : ℕ) → TableRules t → ((answer_to t (To channel (Reply first status))).number ≡ 17) ↔ Given17 t channel first status
 given_17 t channel first status r = (
   λ e. (let s = said_at t r channel (Reply first status) 17 (λ z. omega arith) e in
-      record { at = s.at; wrong = ((goal.given-17 s.at.book channel first status).0 s.gives).wrong }),
+      record { at = s.at; wrong = ((goal.given_17 s.at.book channel first status).0 s.gives).wrong }),
   λ g. said_back t r channel (Reply first status) 17 g.at
-      ((goal.given-17 g.at.book channel first status).1 (record { rules = sound_in t r channel g.at; own = sym g.at.own; wrong = g.wrong })),
+      ((goal.given_17 g.at.book channel first status).1 (record { rules = sound_in t r channel g.at; own = sym g.at.own; wrong = g.wrong })),
 )
 
 pub given_16 : (t : Table) (channel first status : ℕ) → TableRules t → ((answer_to t (To channel (Reply first status))).number ≡ 16) ↔ Given16 t channel first status
 given_16 t channel first status r = (
   λ e. (let s = said_at t r channel (Reply first status) 16 (λ z. omega arith) e in
-      let g = (goal.given-16 s.at.book channel first status).0 s.gives in
+      let g = (goal.given_16 s.at.book channel first status).0 s.gives in
       record { at = s.at; right = g.right; unasked = g.unasked }),
   λ g. said_back t r channel (Reply first status) 16 g.at
-      ((goal.given-16 g.at.book channel first status).1
+      ((goal.given_16 g.at.book channel first status).1
       (record { rules = sound_in t r channel g.at; own = sym g.at.own; right = g.right; unasked = g.unasked })),
 )
 
@@ -217,7 +217,7 @@ given_16 t channel first status r = (
 missing_at : (b : Book) → StateRules b → (b.top ≡ b.floor → ⊥) → MissingAt b (b.floor + 1)
 missing_at b r n =
     let lo : b.floor ≤ b.top = r.low in
-    record { above = omega arith; low = above lo n; not_settled = λ s. clash (goal.settled-test b (b.floor + 1) s) (first_clear b r) }
+    record { above = omega arith; low = above lo n; not_settled = λ s. clash (goal.settled_test b (b.floor + 1) s) (first_clear b r) }
   where
     above : {f t : ℕ} → f ≤ t → (t ≡ f → ⊥) → f + 1 ≤ t
     above {f} {t} l g = ⊎_elim (λ x. omega arith) (λ x. absurd (g (omega arith))) (less f t)
@@ -283,7 +283,7 @@ request_to t r = ⊎_elim
         let s = r.sound (turn t) b g.is in
         let free_now : b.pending ≡ nothing = nothing_pending _ (false_of _ (λ y. none_waits t r l (turn t) (ap waits g.is ∙ y))) in
         ap (λ (p : Place). ledger.number_to (book_in p) (ledger.Request (book_in p).channel)) g.is
-        ∙ (goal.given-0 b (ledger.Request b.channel)).1
+        ∙ (goal.given_0 b (ledger.Request b.channel)).1
         (record { rules = s; own = refl; fine = record { free = free_now; number = b.floor + 1; is_missing = missing_at b s g.missing } })
 
 pub given_14 : (t : Table) → TableRules t → ((answer_to t Request).number ≡ 14) ↔ SomePending t
@@ -334,10 +334,10 @@ given_18 t Request r = (λ e. absurd (at (request_to t r) e), λ g. absurd g.nam
 given_18 t (To c said) r = (λ e. record { channel = c; named = refl; not_open = λ q. never q e }, λ g. rw (not_in t c (subst (λ (k : ℕ). OpenIn t k → ⊥) (sym g.named) g.not_open)))
   where
     names_own : (b : Book) (s : Said) → b.channel ≡ c → ledger.number_to b (called c s) ≡ 18 → ⊥
-    names_own b (Tick n) o e = ((goal.given-18 b (ledger.Tick c n)).0 e).other (sym o)
-    names_own b (Announce n) o e = ((goal.given-18 b (ledger.Announce c n)).0 e).other (sym o)
-    names_own b (Reply first status) o e = ((goal.given-18 b (ledger.Reply c first status)).0 e).other (sym o)
-    names_own b (Between x z) o e = ((goal.given-18 b (ledger.Ask (ledger.Between c x z))).0 e).other (sym o)
+    names_own b (Tick n) o e = ((goal.given_18 b (ledger.Tick c n)).0 e).other (sym o)
+    names_own b (Announce n) o e = ((goal.given_18 b (ledger.Announce c n)).0 e).other (sym o)
+    names_own b (Reply first status) o e = ((goal.given_18 b (ledger.Reply c first status)).0 e).other (sym o)
+    names_own b (Between x z) o e = ((goal.given_18 b (ledger.Ask (ledger.Between c x z))).0 e).other (sym o)
 
     never : OpenIn t c → (answer_to t (To c said)).number ≡ 18 → ⊥
     never q e = names_own q.book said q.own (sym (ap (λ (p : Paper). p.number) (said_is t r c said q)) ∙ e)
@@ -477,7 +477,7 @@ never_13 t Request r = at (request_to t r)
 never_13 t (To channel said) r = ⊎_elim (λ o. rw o (sound_there (open_here t channel o))) (λ o. rw o) (two (is_open t channel))
   where
     sound_there : Here t channel (place_of t channel) → eqb (ledger.number_to (book_of t channel) (called channel said)) 13 ≡ false
-    sound_there h = ne_eqb _ 13 (λ e. (goal.given-13 (book_of t channel) (called channel said)).0 e (r.sound (place_of t channel) (book_of t channel) (h.is ∙ ap holds (sym (ap book_in h.is)))))
+    sound_there h = ne_eqb _ 13 (λ e. (goal.given_13 (book_of t channel) (called channel said)).0 e (r.sound (place_of t channel) (book_of t channel) (h.is ∙ ap holds (sym (ap book_in h.is)))))
 never_13 t (Told channel) r = pick_cases (λ (a : Paper). answered a 13 ≡ false) (is_open t channel) _ (refusal 18) (λ o. refl) (λ o. refl)
 never_13 t Renew r = refl
 

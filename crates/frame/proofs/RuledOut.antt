@@ -1,6 +1,6 @@
 -- For each public function: wrong answers that its promise rules out, as tables of what is given
 -- and what is then wrong. Assumes nothing.
-use Rattle.std.proofs.Common.{ℕ, List, [], ◌∷◌, ◌++◌, length, take, drop, replicate, refl, MutBor}
+use Rattle.std.proofs.Common.{ℕ, List, [], ◌∷◌, ◌++◌, length, take, drop, replicate, refl, Bor}
 use contract.Lifetimes.{Lfts}
 use base.Fml.{GName}
 use Rattle.terms.specs.Letters.{spelled}
@@ -111,7 +111,7 @@ write_rules_out =
 pub read_at_allows : (κs : Lfts 1) (at : ℕ × ℕ) (name : GName) → Allows {I = List ℕ × ℕ} (Kept _ read-at-kinds.ps read-at-kinds.r read_at.Post) (λ c. (c.args.0.now, c.args.1.0)) (λ c. read_paper c.result) (A, 0) read_a
 unfolding frame_a start_of_a checked read_of numeral sum8 sum_of kind_of suits measure_of fields_ok real_time real_parts days_in leap judge_of
 read_at_allows κs at name =
-    let bytes : MutBor (List ℕ) = record { ref_ptr = at; ghost_name = name; now = A } in
+    let bytes : Bor (List ℕ) = record { ref_ptr = at; now = A } in
     record {
       call = record { lifetimes = κs; args = (bytes, (0, tt)); result = Frame (spelled "S003") 0x0047FA7908DACB40 (session_of 1) 0; exit = (bytes, (0, tt)) };
       given = refl;

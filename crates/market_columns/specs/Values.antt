@@ -1,20 +1,15 @@
 -- What a column, a line and a file say beside their constants, blanks, bars, count and sum; and the
 -- bytes made of that.
-use Rattle.std.specs.Prelude.{ℕ, zero, suc, ◌+◌, ◌-◌, ◌<◌, ◌≤◌, ◌≡◌, refl, Bool, true, false, not, ◌&&◌, ◌||◌, ◌⊎◌, List, [], ◌∷◌, ◌++◌, leb, ltb, eqb, length, get_or, take, drop, replicate}
-use Rattle.std.proofs.Common.{sym, ap, ◌∙◌, inl, inr, ⊎_elim, append_assoc, append-nil, add-one, add-zero, add_assoc, arith, length-append, length-drop, take-append-drop, drop-cons, drop-drop, take_at, drop_at, take_all, length-take-le, le-leb, eq-eqb, ne_eqb, eqb-true}
-use Rattle.std.proofs.lemmas.List.{length-replicate, get_or_at, take-append-le}
-use Rattle.std.proofs.Math.Seq.{drop-append-add}
-use Rattle.std.proofs.lemmas.Bool.{eqb-false, not-true, not-false}
-use Rattle.terms.specs.Paper.{Paper, answer, pick}
-use Rattle.terms.specs.Cases.{two, less, same, clash}
-use Rattle.digits.specs.Digits.{nothing}
+use Rattle.std.specs.Prelude.{ℕ, ◌≡◌, refl, Bool, true, false, ◌&&◌, ◌||◌, List, [], ◌∷◌, ◌++◌, eqb, length, replicate}
+use Rattle.std.proofs.Common.{sym, ap, ◌∙◌, inl, inr, append-nil, arith, take_all, eq-eqb, eqb-true}
+use Rattle.std.proofs.lemmas.List.{length-replicate}
+use Rattle.terms.specs.Cases.{clash}
 use Rattle.digits.specs.Laws.{both}
-use Rattle.market_columns.specs.Numbers.{amount, spaces, number_in, column_text, number_fits}
-use Rattle.market_columns.specs.NumberLaws.{NumberSays, number_says, says_back, says_fits, number_fits_lem, fits_number, number_either, SaysOrNot, column_fore, column_long}
-use Rattle.market_columns.specs.Pieces.{spaces_front, spaces_stand, column_length}
-use Rattle.market_columns.specs.Columns.{Column, K, S, N, C, U, wide, alike, blank, column_ok}
+use Rattle.market_columns.specs.Numbers.{spaces, number_in, column_text, number_fits}
+use Rattle.market_columns.specs.NumberLaws.{number_says, says_back, says_fits, number_fits_lem, fits_number, number_either, SaysOrNot, column_fore, column_long}
+use Rattle.market_columns.specs.Pieces.{spaces_front, spaces_stand}
+use Rattle.market_columns.specs.Columns.{Column, K, S, N, C, U, wide, blank, column_ok}
 use Rattle.market_columns.specs.ColumnLaws.{alike_self, alike_is}
-use Rattle.market_columns.specs.Tables.{length_of}
 
 -- A COLUMN
 

@@ -9,18 +9,13 @@ use Rattle.step_spec.specs.FieldLaws.{piece}
 use Rattle.step_frame.specs.declared.Field.{Field}
 use Rattle.step_frame.specs.declared.Field.TheVariants.{At, NoField}
 use Rattle.step_frame.specs.declared.Fit.{Fit}
-use Rattle.step_frame.specs.declared.Fit.TheVariants as Fit
 use Rattle.step_frame.specs.declared.StepRefusal.{StepRefusal}
 use Rattle.step_frame.specs.declared.StepRefusal.TheVariants.{More, Long, Sum, Time, Room, Begin, Length, MsgType, Fields}
 use Rattle.step_frame.specs.declared.Read.{Read}
-use Rattle.step_frame.specs.declared.Read.TheVariants as Read
 use Rattle.step_frame.specs.declared.Head.{Head}
-use Rattle.step_frame.specs.declared.Head.TheVariants as Head
 use Rattle.step_spec.specs.Frame.{body_start, body_length}
 use Rattle.step_frame.specs.declared.StepWritten.{StepWritten}
-use Rattle.step_frame.specs.declared.StepWritten.TheVariants as StepWritten
 use Rattle.step_frame.specs.declared.Check.{Check}
-use Rattle.step_frame.specs.declared.Check.TheVariants as Check
 
 -- a field's paper has its tag, the place and the length of its value, and the next place
 abbrev pub field_paper : Field → Paper

@@ -1,9 +1,9 @@
 -- Wrong answers that the promise of `scrub` rules out, as a table of what is given and what is then
 -- wrong. Assumes nothing.
 use Prim.Native.Nat.{ℕ}
-use mathlib.Core.Path.{◌≡◌, refl}
+use mathlib.Core.Path.{refl}
 use mathlib.Core.List.{List, [], ◌∷◌, ◌++◌}
-use Rattle.terms.specs.Paper.{Paper, answer, refusal}
+use Rattle.terms.specs.Paper.{answer, refusal}
 use Rattle.terms.specs.RuledOut.{Row, ◌never◌, ◌only◌, Kept, RulesOut, ruled, Left, left, lefts, left_is}
 use Rattle.terms.specs.Checks.{or_else}
 use Rattle.octets.specs.Octets.{sum_of, sum8, numeral, digits_of}

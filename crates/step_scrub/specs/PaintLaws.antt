@@ -1,25 +1,23 @@
 -- What painting leaves: the pieces, their tags, and all that reading judges.
-use Prim.Native.Nat.{ℕ, zero, suc, ◌+◌, ◌-◌, ◌<◌, ◌≤◌}
-use Rattle.std.specs.Prelude.{◌≡◌, refl, Bool, true, false, not, ◌&&◌, ◌||◌, ◌⊎◌, eqb, ltb, leb, get_or, take, drop, set}
-use Rattle.std.proofs.Common.{sym, ap, ◌∙◌, inl, inr, arith, lit<, lit≤, length-take, length-drop, take-append-drop, add-one, take_at, drop_at, take-suc, length-take-le}
+use Prim.Native.Nat.{ℕ, zero, suc, ◌+◌, ◌<◌, ◌≤◌}
+use Rattle.std.specs.Prelude.{◌≡◌, refl, Bool, true, false, not, ◌&&◌, ◌||◌, ◌⊎◌, eqb, ltb, take, drop, set}
+use Rattle.std.proofs.Common.{sym, ap, ◌∙◌, inl, inr, arith, length-drop, add-one, take_at, drop_at, take-suc, length-take-le}
 use mathlib.Core.List.{List, [], ◌∷◌, ◌++◌, append_assoc}
 use Rattle.std.proofs.Math.Logic.{⊎_elim}
 use Rattle.std.proofs.Math.ListN.{length, replicate, length-append, length-replicate}
-use borrow.Author.Tests.{ltb-true, lt-ltb, eqb-true, eqb-false, eq-eqb, ne_eqb, not-true}
-use Rattle.terms.specs.Paper.{Paper, pick}
-use Rattle.terms.specs.Cases.{two, less, same, clash}
-use Rattle.digits.specs.Digits.{decimal_at, all_digits, said_by, number, plain}
-use Rattle.octets.specs.Octets.{numeral}
+use borrow.Author.Tests.{lt-ltb, eqb-true, eq-eqb, not-true}
+use Rattle.terms.specs.Paper.{pick}
+use Rattle.terms.specs.Cases.{two, less, clash}
+use Rattle.digits.specs.Digits.{decimal_at}
 use Rattle.digits.specs.Laws.{both}
-use Rattle.digits.specs.Texts.{Says, given_decimal}
-use Rattle.step_tags.specs.Table.{row_of, row_in, row_at, rows, has, C}
-use Rattle.step_tags.specs.Forms.{some, is_text, suits, form_ok, is_unreal}
+use Rattle.step_tags.specs.Table.{row_of, row_in, row_at, rows, C}
+use Rattle.step_tags.specs.Forms.{suits, form_ok, is_unreal}
 use Rattle.step_spec.specs.Pieces.{SOH, equals, until_of, pieces, closed}
-use Rattle.step_spec.specs.PieceLaws.{until_le, until_found, until_here, until_on, pieces_cut, closed_cut, not_closed}
-use Rattle.step_spec.specs.Fields.{is_field, tag_of, value_of, fits, passes, sound_of, sound_from, begins52, unreal_in, judge_of}
+use Rattle.step_spec.specs.PieceLaws.{until_le, until_found, until_here, until_on, pieces_cut, closed_cut}
+use Rattle.step_spec.specs.Fields.{is_field, tag_of, value_of, fits, passes, sound_of, sound_from, begins52, unreal_in}
 use Rattle.step_spec.specs.FieldLaws.{piece, decimal_same, tag_52}
 use Rattle.step_scrub.specs.Scrubbed.{is_private, paint_piece, paint_all, joined, painted, all_fields}
-use Rattle.step_scrub.specs.Turns.{mark_in, split_value, painted_long, painted_cut, fields_cut, closed_found, painted_end}
+use Rattle.step_scrub.specs.Turns.{mark_in, split_value, painted_cut, fields_cut, closed_found}
 
 -- A DELIMITER THAT IS NOT THERE
 

@@ -1,7 +1,7 @@
 -- Document 02, CR 5: "paints 49, 56, 553, 554 and 58 with spaces of the same length". Which tags
 -- these are, outright, so that a shorter `is_private` is refused; that no byte of the fields is in
 -- no field; what becomes of one field; and when fields differ in private values alone.
-use Rattle.std.specs.Prelude.{ℕ, zero, suc, ◌+◌, ◌<◌, ◌≡◌, refl, Bool, true, false, ◌&&◌, ◌⊎◌, List, [], ◌∷◌, eqb, length, get_or, take, replicate}
+use Rattle.std.specs.Prelude.{ℕ, zero, suc, ◌+◌, ◌<◌, ◌≡◌, refl, true, false, ◌⊎◌, List, [], ◌∷◌, eqb, length, get_or, take, replicate}
 use Rattle.std.proofs.Common.{sym, ap, ◌∙◌, ⊎_elim, arith, eqb-true}
 use Rattle.terms.specs.Cases.{two}
 use Rattle.terms.specs.Says.{Says, says_eq, says_or}

@@ -1,5 +1,5 @@
 -- Painting the fields and renewing the sum gives the frame of the painted fields.
-use Rattle.std.specs.Prelude.{ℕ, zero, suc, ◌+◌, ◌-◌, ◌^◌, ◌<◌, ◌≤◌, ◌≡◌, refl, Bool, true, false, ◌&&◌, eqb, get_or}
+use Rattle.std.specs.Prelude.{ℕ, ◌+◌, ◌-◌, ◌^◌, ◌<◌, ◌≤◌, ◌≡◌, refl, Bool, true, get_or}
 use Rattle.std.proofs.Math.Path.{sym, ap}
 use Rattle.std.proofs.Common.{◌∙◌, ⊎_elim, arith}
 use mathlib.Core.List.{List, [], ◌∷◌, ◌++◌, append_assoc}
@@ -7,7 +7,7 @@ use Rattle.std.proofs.Math.Dec.{lit≤}
 use Rattle.std.proofs.Math.ListN.{length, take, drop, length-append}
 use Rattle.std.proofs.Math.Seq.{take_at, drop_at}
 use borrow.Author.Tests.{ne_eqb}
-use Rattle.terms.specs.Paper.{Paper, answer, refusal, pick, one_number}
+use Rattle.terms.specs.Paper.{Paper, answer, refusal, one_number}
 use Rattle.terms.specs.Cases.{same}
 use Rattle.octets.specs.Octets.{sum8, laid}
 use Rattle.octets.specs.Sums.{sum8_below}
@@ -16,7 +16,7 @@ use Rattle.digits.specs.Laws.{both, length_decimal, all_decimal, said_decimal}
 use Rattle.digits.specs.Texts.{Says, given_number}
 use Rattle.step_spec.specs.Pieces.{SOH, pieces, closed}
 use Rattle.step_spec.specs.Fields.{is_field, fits, passes, sound_of, sound_from}
-use Rattle.step_spec.specs.Frame.{begin, length_tag, type_tag, trailer_of, body_start, body_length, body_end, frame_length, kind, fields, accepted, step_read_of, verdict_of}
+use Rattle.step_spec.specs.Frame.{begin, length_tag, type_tag, trailer_of, body_start, body_length, body_end, frame_length, kind, fields, step_read_of}
 use Rattle.step_spec.specs.FrontLaws.{reads_on}
 use Rattle.step_spec.specs.Written.{plain_of, frame_of}
 use Rattle.step_spec.specs.RoundTrip.{judged_closed, judged_sound}

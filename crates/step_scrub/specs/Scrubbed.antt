@@ -1,5 +1,5 @@
 -- Which values are private, and what a scrubbed frame is.
-use Rattle.std.specs.Prelude.{ℕ, ◌+◌, Bool, true, false, ◌&&◌, ◌||◌, List, [], ◌∷◌, ◌++◌, eqb, length, take, drop, replicate}
+use Rattle.std.specs.Prelude.{ℕ, ◌+◌, Bool, true, ◌&&◌, ◌||◌, List, [], ◌∷◌, ◌++◌, eqb, length, take, drop, replicate}
 use Rattle.terms.specs.Paper.{Paper, answer, refusal, pick}
 use Rattle.step_spec.specs.Pieces.{SOH, equals, until_of, pieces}
 use Rattle.step_spec.specs.Fields.{is_field, tag_of, value_of}

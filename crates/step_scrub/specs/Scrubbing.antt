@@ -1,18 +1,18 @@
 -- What scrubbing promises: the length stays, the frame reads as before with the named values in
 -- spaces, again changes nothing, and frames that differ in named values alone scrub to
 -- the same bytes.
-use Rattle.std.specs.Prelude.{ℕ, ◌+◌, ◌-◌, ◌<◌, ◌≤◌, ◌≡◌, refl, Bool, true, false, List, [], ◌∷◌, ◌++◌, get_or}
+use Rattle.std.specs.Prelude.{ℕ, ◌<◌, ◌≤◌, ◌≡◌, refl, List, [], get_or}
 use Rattle.std.proofs.Common.{sym, ◌∙◌, arith}
 use Rattle.std.proofs.Math.Path.{ap}
 use Rattle.std.proofs.Math.ListN.{length, drop, length-append}
 use Rattle.std.proofs.Math.Seq.{drop_at}
-use Rattle.terms.specs.Paper.{Paper, answer, one_number}
+use Rattle.terms.specs.Paper.{one_number}
 use Rattle.step_spec.specs.Pieces.{pieces}
 use Rattle.step_spec.specs.Frame.{kind, fields, frame_length, step_read_of}
 use Rattle.step_spec.specs.Written.{frame_of}
 use Rattle.step_spec.specs.WriteLaws.{frame_over, frame_size}
 use Rattle.step_spec.specs.RoundTrip.{kind_of_frame, fields_of_frame, length_of_frame}
-use Rattle.step_spec.specs.Exactly.{Good, good, is_frame, frame_ends, Reads, paper_of, reads_exactly, exactly_reads}
+use Rattle.step_spec.specs.Exactly.{Good, good, is_frame, Reads, reads_exactly, exactly_reads}
 use Rattle.step_scrub.specs.Scrubbed.{paint_all, joined, painted, scrubbed_of}
 use Rattle.step_scrub.specs.ScrubLaws.{closed_fields, all_fields_lem, same_long}
 use Rattle.step_scrub.specs.PaintLaws.{painted_sound, painted_real, painted_twice, kept}

@@ -1,12 +1,12 @@
 -- Painting, a field at a time.
-use Rattle.std.specs.Prelude.{ℕ, zero, suc, ◌+◌, ◌-◌, ◌<◌, ◌≤◌, ◌≡◌, refl, Bool, ◌&&◌, eqb, ltb, get_or, drop, replicate}
+use Rattle.std.specs.Prelude.{ℕ, zero, suc, ◌+◌, ◌-◌, ◌<◌, ◌≤◌, ◌≡◌, refl, ◌&&◌, ltb, drop, replicate}
 use Rattle.std.proofs.Math.Path.{sym, ap}
-use Rattle.std.proofs.Common.{◌∙◌, arith, length-take, take-append-drop, take_all, drop_at, drop-cons, drop-drop, length-take-le}
+use Rattle.std.proofs.Common.{◌∙◌, arith, take-append-drop, take_all, drop_at, drop-cons, length-take-le}
 use Rattle.std.proofs.Math.Bool.{true, false}
 use mathlib.Core.List.{List, [], ◌∷◌, ◌++◌, append_assoc, append-nil}
 use Rattle.std.proofs.Math.Logic.{⊎_elim}
 use Rattle.std.proofs.Math.ListN.{length, take, length-append, length-drop, length-replicate}
-use Rattle.std.proofs.Math.Seq.{take_at, drop-append-add}
+use Rattle.std.proofs.Math.Seq.{take_at}
 use borrow.Author.Tests.{ltb-true, lt-ltb}
 use Rattle.terms.specs.Paper.{pick}
 use Rattle.terms.specs.Cases.{two, less, clash}

@@ -1,0 +1,22 @@
+-- `p002_broken`: each field is the number that the definition reads, so the tests are the same.
+-- Assumes nothing.
+use Rattle.broken.specs.Broken.{lowest_from}
+use borrow.Author.Rules.{rules}
+use Rattle.broken.proofs.p002_broken.Goals as goal
+
+pub returns : goal.returns
+unfolding lowest_from
+returns c =
+    rw (
+      c.unless.ensures,
+      c.unless-from1.ensures,
+      c.unless-from2.ensures,
+      c.unless-from3.ensures,
+      c.unless-from4.ensures,
+      c.all_hold.ensures,
+      c.u8_at-status.ensures,
+      c.u64_at-last.ensures,
+      c.u64_at-first.ensures,
+      c.u8_at-resend_type.ensures,
+      c.u16_at-channel_no.ensures,
+    )

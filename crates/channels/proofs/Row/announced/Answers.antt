@@ -1,0 +1,19 @@
+-- The ledger's own call, kept in index and row. Assumes nothing.
+use mathlib.Core.Path.{◌≡◌, ap, ap₂, ◌∙◌}
+use Rattle.ledger_spec.specs.Calls.{Announce, answer_to}
+use Rattle.ledger.specs.State.{book_of, next_in}
+use Rattle.channels.specs.Told.{told_as}
+use Rattle.channels.specs.Answered.{left_of}
+use borrow.Author.Rules.{rules}
+use Rattle.channels.proofs.Row.announced.Goals as goal
+
+pub returns : goal.returns
+unfolding book_of
+returns c =
+    let k = c in
+    let a = k.args in
+    let l = k.ledger-l.ensures in
+    let n = k.new.ensures in
+    c.left.ensures ∙ ap₂ (left_of a.self a.index a.turn)
+    (k.announce-t.ensures.1 ∙ (λ i. next_in (l i) (Announce (l i).channel.0 (n i).0)))
+    (c.noted_told.ensures ∙ ap told_as (k.announce-t.ensures.0 ∙ (λ i. answer_to (book_of (l i)) (Announce (l i).channel.0 (n i).0))))

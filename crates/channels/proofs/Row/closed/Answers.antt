@@ -1,0 +1,26 @@
+-- 13, or the place is free. Assumes nothing.
+use mathlib.Core.Path.{◌≡◌, sym, ◌∙◌}
+use mathlib.Core.Bool.{true, false}
+use borrow.Author.Tests.{not-true, not-false}
+use Rattle.ledger_spec.specs.State.{sound_of}
+use Rattle.host_words.specs.Words.{book_in}
+use Rattle.channels.specs.declared.Answered.{Answered}
+use Rattle.channels.specs.Answered.{blank, closed_of}
+use borrow.Author.Rules.{rules}
+use Rattle.channels.proofs.Row.closed.Goals as goal
+
+pub returns-then-not-sound : goal.returns-then-not-sound
+unfolding closed_of
+returns-then-not-sound c =
+    let s = c in
+    let a = s.args in
+    let e : sound_of (book_in a.self.words) ≡ false = sym s.sound.ensures ∙ c.if-not-sound.true in
+    c.refused.ensures ∙ sym (rw e)
+
+pub returns : goal.returns
+unfolding closed_of
+returns c =
+    let s = c in
+    let a = s.args in
+    let e : sound_of (book_in a.self.words) ≡ true = sym s.sound.ensures ∙ c.if-not-sound.false in
+    ◌∙◌ {A = Answered} (λ i. record { index = c.closed_at.ensures i; name = 0; row = blank; told = c.why.ensures i }) (sym (rw e))

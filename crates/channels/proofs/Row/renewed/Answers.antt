@@ -1,0 +1,17 @@
+-- The ledger's own call, kept in index and row. Assumes nothing.
+use mathlib.Core.Path.{◌≡◌, ap, ap₂, ◌∙◌}
+use Rattle.ledger_spec.specs.Calls.{Renew, answer_to}
+use Rattle.ledger.specs.State.{book_of, next_in}
+use Rattle.channels.specs.Told.{told_as}
+use Rattle.channels.specs.Answered.{left_of}
+use borrow.Author.Rules.{rules}
+use Rattle.channels.proofs.Row.renewed.Goals as goal
+
+pub returns : goal.returns
+returns c =
+    let k = c in
+    let a = k.args in
+    let l = k.ledger.ensures in
+    c.left.ensures ∙ ap₂ (left_of a.self a.index a.turn)
+    (k.renewed-t.ensures.1 ∙ (λ i. next_in (l i) Renew))
+    (c.noted_told.ensures ∙ ap told_as (k.renewed-t.ensures.0 ∙ (λ i. answer_to (book_of (l i)) Renew)))

@@ -1,0 +1,68 @@
+use Rattle.step_spec.specs.Pieces.{SOH, until_of}
+use Prim.Native.Nat.{ℕ, suc, ◌+◌, ◌<◌, ◌≤◌}
+use lib.Seq.{drop-drop}
+use lib.Dec.{lit<}
+use lib.ListN.{length, drop, length-drop}
+use mathlib.Core.Bool.{Bool}
+use mathlib.Core.List.{List}
+use mathlib.Core.Path.{◌≡◌, sym, ap, ◌∙◌}
+use native.Mathlib.Omega.{arith}
+use borrow.Author.Rules.{rules}
+use Rattle.step_frame.specs.declared.Fit.{Fit}
+use Rattle.step_frame.specs.Papers.{Fitting, FitSays}
+use Rattle.step_tags.specs.Laws.{fit_small}
+use Rattle.step_spec.specs.Fields.{tag_of, value_of}
+use Rattle.step_spec.specs.FieldLaws.{piece}
+use Rattle.step_spec.specs.Seen.{seen_none, set_room}
+use Rattle.step_spec.specs.Pass.{fine_from, pass_stops, pass_on, pass_no_field, pass_end, stands_row, stands_small, stands_new}
+use Rattle.step_frame.proofs.is_fine.Goals as goal
+
+fitting : (r : Fit) (at : ℕ) (t : List ℕ) (row next : ℕ) → r ≡ Fit.Row row next → FitSays r at t → Fitting at t row next
+fitting r at t row next i e = rw i at e
+
+-- what is left behind the field at hand
+next : (i : ℕ) (s : List ℕ) (row n : ℕ) → Fitting i (drop i s) row n → (i < n) × (n ≤ length s) × (drop (suc (until_of SOH (drop i s))) (drop i s) ≡ drop n s)
+next i s row n f =
+    let e : i + suc (until_of SOH (drop i s)) ≡ n = omega (arith, f.ends) in
+    (omega (arith, f.ends), omega (arith, f.ends, f.found, length-drop i s), drop-drop (suc (until_of SOH (drop i s))) i s ∙ rw e)
+
+pub loop-i-init : goal.loop-i-init
+loop-i-init c = let a = c.args in (search rules, lit< tt, ap (λ (l : List Bool). fine_from a.kind l a.fields.now) seen_none)
+
+pub returns-in-Bad : goal.returns-in-Bad
+returns-in-Bad c =
+    sym (pass_no_field _ _ (drop c.loop-i.i c.args.fields.now) (simp length-drop (omega arith)) (rw c.in-Bad.is at c.fit_at.ensures)) ∙ c.loop-i.invariant.2
+
+pub may_stand-requires : goal.may_stand-requires
+may_stand-requires c =
+    let t = drop c.loop-i.i c.args.fields.now in
+    omega (arith, (fitting _ _ _ _ _ c.in-Row.is c.fit_at.ensures).rows, fit_small (tag_of (piece t)) (value_of (piece t)))
+
+pub returns-then-not-may_stand : goal.returns-then-not-may_stand
+returns-then-not-may_stand c =
+    let f = fitting _ _ _ _ _ c.in-Row.is c.fit_at.ensures in
+    let h = rw (f.rows, c.rows_of-rows.ensures) at c.may_stand.ensures in
+    sym (pass_stops _ (drop c.loop-i.i c.args.fields.now) f.found f.is c.loop-i.seen (sym h ∙ c.if-not-may_stand.true)) ∙ c.loop-i.invariant.2
+
+pub with_row-seen-requires : goal.with_row-seen-requires
+with_row-seen-requires c =
+    let t = drop c.loop-i.i c.args.fields.now in
+    let f = fitting _ _ _ _ _ c.in-Row.is c.fit_at.ensures in
+    let h = sym (rw (f.rows, c.rows_of-rows.ensures) at c.may_stand.ensures) ∙ c.if-not-may_stand.false in
+    let r = f.rows ∙ stands_row _ t f.found f.is c.loop-i.seen h in
+    let l = stands_small _ t f.found f.is c.loop-i.seen h in
+    rw r (l, set_room 27 c.loop-i.seen _ l c.loop-i.invariant.1 (stands_new _ t f.found f.is c.loop-i.seen h))
+
+pub loop-i-preserved : goal.loop-i-preserved
+loop-i-preserved c =
+    let t = drop c.loop-i.i c.args.fields.now in
+    let f = fitting _ _ _ _ _ c.in-Row.is c.fit_at.ensures in
+    let n = next _ _ _ _ f in
+    let h = sym (rw (f.rows, c.rows_of-rows.ensures) at c.may_stand.ensures) ∙ c.if-not-may_stand.false in
+    let r = f.rows ∙ stands_row _ t f.found f.is c.loop-i.seen h in
+    let l = stands_small _ t f.found f.is c.loop-i.seen h in
+    rw (c.with_row-seen.ensures, r) (n.1, set_room 27 c.loop-i.seen _ l c.loop-i.invariant.1 (stands_new _ t f.found f.is c.loop-i.seen h), rw (← n.2) (sym (pass_on _ t f.found f.is c.loop-i.seen h) ∙ c.loop-i.invariant.2))
+
+pub returns : goal.returns
+returns c =
+    c.is_complete.ensures ∙ pass_end _ _ (drop c.loop-i.i c.args.fields.now) (simp length-drop (omega arith)) ∙ c.loop-i.invariant.2
