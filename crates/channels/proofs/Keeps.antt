@@ -7,7 +7,6 @@ use Prim.Native.Nat.{ℕ, zero, suc}
 use lib.Dec.{eqb, leb, ltb}
 use lib.ListN.{get_or, set}
 use borrow.Author.Tests.{eqb-true, ne_eqb}
-use Rattle.terms.specs.Paper.{refusal}
 use Rattle.ledger_spec.specs.State.{sound_of}
 use Rattle.ledger_spec.proofs.Tests.{pick_cases}
 use Rattle.ledger.specs.declared.Ledger.{Ledger}
@@ -21,7 +20,7 @@ use Rattle.channels.specs.declared.ChannelTold.{ChannelTold}
 use Rattle.channels.specs.declared.Answered.{Answered}
 use Rattle.channels.specs.Index.{open_at, index_sound}
 use Rattle.channels.specs.Answered.{row_fits, kept_of, refused_of, left_of, moved_of, taken_of, opened_of, closed_of, telling_of, served_of, answered_of}
-use Rattle.channels.specs.Serves.{no_row, row_at, turn_by, answered_by, stored_at, served_by}
+use Rattle.channels.specs.Serves.{no_row, turn_by, answered_by, stored_at, served_by}
 
 -- what stands at a place, put there again
 pub set_same : {X : Type 0} (xs : List X) (i : ℕ) (d : X) → set xs i (get_or xs i d) ≡ xs

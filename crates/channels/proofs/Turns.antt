@@ -1,11 +1,11 @@
 -- What the index's bits say: the trailing zeros of its digits are the first free place, and the
 -- first place with something missing counted round; and what a search among the names finds.
 -- Assumes nothing.
-use mathlib.Core.Path.{◌≡◌, refl, sym, ap, subst, ◌∙◌}
+use mathlib.Core.Path.{◌≡◌, sym, ap, subst, ◌∙◌}
 use mathlib.Core.Bool.{Bool, true, false, ◌&&◌, not}
 use mathlib.Core.List.{List}
 use Prim.Native.Nat.{ℕ, ◌+◌, ◌-◌, ◌*◌, ◌/◌, ◌%◌, ◌^◌, ◌≤◌, ◌<◌, min}
-use native.Mathlib.Nat.{mod-eq_of_lt, add-mod_left, add-mod_right, add_comm}
+use native.Mathlib.Nat.{mod-eq_of_lt, add-mod_left}
 use native.Mathlib.Decide.{dec_lt}
 use native.Mathlib.Omega.{arith}
 use lib.Count.{count_trailing_zeros}
@@ -16,7 +16,6 @@ use Rattle.tick_map.specs.Bits.{bit, is_set, run}
 use Rattle.tick_map.proofs.Digits.{bit_shr, bit_above, run_passed, run_stopped, trailing_passed, trailing_stopped}
 use Rattle.tick_map.proofs.Laws.{trailing_not, bit_low, bit_high, lt_of_shr}
 use Rattle.ledger_spec.proofs.Tests.{both, and_false}
-use Rattle.channels_spec.specs.Table.{least}
 use Rattle.channels_spec.proofs.Least.{least_scan, least_all, least_ext}
 use Rattle.channels.specs.declared.Index.{Index}
 use Rattle.channels.specs.declared.ChannelCall.{ChannelCall}

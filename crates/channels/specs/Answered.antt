@@ -1,6 +1,6 @@
 -- What a call leaves of the index, of the row that it is about and of the name beside that row, and
 -- what it tells.
-use Rattle.std.specs.Prelude.{Bool, true, false, ◌&&◌, not, List, [], ◌∷◌, ℕ, min, eqb, leb, ltb, replicate}
+use Rattle.std.specs.Prelude.{Bool, true, false, ◌&&◌, not, ℕ, min, eqb, leb, ltb, replicate}
 use Rattle.terms.specs.Paper.{Paper, answer, refusal, pick}
 use Rattle.tick_map.specs.Bits.{is_set}
 use Rattle.ledger_spec.specs.State.{Book, sound_of}

@@ -1,6 +1,6 @@
 -- What a call does to a table that is lent: the index, one row and the name beside it may be new,
 -- and stand where they stood.
-use Rattle.std.specs.Prelude.{◌≡◌, List, [], ℕ, get_or, set, replicate}
+use Rattle.std.specs.Prelude.{◌≡◌, [], ℕ, get_or, set, replicate}
 use Rattle.channels.specs.declared.Row.{Row}
 use Rattle.channels.specs.declared.Channels.{Channels}
 use Rattle.channels.specs.declared.ChannelCall.{ChannelCall}

@@ -4,7 +4,7 @@ use mathlib.Core.Bool.{Bool, true, false}
 use Prim.Native.Nat.{ℕ, ◌-◌, ◌/◌, ◌%◌, ◌^◌, ◌<◌, min}
 use native.Mathlib.Nat.{lt_of_le_of_lt}
 use native.Mathlib.Omega.{arith}
-use lib.Bits.{bit_or, bit_and, and_shr, and_step, and_le_l, or_lt}
+use lib.Bits.{bit_and, and_shr, and_step, and_le_l, or_lt}
 use lib.Dec.{eqb}
 use lib.Arith.{digits_mod}
 use lib.Pow.{pow-lt}

@@ -3,20 +3,17 @@
 use mathlib.Core.Path.{◌≡◌, refl, sym, ap, ap₂, subst, ◌∙◌}
 use mathlib.Core.Bool.{Bool, true, false, ◌&&◌, ◌||◌, not}
 use mathlib.Core.Logic.{◌⊎◌, inl, inr, ⊎_elim, ◌↔◌}
-use mathlib.Core.List.{List, [], ◌∷◌}
 use Prim.Native.Nat.{ℕ, zero, suc, ◌+◌, ◌%◌, ◌^◌, ◌≤◌, ◌<◌, max, min}
-use native.Mathlib.Nat.{lt_of_lt_of_le, two-pow-succ, mod-lt}
+use native.Mathlib.Nat.{two-pow-succ, mod-lt}
 use native.Mathlib.Omega.{arith}
-use borrow.Author.Tests.{eq-eqb, ne_eqb, eqb-true, eqb-false, lt-ltb, le-ltb, le-leb, lt-leb, leb-true, leb-false, ltb-true, ltb-false}
+use borrow.Author.Tests.{eq-eqb, ne_eqb, eqb-true, lt-ltb, le-leb, lt-leb, leb-true, ltb-true}
 use lib.Bits.{bit_or, or_lt}
 use lib.Dec.{eqb, leb, ltb}
-use lib.ListN.{get_or}
-use lib.Pow.{pow_mono}
 use Rattle.terms.specs.Cases.{clash, two, less, same}
 use Rattle.terms.specs.Paper.{Paper, answer, refusal, pick}
 use Rattle.tick_map.specs.Bits.{bit, is_set}
 use Rattle.tick_map.proofs.Digits.{bit_lt, bit_or_lem, bit_ext, bit_above, lt_of_clear}
-use Rattle.ledger_spec.specs.State.{Asked, nothing, range, Book, StateRules, sound_of}
+use Rattle.ledger_spec.specs.State.{Asked, nothing, range, Book, sound_of}
 use Rattle.ledger_spec.specs.Calls as ledger
 use Rattle.ledger_spec.specs.Calls.{is_pending, fresh}
 use Rattle.ledger_spec.proofs.Given as goal
@@ -26,7 +23,7 @@ use Rattle.ledger.specs.declared.Ledger.{Ledger}
 use Rattle.host_words.specs.Words.{book_in}
 use Rattle.host_words.specs.Told.{retold}
 use Rattle.host_ledger.specs.Words.{settled_row}
-use Rattle.channels_spec.specs.Table.{holds, misses, least}
+use Rattle.channels_spec.specs.Table.{holds, misses}
 use Rattle.channels_spec.specs.Calls.{Call, Open, Close, Request, To, Told, Renew, Tick, Announce, Reply, Between, told_of}
 use Rattle.channels_spec.proofs.Least.{least_low, least_is, least_none, least_all, least_at}
 use Rattle.channels.specs.declared.Channels.{Channels}
@@ -37,7 +34,7 @@ use Rattle.channels.specs.declared.ChannelCall.{ChannelCall}
 use Rattle.channels.specs.declared.ChannelTold.{ChannelTold}
 use Rattle.channels.specs.declared.Answered.{Answered}
 use Rattle.channels.specs.Index.{open_for, place_in, place_from, once_in, free_in, steps_in, turn_in, open_at, index_sound}
-use Rattle.channels.specs.Turn.{asked_or_turn, opening_turn, turn_of, once_of, turned_at}
+use Rattle.channels.specs.Turn.{asked_or_turn, turn_of, once_of, turned_at}
 use Rattle.channels.specs.Told.{told_as, named_paper, agree}
 use Rattle.channels.specs.Answered.{row_of, blank, opened_at, closed_at, row_fits, kept_of, refused_of, stored_of, left_of, plain, said_of, status_in, none_there, taken_of, opened_of, closed_of, requested_of, telling_of, served_of, answered_of}
 use Rattle.channels.specs.Serves.{row_at, turn_by, answered_by, Serves}
@@ -216,8 +213,8 @@ module _ (x : Channels) (i : ℕ) (once : Bool) where
 said_13 : (b : Book) (call : ledger.Call) → eqb (ledger.answer_to b call).number 13 ≡ not (sound_of b)
 unfolding ledger.answer_to
 said_13 b call = ⊎_elim
-    (λ y. ne_eqb _ 13 (λ e. (goal.given-13 b call).0 e (rules_facts b y)) ∙ sym (ap not y))
-    (λ n. eq-eqb _ 13 ((goal.given-13 b call).1 (λ r. clash (rules_test b r) n)) ∙ sym (ap not n))
+    (λ y. ne_eqb _ 13 (λ e. (goal.given_13 b call).0 e (rules_facts b y)) ∙ sym (ap not y))
+    (λ n. eq-eqb _ 13 ((goal.given_13 b call).1 (λ r. clash (rules_test b r) n)) ∙ sym (ap not n))
     (two (sound_of b))
 
 -- what is told stays, whether the next ledger is stored or not

@@ -1,40 +1,33 @@
 -- Request 3 of a lent table, each sentence by `Ran` and the theorem of `channels_spec`. Assumes
 -- nothing.
 use mathlib.Core.Path.{◌≡◌, refl, sym, ap, ap₂, subst, ◌∙◌}
-use mathlib.Core.Bool.{Bool, true, false, not}
-use mathlib.Core.Logic.{◌⊎◌, inl, inr, ⊎_elim, ◌↔◌}
+use mathlib.Core.Bool.{Bool, true, false}
+use mathlib.Core.Logic.{⊎_elim, ◌↔◌}
 use mathlib.Core.List.{List, [], ◌∷◌}
 use Prim.Native.Nat.{ℕ, ◌+◌, ◌%◌, ◌≤◌, ◌<◌}
 use native.Mathlib.Nat.{mod-lt}
 use native.Mathlib.Omega.{arith}
 use borrow.Author.Tests.{eq-eqb, ne_eqb}
-use lib.Dec.{eqb}
-use lib.ListN.{get_or}
-use Rattle.terms.specs.Cases.{clash, two, less, same}
-use Rattle.terms.specs.Paper.{Paper, answer, pick}
+use Rattle.terms.specs.Cases.{clash, two, less}
+use Rattle.terms.specs.Paper.{Paper, pick}
 use Rattle.tick_map.specs.Bits.{is_set}
-use Rattle.ledger_spec.specs.State.{Asked, nothing, range, Book, StateRules}
-use Rattle.ledger_spec.specs.Calls as ledger
+use Rattle.ledger_spec.specs.State.{nothing, range, Book}
 use Rattle.ledger_spec.specs.Calls.{is_pending, fresh}
-use Rattle.ledger_spec.specs.Trace as ledger-trace
 use Rattle.ledger_spec.specs.Words.{answered, value_at}
 use Rattle.ledger_spec.specs.Answers.{TickAnswers, AnnounceAnswers, ReplyAnswers, refused_reply, OnlyTop}
 use Rattle.ledger_spec.specs.Given.{StatusRight}
-use Rattle.ledger_spec.specs.Answers as ledger-answers
 use Rattle.ledger_spec.specs.Between.{BetweenAnswers}
 use Rattle.ledger_spec.specs.Demand3.{Demand3}
 use Rattle.ledger_spec.proofs.Tests.{false_of}
-use Rattle.host_words.specs.Words.{book_in}
 use Rattle.host_words.specs.Told.{Refuses}
-use Rattle.host_words.proofs.Back.{book_back}
-use Rattle.channels_spec.specs.Table.{Place, free, holds, Table, is_free, waits, pending_place, place_of, book_of, TableRules}
-use Rattle.channels_spec.specs.Calls.{Call, Open, Close, Request, To, Told, Renew, Said, Tick, Announce, Reply, Between, answer_to, next_of}
+use Rattle.channels_spec.specs.Table.{Place, free, holds, Table, waits, pending_place}
+use Rattle.channels_spec.specs.Calls.{Call, Open, Close, Request, To, Told, Renew, Tick, Announce, Reply, Between, answer_to, next_of}
 use Rattle.channels_spec.specs.Trace.{Calls, ◌▸◌, after, History, ◌▸◌⇒◌, trace, followed}
-use Rattle.channels_spec.specs.Words.{opened, since, own_history, Line, quiet, asks, line, pending_on, grants, grants_on}
+use Rattle.channels_spec.specs.Words.{opened, own_history, quiet, asks, line, pending_on, grants, grants_on}
 use Rattle.channels_spec.specs.Demand.{Misses, Requests, KeepsMissing}
 use Rattle.channels_spec.specs.Given.{OpenIn}
-use Rattle.channels_spec.proofs.Places.{its_place, not_free}
-use Rattle.channels_spec.proofs.Agree.{Holder, Agrees, agrees, quiet_line, never_quiet}
+use Rattle.channels_spec.proofs.Places.{its_place}
+use Rattle.channels_spec.proofs.Agree.{Holder, agrees, quiet_line, never_quiet}
 use Rattle.channels_spec.proofs.Demand.{held_demand, said_answers, given_request, whose_turn, one_pending, nothing_waits, new_session_told}
 use Rattle.channels_spec.proofs.Fair.{asked_within_32, last_asked}
 use Rattle.channels_spec.proofs.Given.{given_10_opening, given_22, given_21, given_0_opening, given_18, lowest_free, closing_frees, refused_keeps, new_session, never_13}
@@ -42,15 +35,14 @@ use Rattle.channels_seam.proofs.Table.{given_0_closing, tells}
 use Rattle.channels.specs.declared.Channels.{Channels}
 use Rattle.channels.specs.declared.ChannelCall.{ChannelCall}
 use Rattle.channels.specs.declared.ChannelTold.{ChannelTold}
-use Rattle.channels.specs.declared.Row.{Row}
-use Rattle.channels.specs.Answered.{row_of, blank}
+use Rattle.channels.specs.Answered.{row_of}
 use Rattle.channels.specs.Serves.{row_at, answered_by, Serves}
 use Rattle.channels.proofs.Keeps.{served_keeps}
 use Rattle.channels_seam.specs.Kept.{FreeAt, HeldAt, PlaceAt, Kept, call_of, seen, LentRan}
-use Rattle.channels_seam.specs.Lent.{is_used, name_at, book_at, LentChannel, LentPlace, LentAnswers, LentPending, LentTurn, LentThen, no_more, and_then, OtherPlaces, LentOpens, LentCloses, LentFree, LentOpening, LentClosing, LentNotOpen, LentRaises, LentSession}
+use Rattle.channels_seam.specs.Lent.{is_used, name_at, book_at, LentChannel, LentPlace, LentAnswers, LentPending, LentTurn, LentThen, no_more, and_then, OtherPlaces, LentOpens, LentCloses, LentOpening, LentClosing, LentNotOpen, LentRaises, LentSession}
 use Rattle.channels_seam.proofs.Puts.{waits_at}
 use Rattle.channels_seam.proofs.Turns.{held_at, row_book, pending_low}
-use Rattle.channels_seam.proofs.Ran.{lent_call, Ran, ran, ran_more, with_ran}
+use Rattle.channels_seam.proofs.Ran.{lent_call, ran, with_ran}
 
 -- ======== What stands at a place
 

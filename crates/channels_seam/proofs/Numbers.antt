@@ -1,13 +1,11 @@
 -- Every answer of a call on a table, sound or not, is one of the table's numbers. Assumes nothing.
-use mathlib.Core.Path.{◌≡◌, refl, sym, ap, ◌∙◌}
+use mathlib.Core.Path.{◌≡◌, refl, ap, ◌∙◌}
 use mathlib.Core.Bool.{Bool, true, false, ◌&&◌, not}
-use mathlib.Core.List.{List, [], ◌∷◌}
 use Prim.Native.Nat.{ℕ, ◌+◌}
 use lib.Dec.{eqb, leb, ltb}
-use Rattle.terms.specs.Paper.{Paper, answer, refusal, pick}
+use Rattle.terms.specs.Paper.{Paper, pick}
 use Rattle.ledger_spec.specs.State.{Book, largest, has, sound_of}
-use Rattle.ledger_spec.specs.Calls.{Question, Missing, Held, Between, Call, Tick, Announce, Request, Reply, Ask, Renew, tick_number, reply_status, is_pending, starts_at, elsewhere, own_number, checked_of, number_to, answer_to, fresh}
-use Rattle.ledger.specs.declared.Ledger.{Ledger}
+use Rattle.ledger_spec.specs.Calls.{Missing, Held, Between, Call, Tick, Announce, Request, Reply, Ask, Renew, tick_number, reply_status, is_pending, starts_at, elsewhere, own_number, checked_of, number_to, answer_to}
 use Rattle.host_words.specs.Words.{book_in}
 use Rattle.host_words.specs.Told.{retold}
 use Rattle.host_ledger.specs.Words.{settled_row}
@@ -19,9 +17,9 @@ use Rattle.channels.specs.declared.ChannelCall.{ChannelCall}
 use Rattle.channels.specs.declared.ChannelTold.{ChannelTold}
 use Rattle.channels.specs.declared.Answered.{Answered}
 use Rattle.channels.specs.Index.{open_at, index_sound}
-use Rattle.channels.specs.Told.{told_as, named_paper}
-use Rattle.channels.specs.Answered.{row_fits, refused_of, left_of, plain, said_of, status_in, none_there, taken_of, opened_of, closed_of, requested_of, telling_of, served_of, answered_of}
-use Rattle.channels.specs.Serves.{row_at, turn_by, answered_by, Serves}
+use Rattle.channels.specs.Told.{named_paper}
+use Rattle.channels.specs.Answered.{row_fits, refused_of, plain, said_of, status_in, none_there, taken_of, opened_of, closed_of, telling_of, served_of, answered_of}
+use Rattle.channels.specs.Serves.{Serves}
 use Rattle.channels_seam.specs.Numbers.{table_number}
 use Rattle.channels_seam.proofs.Broken.{left_told}
 

@@ -1,18 +1,16 @@
 -- One place changed, in the table and as it is kept. Assumes nothing.
-use mathlib.Core.Path.{◌≡◌, refl, sym, ap, ap₂, subst, ◌∙◌}
-use mathlib.Core.Bool.{Bool, true, false, not}
-use mathlib.Core.Logic.{◌⊎◌, inl, inr, ⊎_elim}
-use mathlib.Core.List.{List, [], ◌∷◌}
-use Prim.Native.Nat.{ℕ, zero, suc, ◌^◌, ◌≤◌, ◌<◌}
+use mathlib.Core.Path.{◌≡◌, sym, ap, subst, ◌∙◌}
+use mathlib.Core.Bool.{Bool, true, false}
+use mathlib.Core.Logic.{⊎_elim}
+use Prim.Native.Nat.{ℕ, ◌^◌, ◌≤◌, ◌<◌}
 use native.Mathlib.Omega.{arith}
 use borrow.Author.Tests.{eq-eqb, ne_eqb}
-use lib.Dec.{eqb, ltb}
-use lib.ListN.{length, get_or, set, length-set}
+use lib.Dec.{eqb}
+use lib.ListN.{get_or, set, length-set}
 use lib.Seq.{get_or-set_same, get_or-set_other}
-use Rattle.terms.specs.Cases.{clash, two, less, same}
+use Rattle.terms.specs.Cases.{two, same}
 use Rattle.terms.specs.Paper.{pick}
 use Rattle.tick_map.specs.Bits.{is_set}
-use Rattle.ledger_spec.specs.State.{Book}
 use Rattle.ledger_spec.proofs.Tests.{false_of}
 use Rattle.channels_spec.specs.Table.{Place, free, holds, Table, put, least, waits, pending_place, TableRules}
 use Rattle.channels_spec.proofs.Least.{least_ext, least_low, least_is, least_all}
@@ -21,7 +19,7 @@ use Rattle.channels.specs.declared.Channels.{Channels}
 use Rattle.channels.specs.declared.Index.{Index}
 use Rattle.channels.specs.declared.Row.{Row}
 use Rattle.channels.specs.Serves.{row_at, no_row}
-use Rattle.channels_seam.specs.Kept.{FreeAt, HeldAt, PlaceAt, Kept}
+use Rattle.channels_seam.specs.Kept.{PlaceAt, Kept}
 
 -- ---- what is pending
 

@@ -1,9 +1,8 @@
 -- Every row of calls on the empty table, by whatever meets their promise, is that row in
 -- `channels_spec`: the caller has seen its history, and finds its table. Assumes nothing.
 use mathlib.Core.Path.{◌≡◌, refl, sym, ap, ap₂, subst, ◌∙◌}
-use mathlib.Core.Bool.{true, false}
-use mathlib.Core.List.{List, [], ◌∷◌}
-use Prim.Native.Nat.{ℕ, zero, suc, ◌^◌, ◌<◌}
+use mathlib.Core.Bool.{false}
+use Prim.Native.Nat.{ℕ, zero, suc, ◌<◌}
 use native.Mathlib.Nat.{le_of_suc-le-suc, not-suc-le-zero}
 use native.Mathlib.Omega.{arith}
 use lib.Dec.{eqb}
@@ -13,8 +12,8 @@ use Rattle.terms.specs.Paper.{Paper}
 use Rattle.tick_map.specs.Bits.{is_set}
 use Rattle.tick_map.proofs.Digits.{bit_above}
 use Rattle.channels_spec.specs.Table.{Table, empty, waits, pending_place}
-use Rattle.channels_spec.specs.Calls.{Call, answer_to, next_of}
-use Rattle.channels_spec.specs.Trace.{Calls, none, ◌▸◌, after, History, start, ◌▸◌⇒◌, trace}
+use Rattle.channels_spec.specs.Calls.{answer_to, next_of}
+use Rattle.channels_spec.specs.Trace.{Calls, none, ◌▸◌, after, History, ◌▸◌⇒◌, trace}
 use Rattle.channels_spec.proofs.Least.{least_all}
 use Rattle.channels_spec.proofs.Rules.{empty_rules}
 use Rattle.channels.specs.declared.ChannelCall.{ChannelCall}
@@ -24,7 +23,7 @@ use Rattle.channels.specs.declared.Row.{Row}
 use Rattle.channels.specs.Answered.{blank}
 use Rattle.channels.specs.Serves.{no_row, empty_channels, Serves}
 use Rattle.channels_seam.specs.Kept.{Kept, call_of, seen, LentRan, opening, one_more}
-use Rattle.channels_seam.proofs.Step.{Done, call_done}
+use Rattle.channels_seam.proofs.Step.{call_done}
 
 none_set : (i : ℕ) → is_set 0 i ≡ false
 none_set i = ap (λ (d : ℕ). eqb d 1) (bit_above 0 i (pow_pos 0) (omega arith))

@@ -1,14 +1,13 @@
 -- Where each channel stands, and the place last asked, are told from the history alone: of the
 -- table of `channels_spec` by induction over its calls, and so of a lent table. Assumes nothing.
 use mathlib.Core.Path.{◌≡◌, refl, sym, ap, subst, ◌∙◌}
-use mathlib.Core.Bool.{Bool, true, false, ◌&&◌}
-use mathlib.Core.Logic.{◌⊎◌, inl, inr, ⊎_elim}
-use Prim.Native.Nat.{ℕ, ◌<◌}
+use mathlib.Core.Bool.{Bool, true, false}
+use mathlib.Core.Logic.{⊎_elim}
+use Prim.Native.Nat.{ℕ}
 use lib.Dec.{eqb}
 use borrow.Author.Tests.{eq-eqb, ne_eqb, eqb-true}
 use Rattle.terms.specs.Cases.{clash, two}
-use Rattle.terms.specs.Paper.{Paper, refusal, pick}
-use Rattle.ledger_spec.specs.State.{Book}
+use Rattle.terms.specs.Paper.{refusal, pick}
 use Rattle.ledger_spec.specs.Calls.{fresh}
 use Rattle.ledger_spec.specs.Words.{value_at, answered, one}
 use Rattle.ledger_spec.proofs.Tests.{pick_true, pick_false}
@@ -16,12 +15,12 @@ use Rattle.channels_spec.specs.Table.{Place, free, holds, Table, put, least, is_
 use Rattle.channels_spec.specs.Calls.{Call, Open, Close, Request, To, Told, Renew, opening_number, answer_to, next_of}
 use Rattle.channels_spec.specs.Trace.{Calls, none, ◌▸◌, after, History, ◌▸◌⇒◌, trace}
 use Rattle.channels_spec.proofs.Least.{least_ext}
-use Rattle.channels_spec.proofs.Places.{Here, open_here, its_place}
+use Rattle.channels_spec.proofs.Places.{open_here, its_place}
 use Rattle.channels_spec.proofs.Views.{Opening, fine_0, wide_10, twice_22, full_21, opening}
 use Rattle.channels_spec.proofs.Rules.{reached_rules}
 use Rattle.channels_spec.proofs.Fair.{last_asked}
 use Rattle.channels.specs.declared.Channels.{Channels}
-use Rattle.channels_seam.specs.Kept.{PlaceAt, Kept, LentRan}
+use Rattle.channels_seam.specs.Kept.{PlaceAt, LentRan}
 use Rattle.channels_seam.specs.Table.{SameHolder, both_free, both_hold}
 use Rattle.channels_seam.specs.Seats.{Seat, nobody, seated, is_empty, has_seat, seat, last_place, SeatAt, LentSeats}
 use Rattle.channels_seam.proofs.Table.{places_stay}

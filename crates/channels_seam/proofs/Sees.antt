@@ -1,15 +1,14 @@
 -- What the caller sees of a call's numbers is the call's paper. Assumes nothing.
-use mathlib.Core.Path.{◌≡◌, refl, sym, ap, ap₂, ◌∙◌}
-use mathlib.Core.Bool.{Bool, true, false}
+use mathlib.Core.Path.{◌≡◌, refl, ap, ap₂, ◌∙◌}
 use mathlib.Core.Logic.{⊎_elim}
-use mathlib.Core.List.{List, [], ◌∷◌}
+use mathlib.Core.List.{[], ◌∷◌}
 use Prim.Native.Nat.{ℕ, ◌+◌, ◌%◌, ◌^◌, ◌<◌}
 use native.Mathlib.Nat.{lt_of_lt_of_le, lt_of_le_of_lt, mod-le}
 use lib.Dec.{eqb}
 use lib.ListN.{get_or}
 use lib.Pow.{pow_mono, ones_sub-lt}
 use Rattle.terms.specs.Cases.{two}
-use Rattle.terms.specs.Paper.{Paper, answer, refusal, pick}
+use Rattle.terms.specs.Paper.{Paper, answer, refusal}
 use Rattle.tick_map.specs.Bits.{bits_in, map_of}
 use Rattle.tick_map.specs.Ring.{rotated, laid}
 use Rattle.tick_map.proofs.Ring.{rotated_laid}
@@ -20,10 +19,9 @@ use Rattle.ledger_spec.proofs.Steps.{reach_near}
 use Rattle.ledger.proofs.Seam.{laid_of}
 use Rattle.host_words.specs.Told.{retold}
 use Rattle.host_ledger.specs.Words.{settled_row}
-use Rattle.host_ledger.specs.Called.{sets_in, settled_by}
-use Rattle.channels_spec.specs.Calls.{Said, Tick, Announce, Reply, Between, Call, Request, To, Told, called, pending_told, told_of, unopened}
+use Rattle.host_ledger.specs.Called.{sets_in}
+use Rattle.channels_spec.specs.Calls.{Said, Tick, Announce, Reply, Between, Request, To, Told, called, pending_told, told_of, unopened}
 use Rattle.channels.specs.Told.{padded, told_as, named_paper}
-use Rattle.channels.specs.Answered.{plain}
 use Rattle.channels_seam.specs.Kept.{seen}
 
 -- a reply's sets are told as nine words

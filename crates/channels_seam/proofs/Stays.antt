@@ -1,15 +1,14 @@
 -- What a call on a lent table leaves, by `Ran` and the theorems of `channels_spec`. Assumes
 -- nothing.
-use mathlib.Core.Path.{◌≡◌, refl, sym, ap, ap₂, subst, ◌∙◌}
-use mathlib.Core.Bool.{Bool, true, false, ◌&&◌}
+use mathlib.Core.Path.{◌≡◌, sym, ap, ap₂, subst, ◌∙◌}
+use mathlib.Core.Bool.{Bool, true, ◌&&◌}
 use Prim.Native.Nat.{ℕ, ◌<◌}
 use Rattle.terms.specs.Paper.{Paper}
 use Rattle.tick_map.specs.Bits.{is_set}
 use Rattle.ledger_spec.specs.State.{Book, sound_of}
-use Rattle.ledger_spec.specs.Words.{value_at, answered}
 use Rattle.ledger_spec.proofs.Rules.{rules_test}
-use Rattle.channels_spec.specs.Table.{Place, free, holds, Table}
-use Rattle.channels_spec.specs.Calls.{Call, Request, Renew, answer_to, next_of}
+use Rattle.channels_spec.specs.Table.{Place, Table}
+use Rattle.channels_spec.specs.Calls.{Renew, answer_to, next_of}
 use Rattle.channels_spec.specs.Trace.{Calls, after, History, ◌▸◌⇒◌, trace}
 use Rattle.channels_spec.specs.Words.{granted}
 use Rattle.channels_spec.specs.Demand.{SessionTold}
@@ -30,7 +29,7 @@ use Rattle.channels_seam.specs.Stays.{LentStays, LentLast, LentRules}
 use Rattle.channels_seam.proofs.Turns.{index_sound_lem, row_fits_lem}
 use Rattle.channels_seam.proofs.Ran.{with_ran}
 use Rattle.channels_seam.proofs.Broken.{index_rules, row_rules}
-use Rattle.channels_seam.proofs.Lent.{Standing, standing, is_free_holds, free_at, book_is, one_call, lent_turn}
+use Rattle.channels_seam.proofs.Lent.{standing, is_free_holds, free_at, book_is, one_call, lent_turn}
 
 -- ======== The rules
 

@@ -3,38 +3,36 @@
 use mathlib.Core.Path.{◌≡◌, refl, sym, ap, ap₂, subst, ◌∙◌, fun_ext}
 use mathlib.Core.Bool.{Bool, true, false, ◌&&◌, not}
 use mathlib.Core.Logic.{◌⊎◌, inl, inr, ⊎_elim}
-use mathlib.Core.List.{List, [], ◌∷◌}
+use mathlib.Core.List.{[], ◌∷◌}
 use Prim.Native.Nat.{ℕ, ◌≤◌, ◌<◌, min}
 use native.Mathlib.Omega.{arith}
-use borrow.Author.Tests.{eq-eqb, ne_eqb, eqb-true, lt-ltb, le-ltb, le-leb, lt-leb, ltb-true, ltb-false}
+use borrow.Author.Tests.{eq-eqb, ne_eqb, lt-ltb, le-ltb, le-leb, lt-leb, ltb-true, ltb-false}
 use lib.Dec.{eqb, leb, ltb}
 use lib.ListN.{get_or, set}
 use Rattle.terms.specs.Cases.{clash, two, less, same}
 use Rattle.terms.specs.Paper.{Paper, answer, refusal, pick}
 use Rattle.tick_map.specs.Bits.{is_set}
-use Rattle.ledger_spec.specs.State.{nothing, Book, StateRules, sound_of}
+use Rattle.ledger_spec.specs.State.{Book, StateRules, sound_of}
 use Rattle.ledger_spec.specs.Calls as ledger
 use Rattle.ledger_spec.specs.Calls.{is_pending, fresh}
 use Rattle.ledger_spec.specs.Words.{answered}
 use Rattle.ledger_spec.proofs.Answers.{renew_answer}
-use Rattle.ledger_spec.proofs.Given as goal
 use Rattle.ledger_spec.proofs.Numbers.{checked_test}
 use Rattle.ledger_spec.proofs.Rules.{rules_test}
 use Rattle.ledger_spec.proofs.Tests.{false_of, pick_true, pick_false}
 use Rattle.ledger_spec.proofs.Demand3.{nothing_pending}
-use Rattle.ledger_spec.proofs.Steps.{Step, step}
+use Rattle.ledger_spec.proofs.Steps.{step}
 use Rattle.ledger.specs.declared.Ledger.{Ledger}
 use Rattle.ledger.specs.State.{ledger_of, next_in}
 use Rattle.ledger.specs.State as ledger-state
 use Rattle.ledger.proofs.Seam.{book_of_lem, topped_of, next_keeps}
 use Rattle.host_words.specs.Words.{ledger_in, book_in}
-use Rattle.host_words.specs.Calls.{call_told}
 use Rattle.host_words.proofs.Back.{book_words}
 use Rattle.channels_spec.specs.Table.{Place, free, holds, Table, put, misses, waits, place_of, free_place, pending_place, steps, turn, is_open, book_of, TableRules}
 use Rattle.channels_spec.specs.Table as table
-use Rattle.channels_spec.specs.Calls.{Call, Open, Close, Request, To, Told, Renew, Said, Tick, Announce, Reply, Between, called, told_of, opening_number, request_number, asked, granted, renewed_place, renewed, unopened, answer_to, next_of}
-use Rattle.channels_spec.proofs.Places.{Here, open_here, put_here, put_else, put_same, rules_last}
-use Rattle.channels_spec.proofs.Views.{Opening, fine_0, wide_10, twice_22, full_21, opening, free_there, none_waits, TurnAt, turn_at}
+use Rattle.channels_spec.specs.Calls.{Call, Open, Close, Request, To, Told, Renew, Said, Tick, Announce, Reply, Between, called, told_of, opening_number, request_number, asked, granted, renewed_place, renewed, answer_to, next_of}
+use Rattle.channels_spec.proofs.Places.{Here, open_here, put_here, put_else, rules_last}
+use Rattle.channels_spec.proofs.Views.{Opening, fine_0, wide_10, twice_22, full_21, opening, free_there, none_waits, turn_at}
 use Rattle.channels_spec.proofs.Rules.{rules_kept, renewed_rules}
 use Rattle.channels_spec.proofs.Given.{refused_keeps, new_session}
 use Rattle.channels.specs.declared.Channels.{Channels}
@@ -44,7 +42,7 @@ use Rattle.channels.specs.declared.Turn.{Turn}
 use Rattle.channels.specs.declared.ChannelCall.{ChannelCall}
 use Rattle.channels.specs.declared.ChannelTold.{ChannelTold}
 use Rattle.channels.specs.declared.Answered.{Answered}
-use Rattle.channels.specs.Index.{with_bit, place_in, free_in, turn_in, open_at, index_sound}
+use Rattle.channels.specs.Index.{place_in, turn_in, open_at}
 use Rattle.channels.specs.Turn.{asked_or_turn, opening_turn, turn_of, turned_at}
 use Rattle.channels.specs.Told.{told_as, named_paper, index_at}
 use Rattle.channels.specs.Answered.{row_of, blank, row_fits, kept_of, refused_of, stored_of, left_of, plain, said_of, status_in, opened_at, closed_at, last_at, moved_of, taken_of, opened_of, closed_of, requested_of, telling_of, served_of, answered_of}
@@ -52,8 +50,8 @@ use Rattle.channels.proofs.Keeps.{set_same}
 use Rattle.channels.specs.Serves.{row_at, no_row, turn_by, answered_by, stored_at, served_by}
 use Rattle.channels_seam.specs.Kept.{FreeAt, HeldAt, PlaceAt, Kept, call_of, seen}
 use Rattle.channels_seam.proofs.Bits.{with_here, with_else, with_lt}
-use Rattle.channels_seam.proofs.Turns.{place_is, free_is, steps_are, pending_low, index_sound_lem, once_is, turn_is, no_turn, held_at, row_book, row_fits_lem}
-use Rattle.channels_seam.proofs.Puts.{waits_one, waits_at, pending_put, row_here, name_here, kept_put}
+use Rattle.channels_seam.proofs.Turns.{place_is, free_is, pending_low, index_sound_lem, once_is, turn_is, no_turn, held_at, row_book, row_fits_lem}
+use Rattle.channels_seam.proofs.Puts.{waits_at, pending_put, row_here, name_here, kept_put}
 use Rattle.channels_seam.proofs.Sees.{form_of, form_number, sees_unopened, sees_said, sees_request, sees_told}
 
 -- what a call comes to

@@ -1,20 +1,18 @@
 -- A closing is answered 0 exactly for an open channel; a telling call tells what the history says;
 -- and no call but an opening or a closing moves a channel. Assumes nothing.
-use mathlib.Core.Path.{◌≡◌, refl, sym, ap, ap₂, subst, ◌∙◌}
+use mathlib.Core.Path.{◌≡◌, refl, sym, ap, subst, ◌∙◌}
 use mathlib.Core.Bool.{Bool, true, false}
-use mathlib.Core.Logic.{◌⊎◌, inl, inr, ⊎_elim, ◌↔◌}
-use mathlib.Core.List.{List, [], ◌∷◌}
-use Prim.Native.Nat.{ℕ, ◌<◌}
-use native.Mathlib.Omega.{arith}
+use mathlib.Core.Logic.{⊎_elim, ◌↔◌}
+use mathlib.Core.List.{[], ◌∷◌}
+use Prim.Native.Nat.{ℕ}
 use lib.Dec.{eqb}
 use borrow.Author.Tests.{eq-eqb}
 use Rattle.terms.specs.Cases.{clash, two, same}
 use Rattle.terms.specs.Paper.{Paper, answer, refusal, pick}
-use Rattle.ledger_spec.specs.State.{Asked, Book}
+use Rattle.ledger_spec.specs.State.{Book}
 use Rattle.ledger_spec.specs.Calls as ledger
 use Rattle.ledger_spec.specs.Calls.{Question, Ask, Missing, Held, missing_count, held_count, count_of}
-use Rattle.ledger_spec.specs.Words.{answered, value_at, floor_of, known_top, count, missing, held}
-use Rattle.ledger_spec.specs.Demand3.{Demand3}
+use Rattle.ledger_spec.specs.Words.{value_at, floor_of, known_top}
 use Rattle.ledger_spec.proofs.Steps.{step}
 use Rattle.ledger_spec.proofs.Tests.{pick_cases, false_of}
 use Rattle.channels_spec.specs.Table.{Place, free, holds, Table, put, book_in, place_of, turn, is_open, book_of, TableRules}
@@ -25,7 +23,7 @@ use Rattle.channels_spec.specs.Given.{OpenIn}
 use Rattle.channels_seam.specs.Table.{told_from, Tells, SameHolder, both_free, both_hold, TakesPlace, PlacesStay}
 use Rattle.channels_spec.proofs.Places.{put_here, put_else, Here, open_here, its_open}
 use Rattle.channels_spec.proofs.Views.{TurnAt, turn_at}
-use Rattle.channels_spec.proofs.Agree.{Holder, agrees}
+use Rattle.channels_spec.proofs.Agree.{agrees}
 use Rattle.channels_spec.proofs.Demand.{each_channel, one_pending}
 use Rattle.channels_spec.proofs.Fair.{went}
 

@@ -3,23 +3,23 @@
 use mathlib.Core.Path.{◌≡◌, refl, sym, ap, ap₂, subst, ◌∙◌}
 use mathlib.Core.Bool.{Bool, true, false, ◌&&◌, ◌||◌, not}
 use mathlib.Core.Logic.{⊎_elim}
-use Prim.Native.Nat.{ℕ, ◌+◌, ◌%◌, ◌^◌, ◌≤◌, ◌<◌, max, min}
+use Prim.Native.Nat.{ℕ, ◌+◌, ◌%◌, ◌≤◌, ◌<◌, max}
 use native.Mathlib.Nat.{mod-lt}
 use native.Mathlib.Omega.{arith}
-use borrow.Author.Tests.{eq-eqb, ne_eqb, lt-ltb, le-leb, lt-leb, eqb-true, eqb-false}
+use borrow.Author.Tests.{eq-eqb, ne_eqb, lt-ltb, le-leb, lt-leb, eqb-true}
 use lib.Bits.{bit_or, or_lt}
-use lib.Dec.{eqb, leb, ltb}
+use lib.Dec.{eqb, leb}
 use lib.ListN.{get_or}
 use Rattle.terms.specs.Cases.{clash, two, less}
 use Rattle.terms.specs.Paper.{pick}
 use Rattle.tick_map.specs.Bits.{bit, is_set}
 use Rattle.tick_map.proofs.Digits.{bit_lt, bit_or_lem, bit_ext}
-use Rattle.ledger_spec.specs.State.{Book, StateRules}
+use Rattle.ledger_spec.specs.State.{Book}
 use Rattle.ledger_spec.specs.Calls.{is_pending}
 use Rattle.ledger_spec.proofs.Tests.{and_false, and_true, false_of, zero_digit}
 use Rattle.host_words.specs.Words.{book_in}
 use Rattle.host_words.proofs.Back.{book_back}
-use Rattle.channels_spec.specs.Table.{Place, free, holds, Table, least, is_free, is_for, misses, waits, place_of, free_place, pending_place, counted, steps, turn, TableRules}
+use Rattle.channels_spec.specs.Table.{Place, free, holds, Table, least, is_free, is_for, misses, waits, place_of, free_place, pending_place, counted, steps, turn}
 use Rattle.channels_spec.proofs.Least.{least_ext, least_all, least_top}
 use Rattle.channels_spec.proofs.Places.{its_place}
 use Rattle.channels.specs.declared.Channels.{Channels}
@@ -28,9 +28,9 @@ use Rattle.channels.specs.declared.Row.{Row}
 use Rattle.channels.specs.Index.{open_for, place_in, place_from, once_in, free_in, steps_in, turn_in, open_at, index_sound}
 use Rattle.channels.specs.Told.{agree}
 use Rattle.channels.specs.Turn.{once_of, turned_at}
-use Rattle.channels.specs.Answered.{row_of, row_fits}
+use Rattle.channels.specs.Answered.{row_fits}
 use Rattle.channels.specs.Serves.{row_at}
-use Rattle.channels_seam.specs.Kept.{FreeAt, HeldAt, PlaceAt, Kept}
+use Rattle.channels_seam.specs.Kept.{HeldAt, PlaceAt, Kept}
 use Rattle.channels_seam.proofs.Puts.{waits_one, waits_at}
 
 module _ (x : Channels) (t : Table) (k : Kept x t) where

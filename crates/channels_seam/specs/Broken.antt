@@ -3,7 +3,7 @@
 -- proofs/Broken.antt proves `given_13`, both ways. No definition of the promise stands here.
 use Rattle.std.specs.Prelude.{◌≡◌, true, false, ◌⊎◌, ◌↔◌, ℕ, ◌+◌, ◌%◌, ◌^◌, ◌<◌}
 use Rattle.tick_map.specs.Bits.{is_set}
-use Rattle.ledger_spec.specs.State.{Asked, range, Book, StateRules}
+use Rattle.ledger_spec.specs.State.{range, Book, StateRules}
 use Rattle.channels_spec.specs.Calls.{Call, Open, Close, Request, To, Told, Renew}
 use Rattle.channels.specs.declared.Channels.{Channels}
 use Rattle.channels.specs.declared.Index.{Index}

@@ -1,6 +1,6 @@
 -- A table as the code keeps it, names, index and rows, that stands for a table of `channels_spec`;
 -- and what a caller sees of a call on it.
-use Rattle.std.specs.Prelude.{◌≡◌, Bool, true, false, List, [], ◌∷◌, ℕ, ◌^◌, ◌<◌, min, eqb, length, get_or}
+use Rattle.std.specs.Prelude.{◌≡◌, true, false, List, [], ◌∷◌, ℕ, ◌^◌, ◌<◌, eqb, length, get_or}
 use Rattle.terms.specs.Paper.{Paper, answer, pick}
 use Rattle.tick_map.specs.Bits.{is_set}
 use Rattle.ledger_spec.specs.State.{Book}

@@ -14,9 +14,9 @@ use Rattle.ledger_spec.specs.Answers as ledger-answers
 use Rattle.ledger_spec.specs.Between.{BetweenAnswers}
 use Rattle.ledger_spec.specs.Demand3.{Demand3}
 use Rattle.host_words.specs.Words.{book_in}
-use Rattle.channels_spec.specs.Calls.{Call, Open, To, Told, Tick, Announce, Reply, Between}
+use Rattle.channels_spec.specs.Calls.{Call, To, Told, Tick, Announce, Reply, Between}
 use Rattle.channels_spec.specs.Trace.{History, ◌▸◌⇒◌}
-use Rattle.channels_spec.specs.Words.{opened, since, own_history, Line, quiet, asks, line, pending_on}
+use Rattle.channels_spec.specs.Words.{opened, since, own_history, quiet, asks, line, pending_on}
 use Rattle.channels_spec.specs.Demand.{Misses}
 use Rattle.channels_spec.specs.Given.{Names}
 use Rattle.channels_seam.specs.Table.{told_from}

@@ -6,7 +6,7 @@ use Rattle.terms.specs.Paper.{pick}
 use Rattle.tick_map.specs.Bits.{is_set}
 use Rattle.ledger_spec.specs.Words.{value_at, answered}
 use Rattle.channels_spec.specs.Table.{least}
-use Rattle.channels_spec.specs.Calls.{Call, Open, Close, Request, To, Told, Renew}
+use Rattle.channels_spec.specs.Calls.{Open, Close, Request, To, Told, Renew}
 use Rattle.channels_spec.specs.Trace.{History, start, ◌▸◌⇒◌}
 use Rattle.channels.specs.declared.Channels.{Channels}
 use Rattle.channels_seam.specs.Lent.{is_used, name_at}

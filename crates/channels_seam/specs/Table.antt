@@ -1,7 +1,7 @@
 -- Request 3, what a call on the table of `channels_spec` tells and leaves: the values of a telling
 -- call, from the history alone, and that no call but an opening or a closing moves a channel from
 -- its place. proofs/Table.antt proves both, and when a closing is answered 0.
-use Rattle.std.specs.Prelude.{◌≡◌, true, false, List, [], ◌∷◌, ℕ}
+use Rattle.std.specs.Prelude.{◌≡◌, true, false, List, ◌∷◌, ℕ}
 use Rattle.terms.specs.Paper.{Paper, answer, refusal}
 use Rattle.ledger_spec.specs.State.{Asked, Book}
 use Rattle.ledger_spec.specs.Trace as ledger-trace

@@ -5,26 +5,25 @@ use mathlib.Core.Bool.{Bool, true, false, ◌&&◌, not}
 use mathlib.Core.Logic.{◌⊎◌, inl, inr, ⊎_elim}
 use mathlib.Core.List.{[], ◌∷◌}
 use Prim.Native.Nat.{ℕ, ◌≤◌, ◌<◌}
-use native.Mathlib.Omega.{arith}
-use lib.Dec.{eqb, ltb}
-use borrow.Author.Tests.{eq-eqb, ne_eqb, eqb-true, eqb-false, ltb-true}
+use lib.Dec.{eqb}
+use borrow.Author.Tests.{eq-eqb, ne_eqb, eqb-true, eqb-false}
 use Rattle.terms.specs.Cases.{clash, two, same}
 use Rattle.terms.specs.Paper.{Paper, answer, refusal, pick}
-use Rattle.ledger_spec.specs.State.{Asked, nothing, range, Book, or_else, StateRules}
+use Rattle.ledger_spec.specs.State.{Asked, nothing, range, Book, or_else}
 use Rattle.ledger_spec.specs.Calls as ledger
 use Rattle.ledger_spec.specs.Calls.{is_pending, fresh}
-use Rattle.ledger_spec.specs.Given.{Given0, FineReply}
+use Rattle.ledger_spec.specs.Given.{FineReply}
 use Rattle.ledger_spec.specs.Trace as ledger-trace
 use Rattle.ledger_spec.specs.Words.{answered, value_at, still_pending}
 use Rattle.ledger_spec.proofs.Given.{given_0}
 use Rattle.ledger_spec.proofs.Tests.{and_false, pick_cases}
 use Rattle.ledger_spec.proofs.Steps.{Step, step}
 use Rattle.ledger_spec.proofs.Answers.{new_session}
-use Rattle.channels_spec.specs.Table.{Place, free, holds, Table, empty, put, waits, book_in, place_of, free_place, pending_place, turn, is_open, book_of, TableRules}
-use Rattle.channels_spec.specs.Calls.{Said, Tick, Announce, Reply, Between, Call, Open, Close, Request, To, Told, Renew, called, opening_number, request_number, asking, asked, granted, unopened, renewed_place, renewed, answer_to, next_of}
+use Rattle.channels_spec.specs.Table.{free, holds, Table, empty, put, waits, book_in, place_of, free_place, pending_place, turn, is_open, book_of, TableRules}
+use Rattle.channels_spec.specs.Calls.{Said, Tick, Announce, Reply, Between, Call, Open, Close, Request, To, Told, Renew, called, opening_number, request_number, asked, granted, unopened, renewed_place, renewed, answer_to, next_of}
 use Rattle.channels_spec.specs.Trace.{Calls, none, ◌▸◌, after, History, start, ◌▸◌⇒◌, trace}
-use Rattle.channels_spec.specs.Words.{opened, granted_to, since, Line, quiet, asks, replied, asks_for, line, pending_on}
-use Rattle.channels_spec.proofs.Places.{After, here, else, after_put, put_here, put_else, one_book, not_free, Here, open_here, its_open, its_place}
+use Rattle.channels_spec.specs.Words.{opened, since, Line, quiet, asks, replied, asks_for, line, pending_on}
+use Rattle.channels_spec.proofs.Places.{After, here, else, after_put, put_here, put_else, one_book, not_free, Here, open_here, its_open}
 use Rattle.channels_spec.proofs.Views.{Opening, fine_0, wide_10, twice_22, full_21, opening, free_there, Asking, busy_14, whole_15, turns, asking_view, none_waits, TurnAt, turn_at}
 use Rattle.channels_spec.proofs.Rules.{empty_rules, Before, before, renewed_rules, rules_kept}
 

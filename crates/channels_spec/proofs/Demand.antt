@@ -1,33 +1,33 @@
 -- Request 3, proved for every row of calls on an empty table: each channel's ledger, what is
 -- pending, and when a request is given. Assumes nothing.
 use mathlib.Core.Path.{◌≡◌, refl, sym, ap, subst, ◌∙◌}
-use mathlib.Core.Bool.{Bool, true, false, ◌&&◌, not}
-use mathlib.Core.Logic.{◌⊎◌, inl, inr, ⊎_elim}
-use mathlib.Core.List.{List, [], ◌∷◌}
+use mathlib.Core.Bool.{true, false, not}
+use mathlib.Core.Logic.{inl, inr, ⊎_elim}
+use mathlib.Core.List.{[], ◌∷◌}
 use Prim.Native.Nat.{ℕ, ◌+◌, ◌-◌, ◌%◌, ◌≤◌, ◌<◌}
 use native.Mathlib.Nat.{mod-lt, mod-eq_of_lt, mod-add-mod, add-mod-mod, add-mod_right, zero-add}
 use native.Mathlib.Omega.{arith}
-use lib.Dec.{eqb, leb, ltb}
-use borrow.Author.Tests.{eq-eqb, ne_eqb, eqb-true, lt-ltb, le-ltb, le-leb, ltb-true, ltb-false}
-use Rattle.terms.specs.Cases.{clash, two, less, same}
+use lib.Dec.{eqb}
+use borrow.Author.Tests.{eq-eqb, ne_eqb, lt-ltb, le-ltb, le-leb}
+use Rattle.terms.specs.Cases.{clash, less}
 use Rattle.terms.specs.Paper.{Paper, answer, refusal, pick}
-use Rattle.ledger_spec.specs.State.{Asked, nothing, range, Book, has, StateRules}
+use Rattle.ledger_spec.specs.State.{nothing, Book, StateRules}
 use Rattle.ledger_spec.specs.Calls as ledger
 use Rattle.ledger_spec.specs.Calls.{is_pending}
 use Rattle.ledger_spec.specs.Trace as ledger-trace
-use Rattle.ledger_spec.specs.Words.{answered, value_at, missing, pending}
+use Rattle.ledger_spec.specs.Words.{answered}
 use Rattle.ledger_spec.specs.Demand3.{missing_in, MissingNumbers, SomeMissing, LowestRun, Demand3}
 use Rattle.ledger_spec.specs.Demand3 as one
 use Rattle.ledger_spec.proofs.Told.{told_tick, told_announce, told_reply, told_between}
 use Rattle.ledger_spec.proofs.Demand3.{demand_3, first_clear, missing_below, missing_above}
-use Rattle.channels_spec.specs.Table.{Place, free, holds, Table, misses, waits, book_in, place_of, pending_place, next_place, counted, steps, turn, is_open, book_of, TableRules}
-use Rattle.channels_spec.specs.Calls.{Call, Request, To, Renew, Said, Tick, Announce, Reply, Between, called, asked, request_number, answer_to}
+use Rattle.channels_spec.specs.Table.{Place, free, holds, Table, misses, waits, book_in, pending_place, next_place, counted, steps, turn, book_of, TableRules}
+use Rattle.channels_spec.specs.Calls.{Request, To, Renew, Said, Tick, Announce, Reply, Between, called, asked, request_number, answer_to}
 use Rattle.channels_spec.specs.Trace.{Calls, ◌▸◌, after, History, trace}
 use Rattle.channels_spec.specs.Words.{opened, since, own_history, Line, quiet, asks, line, pending_on, grants, grants_on}
 use Rattle.channels_spec.specs.Demand.{SaidAnswers, EachChannel, Misses, SomeChannel, Due, Busy, Whole, Gives, Requests, OnePending, Turn, SessionTold}
 use Rattle.channels_spec.proofs.Least.{least_low, least_is}
 use Rattle.channels_spec.proofs.Places.{its_open, its_book}
-use Rattle.channels_spec.proofs.Views.{Asking, busy_14, whole_15, turns, asking_view, none_waits, TurnAt, turn_at}
+use Rattle.channels_spec.proofs.Views.{Asking, busy_14, whole_15, turns, asking_view, TurnAt, turn_at}
 use Rattle.channels_spec.proofs.Agree.{Holder, Agrees, agrees, quiet_line, never_quiet}
 
 -- ======== Each channel from its opening

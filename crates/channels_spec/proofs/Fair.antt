@@ -2,16 +2,16 @@
 -- requests. The number of places from the one last asked round to its own falls with
 -- each grant that goes elsewhere. Assumes nothing.
 use mathlib.Core.Path.{◌≡◌, refl, sym, ap, subst, ◌∙◌}
-use mathlib.Core.Bool.{Bool, true, false, ◌&&◌, not}
-use mathlib.Core.Logic.{◌⊎◌, inl, inr, ⊎_elim}
+use mathlib.Core.Bool.{Bool, true, false}
+use mathlib.Core.Logic.{⊎_elim}
 use mathlib.Core.List.{List, [], ◌∷◌}
 use Prim.Native.Nat.{ℕ, ◌+◌, ◌-◌, ◌%◌, ◌≤◌, ◌<◌}
 use native.Mathlib.Nat.{mod-add-mod, add-mod_right, mod-eq_of_lt}
 use native.Mathlib.Omega.{arith}
-use lib.Dec.{eqb, ltb}
-use borrow.Author.Tests.{eq-eqb, ne_eqb, eqb-true}
-use Rattle.terms.specs.Cases.{clash, two, less, same}
-use Rattle.terms.specs.Paper.{Paper, answer, pick}
+use lib.Dec.{eqb}
+use borrow.Author.Tests.{eq-eqb}
+use Rattle.terms.specs.Cases.{clash, two, less}
+use Rattle.terms.specs.Paper.{Paper, pick}
 use Rattle.ledger_spec.specs.State.{Book}
 use Rattle.ledger_spec.specs.Calls as ledger
 use Rattle.ledger_spec.specs.Calls.{fresh}
@@ -19,16 +19,16 @@ use Rattle.ledger_spec.specs.Words.{answered, value_at, one}
 use Rattle.ledger_spec.proofs.Tests.{pick_cases}
 use Rattle.ledger_spec.proofs.Steps.{step}
 use Rattle.channels_spec.specs.Table.{Place, free, holds, Table, empty, put, misses, book_in, place_of, free_place, next_place, counted, steps, turn, is_open, book_of, TableRules}
-use Rattle.channels_spec.specs.Calls.{Said, Call, Open, Close, Request, To, Told, Renew, called, opening_number, request_number, asking, asked, granted, answer_to, next_of}
-use Rattle.channels_spec.specs.Trace.{Calls, ◌▸◌, after, History, trace, followed}
+use Rattle.channels_spec.specs.Calls.{Call, Open, Close, Request, To, Told, Renew, called, opening_number, request_number, asking, granted, answer_to, next_of}
+use Rattle.channels_spec.specs.Trace.{Calls, ◌▸◌, after, trace, followed}
 use Rattle.channels_spec.specs.Words.{granted_to, grants, grants_on}
 use Rattle.channels_spec.specs.Words as words
 use Rattle.channels_spec.specs.Demand.{Misses, LastAsked, KeepsMissing, AskedWithin32}
 use Rattle.channels_spec.proofs.Places.{After, here, else, after_put, one_book, not_free, Here, open_here, its_open, its_place}
 use Rattle.channels_spec.proofs.Views.{Opening, fine_0, wide_10, twice_22, full_21, opening, Asking, busy_14, whole_15, turns, asking_view, TurnAt, turn_at}
-use Rattle.channels_spec.proofs.Rules.{Before, before, reached_rules}
-use Rattle.channels_spec.proofs.Agree.{Holder, Agrees, agrees}
-use Rattle.channels_spec.proofs.Demand.{held_demand, none_missing, Round, round, turn_low, misses_is}
+use Rattle.channels_spec.proofs.Rules.{before, reached_rules}
+use Rattle.channels_spec.proofs.Agree.{Holder, agrees}
+use Rattle.channels_spec.proofs.Demand.{held_demand, none_missing, round, turn_low, misses_is}
 
 -- ---- an open channel stays at its place
 

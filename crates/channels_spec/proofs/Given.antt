@@ -2,19 +2,19 @@
 -- save 12's top; and that no number is 13. For every table that keeps its rules. Assumes nothing.
 use mathlib.Core.Path.{◌≡◌, refl, sym, ap, subst, ◌∙◌}
 use mathlib.Core.Bool.{Bool, true, false, ◌&&◌, not}
-use mathlib.Core.Logic.{◌⊎◌, inl, inr, ⊎_elim, ◌↔◌}
-use mathlib.Core.List.{[], ◌∷◌}
+use mathlib.Core.Logic.{inl, ⊎_elim, ◌↔◌}
+use mathlib.Core.List.{[]}
 use Prim.Native.Nat.{ℕ, ◌+◌, ◌≤◌, ◌<◌}
 use native.Mathlib.Omega.{arith}
 use lib.Dec.{eqb, ltb}
-use borrow.Author.Tests.{eq-eqb, ne_eqb, eqb-true, lt-ltb, le-ltb, ltb-true, ltb-false}
+use borrow.Author.Tests.{eq-eqb, ne_eqb, eqb-true, lt-ltb, le-ltb}
 use Rattle.terms.specs.Cases.{clash, two, less}
 use Rattle.terms.specs.Paper.{Paper, answer, refusal, pick}
 use Rattle.ledger_spec.specs.State.{Asked, nothing, range, Book, largest, StateRules}
 use Rattle.ledger_spec.specs.Calls as ledger
 use Rattle.ledger_spec.specs.Calls.{fresh, is_pending}
 use Rattle.ledger_spec.specs.Words.{answered}
-use Rattle.ledger_spec.specs.Given.{MissingAt, SettledAt, StatusRight}
+use Rattle.ledger_spec.specs.Given.{MissingAt, StatusRight}
 use Rattle.ledger_spec.specs.Answers as ledger-answers
 use Rattle.ledger_spec.proofs.Answers.{keeps, renew_answer, renew_next}
 use Rattle.ledger_spec.proofs.Answers.{new_session as ledger-new-session}
@@ -22,9 +22,9 @@ use Rattle.ledger_spec.proofs.Given as goal
 use Rattle.ledger_spec.proofs.Numbers.{checked_facts}
 use Rattle.ledger_spec.proofs.Tests.{pick_cases, skip, false_of}
 use Rattle.ledger_spec.proofs.Demand3.{first_clear, nothing_pending}
-use Rattle.channels_spec.specs.Table.{Place, free, holds, Table, put, is_free, misses, waits, book_in, place_of, free_place, pending_place, counted, steps, turn, is_open, book_of, TableRules}
-use Rattle.channels_spec.specs.Calls.{Said, Tick, Announce, Reply, Between, Call, Open, Close, Request, To, Told, Renew, called, opening_number, request_number, asking, asked, granted, unopened, renewed_place, renewed, answer_to, next_of}
-use Rattle.channels_spec.specs.Given.{OpenIn, Given22, Given21, FineOpening, Opens, Closes, SomePending, SomeMisses, Given15, FineRequest, Names, Given18, Given10Tick, Given10Announcement, Given10Between, Given17, Given16, Raises, Keeps, NewSession}
+use Rattle.channels_spec.specs.Table.{Place, free, holds, Table, put, is_free, waits, book_in, place_of, free_place, pending_place, steps, turn, is_open, book_of, TableRules}
+use Rattle.channels_spec.specs.Calls.{Said, Tick, Announce, Reply, Between, Call, Open, Close, Request, To, Told, Renew, called, opening_number, request_number, asked, unopened, renewed_place, answer_to, next_of}
+use Rattle.channels_spec.specs.Given.{OpenIn, Given22, Given21, FineOpening, Opens, Closes, SomePending, SomeMisses, Given15, FineRequest, Given18, Given10Tick, Given10Announcement, Given10Between, Given17, Given16, Raises, Keeps, NewSession}
 use Rattle.channels_spec.proofs.Least.{least_is, least_low, least_none}
 use Rattle.channels_spec.proofs.Places.{After, here, else, after_put, put_here, put_else, put_same, not_free, Here, open_here, its_open, its_place, its_book}
 use Rattle.channels_spec.proofs.Views.{Opening, fine_0, wide_10, twice_22, full_21, opening, free_there, Asking, busy_14, whole_15, turns, asking_view, none_waits, TurnAt, turn_at}

@@ -1,18 +1,16 @@
 -- Places of a table: what stands where, and that a sound table stays sound when one place changes.
 -- Assumes nothing.
 use mathlib.Core.Path.{◌≡◌, refl, sym, ap, subst, ◌∙◌, fun_ext}
-use mathlib.Core.Bool.{Bool, true, false, not}
-use mathlib.Core.Logic.{◌⊎◌, inl, inr, ⊎_elim}
+use mathlib.Core.Bool.{true}
+use mathlib.Core.Logic.{⊎_elim}
 use Prim.Native.Nat.{ℕ, ◌≤◌, ◌<◌}
 use native.Mathlib.Omega.{arith}
-use lib.Dec.{eqb, ltb}
-use borrow.Author.Tests.{eq-eqb, ne_eqb, eqb-true, eqb-false, lt-ltb, le-ltb, ltb-true, ltb-false}
-use Rattle.terms.specs.Cases.{clash, two, same}
-use Rattle.terms.specs.Paper.{pick}
+use borrow.Author.Tests.{eq-eqb, ne_eqb, eqb-true, lt-ltb, ltb-true}
+use Rattle.terms.specs.Cases.{clash, same}
 use Rattle.ledger_spec.specs.State.{Book, StateRules}
 use Rattle.ledger_spec.specs.Calls.{is_pending}
-use Rattle.channels_spec.specs.Table.{Place, free, holds, Table, put, least, is_free, is_for, misses, waits, book_in, place_of, free_place, pending_place, counted, steps, turn, is_open, book_of, TableRules}
-use Rattle.channels_spec.proofs.Least.{Lowest, least_low, least_is, least_none}
+use Rattle.channels_spec.specs.Table.{Place, free, holds, Table, put, is_free, is_for, waits, book_in, place_of, is_open, book_of, TableRules}
+use Rattle.channels_spec.proofs.Least.{least_low, least_is}
 
 -- ---- one place changed
 

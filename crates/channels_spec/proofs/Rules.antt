@@ -1,13 +1,12 @@
 -- Calls never break the table's rules. Assumes nothing.
 use mathlib.Core.Path.{◌≡◌, refl, sym, ap, subst, ◌∙◌}
-use mathlib.Core.Bool.{Bool, true, false, not}
-use Prim.Native.Nat.{ℕ, ◌≤◌, ◌<◌}
+use mathlib.Core.Bool.{true}
+use Prim.Native.Nat.{ℕ, ◌≤◌}
 use native.Mathlib.Omega.{arith}
 use lib.Dec.{eqb}
-use borrow.Author.Tests.{eqb-true}
 use Rattle.terms.specs.Cases.{clash}
 use Rattle.terms.specs.Paper.{Paper, pick}
-use Rattle.ledger_spec.specs.State.{Asked, nothing, range, Book, StateRules}
+use Rattle.ledger_spec.specs.State.{Asked, nothing, Book, StateRules}
 use Rattle.ledger_spec.specs.Calls as ledger
 use Rattle.ledger_spec.specs.Calls.{is_pending, fresh}
 use Rattle.ledger_spec.specs.Words.{answered, still_pending}
@@ -15,7 +14,7 @@ use Rattle.ledger_spec.proofs.Tests.{pick_cases}
 use Rattle.ledger_spec.proofs.Steps.{Step, step, fresh_rules}
 use Rattle.ledger_spec.proofs.Answers.{new_session}
 use Rattle.channels_spec.specs.Table.{Place, free, holds, Table, empty, put, waits, book_in, place_of, free_place, pending_place, turn, is_open, book_of, TableRules}
-use Rattle.channels_spec.specs.Calls.{Said, Tick, Announce, Reply, Between, Call, Open, Close, Request, To, Told, Renew, called, opening_number, request_number, asking, asked, granted, renewed_place, renewed, next_of}
+use Rattle.channels_spec.specs.Calls.{Said, Tick, Announce, Reply, Between, Call, Open, Close, Request, To, Told, Renew, called, request_number, asking, granted, renewed_place, renewed, next_of}
 use Rattle.channels_spec.specs.Trace.{Calls, none, ◌▸◌, after}
 use Rattle.channels_spec.proofs.Places.{Here, open_here, its_open, one_book, not_free, rules_put, rules_freed, rules_last}
 use Rattle.channels_spec.proofs.Views.{Opening, fine_0, wide_10, twice_22, full_21, opening, Asking, busy_14, whole_15, turns, asking_view, none_waits, TurnAt, turn_at}

@@ -1,19 +1,16 @@
 -- What each number of an opening and of a request says of the table: one view a call, built once
 -- from the definitions. Assumes nothing.
-use mathlib.Core.Path.{◌≡◌, refl, sym, ap, subst, ◌∙◌}
-use mathlib.Core.Bool.{Bool, true, false, not}
-use Prim.Native.Nat.{ℕ, ◌+◌, ◌%◌, ◌≤◌, ◌<◌}
+use mathlib.Core.Path.{◌≡◌, refl, ap}
+use mathlib.Core.Bool.{true, false}
+use Prim.Native.Nat.{ℕ, ◌≤◌, ◌<◌}
 use native.Mathlib.Nat.{mod-lt}
 use native.Mathlib.Omega.{arith}
-use lib.Dec.{eqb, ltb}
+use lib.Dec.{ltb}
 use borrow.Author.Tests.{eqb-false, ltb-true, ltb-false, not-true}
 use Rattle.terms.specs.Cases.{clash}
-use Rattle.terms.specs.Paper.{pick}
-use Rattle.ledger_spec.specs.State.{Asked, nothing, range, Book, StateRules}
-use Rattle.ledger_spec.specs.Calls as ledger
-use Rattle.ledger_spec.specs.Calls.{is_pending}
+use Rattle.ledger_spec.specs.State.{Book}
 use Rattle.ledger_spec.proofs.Tests.{pick_cases}
-use Rattle.channels_spec.specs.Table.{Place, free, holds, Table, is_free, misses, waits, book_in, free_place, pending_place, counted, steps, turn, is_open, TableRules}
+use Rattle.channels_spec.specs.Table.{Place, free, holds, Table, is_free, misses, waits, free_place, pending_place, counted, steps, turn, is_open, TableRules}
 use Rattle.channels_spec.specs.Calls.{opening_number, request_number, asked}
 use Rattle.channels_spec.proofs.Least.{least_is, least_none}
 

@@ -1,7 +1,7 @@
 -- The calls of a table in the documents' numbers: what each is answered, and the table after it.
 -- Document 02, request 3.
 -- (13 judges how a table is kept: `channels` has it. A table that calls have made never meets it.)
-use Rattle.std.specs.Prelude.{Bool, true, false, ◌&&◌, List, [], ◌∷◌, ℕ, eqb, ltb}
+use Rattle.std.specs.Prelude.{List, [], ◌∷◌, ℕ, eqb, ltb}
 use Rattle.terms.specs.Paper.{Paper, answer, refusal, pick}
 use Rattle.ledger_spec.specs.State.{Asked, nothing, range, Book}
 use Rattle.ledger_spec.specs.Calls as ledger

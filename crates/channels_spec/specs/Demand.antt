@@ -1,7 +1,7 @@
 -- Request 3, sentence by sentence, of a history and the table after it. Words.antt tells each word
 -- from the calls and their answers alone. proofs/Demand.antt and proofs/Fair.antt prove each
 -- sentence for every row of calls on the empty table, refusals among them.
-use Rattle.std.specs.Prelude.{◌≡◌, Bool, true, false, ◌⊎◌, ◌↔◌, List, [], ◌∷◌, ℕ, ◌+◌, ◌%◌, ◌≤◌, ◌<◌}
+use Rattle.std.specs.Prelude.{◌≡◌, true, ◌⊎◌, ◌↔◌, List, [], ◌∷◌, ℕ, ◌+◌, ◌%◌, ◌≤◌, ◌<◌}
 use Rattle.terms.specs.Paper.{Paper, answer, refusal}
 use Rattle.ledger_spec.specs.State.{Book}
 use Rattle.ledger_spec.specs.Calls as ledger
@@ -10,10 +10,10 @@ use Rattle.ledger_spec.specs.Words.{value_at, answered, pending}
 use Rattle.ledger_spec.specs.Answers.{TickAnswers, AnnounceAnswers, ReplyAnswers}
 use Rattle.ledger_spec.specs.Between.{BetweenAnswers}
 use Rattle.ledger_spec.specs.Demand3.{SomeMissing, LowestRun, Demand3}
-use Rattle.channels_spec.specs.Table.{Place, free, holds, Table, waits, place_of, book_of}
+use Rattle.channels_spec.specs.Table.{holds, Table, waits, place_of, book_of}
 use Rattle.channels_spec.specs.Calls.{Call, Request, To, Tick, Announce, Reply, Between, answer_to, next_of}
 use Rattle.channels_spec.specs.Trace.{Calls, ◌▸◌, after, History, trace, followed}
-use Rattle.channels_spec.specs.Words.{opened, since, own_history, Line, quiet, asks, line, pending_on, granted, grants, grants_on}
+use Rattle.channels_spec.specs.Words.{opened, since, own_history, quiet, asks, line, pending_on, granted, grants, grants_on}
 
 -- ======== Each channel
 

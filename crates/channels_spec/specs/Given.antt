@@ -10,7 +10,7 @@ use Rattle.ledger_spec.specs.Words.{answered}
 use Rattle.ledger_spec.specs.Given.{MissingAt, StatusRight}
 use Rattle.ledger_spec.specs.Answers as ledger-answers
 use Rattle.ledger_spec.specs.Answers.{OnlyTop}
-use Rattle.channels_spec.specs.Table.{Place, free, holds, Table}
+use Rattle.channels_spec.specs.Table.{free, holds, Table}
 use Rattle.channels_spec.specs.Calls.{Call, Open, Close, Request, To, Told, Renew, Tick}
 
 -- a channel is open: its ledger stands at a place

@@ -1,6 +1,6 @@
 -- Thirty-two channels in one table, as mathematics: what stands at each place, and the place last
 -- asked. Document 02, request 3.
-use Rattle.std.specs.Prelude.{Bool, true, false, not, ℕ, zero, suc, ◌+◌, ◌-◌, ◌%◌, ◌<◌, ◌≡◌, eqb, ltb}
+use Rattle.std.specs.Prelude.{Bool, true, false, not, ℕ, zero, suc, ◌+◌, ◌%◌, ◌<◌, ◌≡◌, eqb, ltb}
 use Rattle.terms.specs.Paper.{pick}
 use Rattle.ledger_spec.specs.State.{Book, StateRules}
 use Rattle.ledger_spec.specs.Calls.{is_pending, fresh}

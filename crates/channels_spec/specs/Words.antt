@@ -1,6 +1,6 @@
 -- The words of request 3, each told from a history alone: the calls and their answers, and no
 -- table.
-use Rattle.std.specs.Prelude.{Bool, true, false, ◌&&◌, ℕ, ◌+◌, eqb}
+use Rattle.std.specs.Prelude.{Bool, false, ◌&&◌, ℕ, ◌+◌, eqb}
 use Rattle.terms.specs.Paper.{Paper, pick}
 use Rattle.ledger_spec.specs.State.{Asked, nothing, range, or_else}
 use Rattle.ledger_spec.specs.Calls as ledger

@@ -1,12 +1,12 @@
 -- Of the lent table: wrong answers and wrong later contents that the promise rules out. The promise
 -- is one relation, `Exchanges`, since a lent struct has no `Post` of the checker's. Assumes
 -- nothing.
-use Prim.Native.Nat.{ℕ, ◌+◌, ◌-◌, ◌^◌}
+use Prim.Native.Nat.{ℕ}
 use mathlib.Core.Path.{◌≡◌, refl, ap₂}
-use mathlib.Core.List.{List, [], ◌∷◌, ◌++◌, map}
+use mathlib.Core.List.{List, [], ◌∷◌, ◌++◌}
 use lib.Count.{ones, count_trailing_zeros}
 use lib.ListN.{replicate}
-use Rattle.terms.specs.RuledOut.{Row, ◌never◌, ◌only◌, Kept, RulesOut, ruled, lists}
+use Rattle.terms.specs.RuledOut.{Row, ◌never◌, ◌only◌, RulesOut, ruled, lists}
 use Rattle.tick_map.specs.Bits.{value_of, map_of, run}
 use Rattle.tick_map.specs.Ring.{rotated}
 use Rattle.ledger_spec.specs.State.{has, range_rules, map_rules, sound_of}

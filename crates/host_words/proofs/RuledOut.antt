@@ -6,18 +6,16 @@ use mathlib.Core.List.{List, [], ◌∷◌}
 use lib.ListN.{get_or}
 use Rattle.terms.specs.Counters.{tick_of}
 use Rattle.terms.specs.RuledOut.{Row, ◌never◌, ◌only◌, Kept, RulesOut, ruled, numbers, lists, beside}
-use Rattle.terms.specs.declared.Refusal.TheVariants.{Room, Repeat, Far}
+use Rattle.terms.specs.declared.Refusal.TheVariants.{Room, Far}
 use Rattle.octets.specs.Papers.{written_paper}
 use Rattle.octets.specs.declared.Written.{Written}
 use Rattle.octets.specs.declared.Written.TheVariants.{Bytes}
-use Rattle.octets.specs.declared.Written.TheVariants as Written
 use Rattle.tick_map.specs.Bits.{value_of, bits_in, map_of}
 use Rattle.tick_map.specs.Ring.{rotated}
-use Rattle.ledger_spec.specs.State.{Asked, nothing, range, Book}
+use Rattle.ledger_spec.specs.State.{Asked, nothing, range}
 use Rattle.ledger.specs.State.{asked_of, ledger_of}
 use Rattle.ledger.specs.Papers.{paper_of}
 use Rattle.ledger.specs.declared.Answer.{Answer}
-use Rattle.ledger.specs.declared.Answer.TheVariants as Answer
 use Rattle.ledger.specs.declared.Ledger.{Ledger}
 use Rattle.ledger.specs.declared.Pending.{Pending}
 use Rattle.ledger.specs.declared.Pending.TheVariants.{Nothing, Range}

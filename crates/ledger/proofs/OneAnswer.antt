@@ -4,7 +4,7 @@ use mathlib.Core.Path.{◌≡◌, sym, ap, ap₂, ◌∙◌}
 use Prim.Native.Nat.{ℕ}
 use Rattle.terms.specs.OneAnswer.{OneAnswer}
 use Rattle.terms.specs.Paper.{Paper}
-use Rattle.ledger.specs.Papers.{paper_of, count_paper, tick_paper_one, request_paper_one, reply_paper_one, paper_one, count_paper_one, pending_paper_one}
+use Rattle.ledger.specs.Papers.{paper_of, count_paper, tick_paper_one, request_paper_one, reply_paper_one, paper_one, count_paper_one}
 use Rattle.terms.specs.declared.TickNumber.{TickNumber}
 use Rattle.tick_map.specs.declared.Map.{Map}
 use Rattle.ledger.specs.declared.Ledger.{Ledger}

@@ -13,7 +13,7 @@ use Rattle.terms.specs.Paper.{Paper, answer}
 use Rattle.tick_map.specs.Bits.{Words}
 use Rattle.ledger_spec.specs.State.{Book, StateRules}
 use Rattle.ledger.specs.State.{book_of, ledger_of, topped, cleared, next_by}
-use Rattle.ledger_spec.specs.Calls.{Call, Tick, Announce, Request, Reply, Ask, Missing, Held, Between, Renew, raised, answer_to, next_of, fresh, open_of}
+use Rattle.ledger_spec.specs.Calls.{Call, Tick, Announce, Request, Reply, Ask, Missing, Held, Between, Renew, raised, answer_to, fresh, open_of}
 use Rattle.ledger.specs.Papers.{tick_paper, request_paper, reply_paper, paper_of, count_paper}
 use Rattle.ledger_spec.specs.Trace.{Calls, ◌▸◌, after, History, ◌▸◌⇒◌, trace}
 use Rattle.ledger.specs.Trace.{Promise, RanBy, Ran, opening, one_more}

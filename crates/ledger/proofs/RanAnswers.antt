@@ -1,9 +1,9 @@
 -- Demand 3 of the code's own answers: what a further call of the code is answered, told from the
 -- calls and answers before it; and request 7's sentences of the code's replies. Each is the book's
 -- theorem, read at the paper that the promise fixes. Assumes nothing.
-use mathlib.Core.Path.{◌≡◌, sym, ap, ◌∙◌}
+use mathlib.Core.Path.{◌≡◌, ap, ◌∙◌}
 use mathlib.Core.Logic.{◌↔◌}
-use mathlib.Core.Bool.{true, false}
+use mathlib.Core.Bool.{true}
 use mathlib.Core.List.{[], ◌∷◌}
 use Prim.Native.Nat.{ℕ, ◌≤◌}
 use Rattle.terms.specs.Paper.{Paper, answer, refusal}

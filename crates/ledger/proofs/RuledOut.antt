@@ -1,23 +1,19 @@
 -- For each call of a ledger: wrong answers that its promise rules out, as tables of what is given
 -- and what is then wrong. Assumes nothing.
 use Prim.Native.Nat.{ℕ, ◌+◌, ◌-◌, ◌^◌}
-use mathlib.Core.Path.{◌≡◌, refl, ap, ap₂, ◌∙◌}
+use mathlib.Core.Path.{◌≡◌, refl, ap₂}
 use mathlib.Core.List.{List, [], ◌∷◌}
 use lib.Count.{ones, count_trailing_zeros}
 use Rattle.terms.specs.Paper.{Paper, answer, refusal}
-use Rattle.terms.specs.RuledOut.{Row, ◌never◌, ◌only◌, Kept, RulesOut, ruled, numbers, lists, papers, beside}
+use Rattle.terms.specs.RuledOut.{Row, ◌never◌, ◌only◌, Kept, RulesOut, ruled, lists, papers, beside}
 use Rattle.terms.specs.Counters.{tick_of, channel_of}
 use Rattle.tick_map.specs.Bits.{value_of, bits_in, map_of, run}
 use Rattle.tick_map.specs.Ring.{rotated}
 use Rattle.ledger_spec.specs.State.{Asked, nothing, range, has, range_rules, map_rules, sound_of}
 use Rattle.ledger_spec.specs.Calls.{Call, Tick, Announce, Request, Reply, Ask, Missing, Held, Between, Renew, own_number, checked_of, number_to, passes, taken, reach, leaps, gave_up, handed, replied, raised, waiting, asked, done, missing_count, held_count, between_count, values_of, answer_to, fresh, open_number, open_of}
 use Rattle.ledger.specs.State.{book_of, pending_of, ledger_of, next_by, next_in}
-use Rattle.ledger.specs.Papers.{tick_paper, request_paper, reply_paper, paper_of, count_paper, pending_paper, asked_paper}
+use Rattle.ledger.specs.Papers.{tick_paper, request_paper, reply_paper, paper_of, count_paper, pending_paper}
 use Rattle.ledger.specs.declared.Ledger.{Ledger}
-use Rattle.ledger.specs.declared.Pending.{Pending}
-use Rattle.ledger.specs.declared.Pending.TheVariants.{Nothing, Range}
-use Rattle.terms.specs.declared.TickNumber.{TickNumber}
-use Rattle.terms.specs.declared.ChannelNumber.{ChannelNumber}
 use Rattle.ledger.proofs.Ledger.tick.Reads as tick
 use Rattle.ledger.proofs.Ledger.tick.Kinds as tick-kinds
 use Rattle.ledger.proofs.Ledger.announce.Reads as announce

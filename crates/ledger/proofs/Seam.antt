@@ -4,13 +4,13 @@ use mathlib.Core.Path.{◌≡◌, refl, sym, ap, ap₂, ◌∙◌, subst}
 use mathlib.Core.Bool.{Bool, true, false, ◌&&◌, not}
 use mathlib.Core.Logic.{⊎_elim}
 use Prim.Native.Nat.{ℕ, ◌+◌, ◌-◌, ◌/◌, ◌%◌, ◌^◌, ◌≤◌, ◌<◌, min, max}
-use native.Mathlib.Nat.{add-zero, mod-le, lt_of_le_of_lt, mod-lt, le_of_lt, mod-eq_of_lt, div-eq_of_lt, div-one, zero-div}
+use native.Mathlib.Nat.{add-zero, mod-le, lt_of_le_of_lt, mod-lt, mod-eq_of_lt, div-eq_of_lt, div-one, zero-div}
 use native.Mathlib.Decide.{dec_lt, dec_le}
 use native.Mathlib.Omega.{arith}
 use borrow.Author.Tests.{eq-eqb, ne_eqb, eqb-true, eqb-false, lt-ltb, le-ltb, le-leb, lt-leb}
 use lib.Bits.{bit_or, or_lt}
-use lib.Count.{ones, count_trailing_zeros}
-use lib.Dec.{eqb, leb, ltb}
+use lib.Count.{ones}
+use lib.Dec.{eqb, ltb}
 use lib.Pow.{pow-lt, pow_pos, shr_le, ones_sub-lt}
 use Rattle.terms.specs.Paper.{answer, pick}
 use Rattle.terms.specs.Cases.{two, less, same}
@@ -25,7 +25,7 @@ use Rattle.tick_map.specs.declared.Map.{Map}
 use Rattle.tick_map.proofs.Laws.{run_le, lt_of_shr}
 use Rattle.tick_map.proofs.Digits.{bit_lt, bit_none, bit_above, bit_ext, bit_shr, bit_set_same, bit_set_other, lt_of_clear, run_passed, run_stopped}
 use Rattle.tick_map.proofs.Words.{map_of_lem, map_at, value_of_lem, list_lt}
-use Rattle.tick_map.proofs.Ring.{bit_mod, rotated_round, rotated_none, rotated_ext, rotated_lt, rotated_bit, rotated_ones, rotated_zero, rotated_set, rotated_laid, laid_rotated}
+use Rattle.tick_map.proofs.Ring.{bit_mod, rotated_none, rotated_ext, rotated_lt, rotated_bit, rotated_ones, rotated_zero, rotated_set, rotated_laid, laid_rotated}
 use Rattle.tick_map.proofs.Stretch.{without_lt, without_in, without_out, without_is, without_down, only_lt, only_read}
 use Rattle.ledger_spec.specs.State.{Asked, nothing, range, Book, largest, has, map_rules, sound_of, StateRules}
 use Rattle.ledger.specs.State.{asked_of, pending_of, book_of, ledger_of, topped, next_by, next_in, laid_from}

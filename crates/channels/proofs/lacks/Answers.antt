@@ -4,7 +4,6 @@ use mathlib.Core.Bool.{not}
 use Prim.Native.Nat.{ℕ}
 use lib.Dec.{eqb}
 use Rattle.ledger.specs.State.{book_of}
-use borrow.Author.Rules.{rules}
 use Rattle.channels.proofs.lacks.Goals as goal
 
 pub returns : goal.returns

@@ -4,7 +4,6 @@ use Rattle.terms.specs.declared.ChannelNumber.{ChannelNumber}
 use Rattle.terms.specs.declared.TickNumber.{TickNumber}
 use Rattle.ledger_spec.specs.Calls.{Announce}
 use Rattle.host_ledger.proofs.Calls.{answers}
-use borrow.Author.Rules.{rules}
 use Rattle.host_ledger.proofs.rk_ledger_announce.Goals as goal
 
 pub returns : goal.returns

@@ -8,7 +8,6 @@ use Rattle.ledger.specs.State.{book_of}
 use Rattle.ledger.specs.Papers.{count_paper}
 use Rattle.host_words.specs.Told.{tells_then, tells_else}
 use Rattle.host_words.specs.Calls.{call_told}
-use borrow.Author.Rules.{rules}
 use Rattle.host_ledger.proofs.rk_ledger_missing.Goals as goal
 use Rattle.host_ledger.proofs.rk_ledger_missing.Goals.{After-missing_between-counted}
 

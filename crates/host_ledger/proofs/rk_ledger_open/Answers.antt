@@ -4,7 +4,6 @@ use Rattle.terms.specs.Paper.{one_number}
 use Rattle.terms.specs.declared.ChannelNumber.{ChannelNumber}
 use Rattle.ledger_spec.specs.Calls.{open_number}
 use Rattle.host_ledger.proofs.Calls.{opened_words}
-use borrow.Author.Rules.{rules}
 use Rattle.host_ledger.proofs.rk_ledger_open.Goals as goal
 
 pub returns : goal.returns

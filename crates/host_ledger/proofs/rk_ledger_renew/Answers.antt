@@ -1,7 +1,6 @@
 -- `rk_ledger_renew`: the number of the call's paper, and the words after it. Assumes nothing.
 use mathlib.Core.Path.{refl}
 use Rattle.host_ledger.proofs.Calls.{answers}
-use borrow.Author.Rules.{rules}
 use Rattle.host_ledger.proofs.rk_ledger_renew.Goals as goal
 
 pub returns : goal.returns

@@ -8,7 +8,6 @@ use Rattle.ledger_spec.specs.Calls.{Reply}
 use Rattle.ledger.specs.Papers.{reply_paper}
 use Rattle.ledger.specs.declared.ReplyAnswer.{ReplyAnswer}
 use Rattle.host_ledger.proofs.Calls.{reply_refuses, reply_tells}
-use borrow.Author.Rules.{rules}
 use Rattle.host_ledger.proofs.rk_ledger_reply.Goals as goal
 
 pub returns-in-Refused : goal.returns-in-Refused

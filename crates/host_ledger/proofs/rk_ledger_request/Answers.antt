@@ -4,7 +4,6 @@ use Rattle.terms.specs.declared.ChannelNumber.{ChannelNumber}
 use Rattle.ledger_spec.specs.Calls.{Request}
 use Rattle.ledger.specs.Papers.{request_paper}
 use Rattle.host_ledger.proofs.Calls.{refuses, tells}
-use borrow.Author.Rules.{rules}
 use Rattle.host_ledger.proofs.rk_ledger_request.Goals as goal
 
 pub returns-in-Refused : goal.returns-in-Refused

@@ -5,7 +5,6 @@ use Rattle.terms.specs.declared.TickNumber.{TickNumber}
 use Rattle.ledger_spec.specs.Calls.{Tick}
 use Rattle.ledger.specs.Papers.{tick_paper}
 use Rattle.host_ledger.proofs.Calls.{refuses, tells}
-use borrow.Author.Rules.{rules}
 use Rattle.host_ledger.proofs.rk_ledger_tick.Goals as goal
 
 pub returns-in-Refused : goal.returns-in-Refused

@@ -1,7 +1,6 @@
 -- `rk_ledger_told`: 13, or what the ledger has to tell. Assumes nothing.
 use Rattle.host_words.specs.Told.{tells_then, tells_else}
 use Rattle.host_ledger.specs.Words.{ledger_told_lem}
-use borrow.Author.Rules.{rules}
 use Rattle.host_ledger.proofs.rk_ledger_told.Goals as goal
 
 pub returns-then-answer-eq0 : goal.returns-then-answer-eq0

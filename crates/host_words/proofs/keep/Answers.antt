@@ -1,7 +1,6 @@
 -- `keep`: 0 and 12 store the next ledger, any other answer nothing. Assumes nothing.
 use borrow.Author.Tests.{ne_eqb}
 use Rattle.host_words.specs.Calls.{kept_by}
-use borrow.Author.Rules.{rules}
 use Rattle.host_words.proofs.keep.Goals as goal
 
 pub returns-then-answer-eq0 : goal.returns-then-answer-eq0

@@ -1,6 +1,5 @@
 -- `ledger_in`: each word is its part of the ledger. Assumes nothing.
 use Rattle.host_words.specs.Words.{ledger_in}
-use borrow.Author.Rules.{rules}
 use Rattle.host_words.proofs.ledger_in.Goals as goal
 
 pub returns : goal.returns

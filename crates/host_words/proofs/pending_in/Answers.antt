@@ -1,6 +1,5 @@
 -- `pending_in`: 0 and 0 are no request. Assumes nothing.
 use Rattle.host_words.specs.Words.{pending_in}
-use borrow.Author.Rules.{rules}
 use Rattle.host_words.proofs.pending_in.Goals as goal
 
 pub returns-then-first-last : goal.returns-then-first-last

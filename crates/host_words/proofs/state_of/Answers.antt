@@ -1,6 +1,5 @@
 -- `state_of`: each part of the ledger is its word. Assumes nothing.
 use Rattle.host_words.specs.Words.{words_of}
-use borrow.Author.Rules.{rules}
 use Rattle.host_words.proofs.state_of.Goals as goal
 
 pub returns : goal.returns

@@ -3,7 +3,6 @@ use mathlib.Core.Path.{sym, ap}
 use Rattle.terms.specs.Paper.{one_number}
 use Rattle.octets.specs.Papers.{written_paper}
 use Rattle.host_words.specs.Told.{tells_done, tells_why}
-use borrow.Author.Rules.{rules}
 use Rattle.host_words.proofs.told_bytes.Goals as goal
 
 pub returns-in-Refused : goal.returns-in-Refused

@@ -1,11 +1,9 @@
 -- Assumes nothing.
-use mathlib.Core.Path.{◌≡◌, sym, ap}
-use Prim.Native.Nat.{ℕ}
+use mathlib.Core.Path.{◌≡◌}
 use lib.Dec.{eqb}
 use borrow.Author.Tests.{eq-eqb, ne_eqb}
 use Rattle.terms.specs.Paper.{pick}
 use Rattle.channels.specs.Answered.{closed_at}
-use borrow.Author.Rules.{rules}
 use Rattle.channels.proofs.Index.closed_at.Goals as goal
 
 pub returns-then-self-at : goal.returns-then-self-at

@@ -2,15 +2,11 @@
 -- pending. Assumes nothing.
 use mathlib.Core.Path.{◌≡◌, sym, ap, ◌∙◌}
 use mathlib.Core.Bool.{Bool, true, false}
-use Prim.Native.Nat.{ℕ}
-use lib.Dec.{eqb}
 use borrow.Author.Tests.{eq-eqb, ne_eqb}
-use Rattle.terms.specs.Paper.{pick}
 use Rattle.ledger_spec.specs.Calls.{is_pending}
 use Rattle.ledger.specs.State.{book_of}
 use Rattle.channels.specs.Index.{with_bit}
 use Rattle.channels.proofs.Seam.{index_is}
-use borrow.Author.Rules.{rules}
 use Rattle.channels.proofs.Index.kept.Goals as goal
 
 pub returns-then-asks : goal.returns-then-asks

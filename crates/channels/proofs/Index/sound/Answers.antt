@@ -4,9 +4,7 @@ use mathlib.Core.Bool.{Bool, ◌&&◌, ◌||◌}
 use Prim.Native.Nat.{◌^◌}
 use lib.Bits.{bit_or}
 use lib.Dec.{eqb, ltb}
-use Rattle.channels.specs.declared.Index.{Index}
 use Rattle.channels.specs.Index.{index_sound}
-use borrow.Author.Rules.{rules}
 use Rattle.channels.proofs.Index.sound.Goals as goal
 
 pub returns : goal.returns

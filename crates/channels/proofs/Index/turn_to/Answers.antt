@@ -7,7 +7,6 @@ use borrow.Author.Tests.{eq-eqb, ne_eqb}
 use Rattle.channels.specs.Index.{place_in, place_from, once_in}
 use Rattle.channels.specs.Turn.{opening_turn, turn_of, once_of}
 use Rattle.channels.proofs.Turns.{place_first, turned_is}
-use borrow.Author.Rules.{rules}
 use Rattle.channels.proofs.Index.turn_to.Goals as goal
 
 pub returns-then-code-eq4 : goal.returns-then-code-eq4

@@ -2,11 +2,10 @@
 -- nothing.
 use mathlib.Core.Path.{◌≡◌, sym, ap, ◌∙◌}
 use mathlib.Core.Bool.{true, false, ◌&&◌}
-use borrow.Author.Tests.{eq-eqb, ne_eqb, le-leb, lt-leb, not-true, not-false}
+use borrow.Author.Tests.{eq-eqb, ne_eqb, le-leb, lt-leb}
 use Rattle.host_words.specs.Words.{book_in}
 use Rattle.channels.specs.Index.{index_sound}
 use Rattle.channels.specs.Answered.{row_fits, refused_of, answered_of}
-use borrow.Author.Rules.{rules}
 use Rattle.channels.proofs.Row.answered.Goals as goal
 
 pub returns-then-not-sound-turn : goal.returns-then-not-sound-turn

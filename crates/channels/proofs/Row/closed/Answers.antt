@@ -1,12 +1,10 @@
 -- 13, or the place is free. Assumes nothing.
 use mathlib.Core.Path.{◌≡◌, sym, ◌∙◌}
 use mathlib.Core.Bool.{true, false}
-use borrow.Author.Tests.{not-true, not-false}
 use Rattle.ledger_spec.specs.State.{sound_of}
 use Rattle.host_words.specs.Words.{book_in}
 use Rattle.channels.specs.declared.Answered.{Answered}
 use Rattle.channels.specs.Answered.{blank, closed_of}
-use borrow.Author.Rules.{rules}
 use Rattle.channels.proofs.Row.closed.Goals as goal
 
 pub returns-then-not-sound : goal.returns-then-not-sound

@@ -10,7 +10,6 @@ use Rattle.host_words.specs.Words.{book_in}
 use Rattle.channels_spec.specs.Table.{holds, misses}
 use Rattle.channels.specs.Told.{agree}
 use Rattle.channels.specs.Answered.{row_fits}
-use borrow.Author.Rules.{rules}
 use Rattle.channels.proofs.Row.fits.Goals as goal
 
 pub returns : goal.returns

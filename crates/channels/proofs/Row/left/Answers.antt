@@ -2,7 +2,6 @@
 use mathlib.Core.Path.{sym, ◌∙◌}
 use borrow.Author.Tests.{eq-eqb, ne_eqb}
 use Rattle.channels.specs.Answered.{left_of}
-use borrow.Author.Rules.{rules}
 use Rattle.channels.proofs.Row.left.Goals as goal
 
 pub returns-then-told-eq0 : goal.returns-then-told-eq0

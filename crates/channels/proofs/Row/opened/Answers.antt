@@ -9,8 +9,6 @@ use Rattle.channels.specs.declared.Answered.{Answered}
 use Rattle.channels.specs.Index.{open_at}
 use Rattle.channels.specs.Answered.{row_in, opened_of}
 use Rattle.channels.proofs.Seam.{opens_fresh}
-use Rattle.channels.proofs.Turns.{open_below}
-use borrow.Author.Rules.{rules}
 use Rattle.channels.proofs.Row.opened.Goals as goal
 
 pub returns-then-open_at : goal.returns-then-open_at

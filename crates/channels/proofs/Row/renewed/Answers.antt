@@ -1,10 +1,9 @@
 -- The ledger's own call, kept in index and row. Assumes nothing.
-use mathlib.Core.Path.{◌≡◌, ap, ap₂, ◌∙◌}
+use mathlib.Core.Path.{ap, ap₂, ◌∙◌}
 use Rattle.ledger_spec.specs.Calls.{Renew, answer_to}
 use Rattle.ledger.specs.State.{book_of, next_in}
 use Rattle.channels.specs.Told.{told_as}
 use Rattle.channels.specs.Answered.{left_of}
-use borrow.Author.Rules.{rules}
 use Rattle.channels.proofs.Row.renewed.Goals as goal
 
 pub returns : goal.returns

@@ -1,5 +1,5 @@
 -- The ledger's own call, kept in index and row; its two sets as nine words. Assumes nothing.
-use mathlib.Core.Path.{◌≡◌, ap, ap₂, ◌∙◌}
+use mathlib.Core.Path.{ap, ap₂, ◌∙◌}
 use Rattle.ledger_spec.specs.Calls.{Reply, answer_to}
 use Rattle.ledger.specs.State.{book_of, next_in}
 use Rattle.terms.specs.Paper.{Paper, answer}
@@ -10,7 +10,6 @@ use mathlib.Core.List.{List}
 use Prim.Native.Nat.{ℕ}
 use Rattle.channels.specs.Told.{told_as}
 use Rattle.channels.specs.Answered.{left_of}
-use borrow.Author.Rules.{rules}
 use Rattle.channels.proofs.Row.replied.Goals as goal
 
 pub returns : goal.returns

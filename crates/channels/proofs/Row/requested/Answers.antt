@@ -1,11 +1,10 @@
 -- The ledger's own call, kept; the place last asked moves beside 0. Assumes nothing.
-use mathlib.Core.Path.{◌≡◌, ap, ap₂, ◌∙◌}
+use mathlib.Core.Path.{ap, ap₂, ◌∙◌}
 use Rattle.ledger_spec.specs.Calls.{Request, answer_to}
 use Rattle.ledger.specs.State.{book_of, next_in}
 use Rattle.channels.specs.Told.{told_as, named_paper}
 use Rattle.channels.specs.Answered.{left_of, moved_of}
 use Rattle.channels.specs.declared.Answered.{Answered}
-use borrow.Author.Rules.{rules}
 use Rattle.channels.proofs.Row.requested.Goals as goal
 
 pub returns : goal.returns

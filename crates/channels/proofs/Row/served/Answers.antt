@@ -2,7 +2,6 @@
 use mathlib.Core.Path.{sym, ◌∙◌}
 use borrow.Author.Tests.{eq-eqb, ne_eqb}
 use Rattle.channels.specs.Answered.{served_of}
-use borrow.Author.Rules.{rules}
 use Rattle.channels.proofs.Row.served.Goals as goal
 
 pub returns-then-code-eq1 : goal.returns-then-code-eq1

@@ -10,7 +10,6 @@ use Rattle.ledger.specs.State.{book_of, asked_of}
 use Rattle.host_words.specs.Words.{book_in}
 use Rattle.channels_spec.specs.Calls.{pending_told}
 use Rattle.channels.proofs.Seam.{missing_told, held_told, first_told, last_told, nothing_more}
-use borrow.Author.Rules.{rules}
 use Rattle.channels.proofs.Row.shown.Goals as goal
 
 pub returns : goal.returns

@@ -7,7 +7,6 @@ use Rattle.ledger_spec.specs.State.{sound_of}
 use Rattle.ledger.specs.declared.Ledger.{Ledger}
 use Rattle.ledger.specs.State.{book_of}
 use Rattle.channels.proofs.Seam.{sound_is}
-use borrow.Author.Rules.{rules}
 use Rattle.channels.proofs.Row.sound.Goals as goal
 
 pub returns : goal.returns

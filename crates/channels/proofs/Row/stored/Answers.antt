@@ -1,5 +1,4 @@
 -- The index and the row of the ledger. Assumes nothing.
-use borrow.Author.Rules.{rules}
 use Rattle.channels.proofs.Row.stored.Goals as goal
 
 pub returns : goal.returns

@@ -1,11 +1,10 @@
 -- 13, 10, 22. Assumes nothing.
 use mathlib.Core.Path.{◌≡◌, sym, ◌∙◌}
 use mathlib.Core.Bool.{true, false, ◌&&◌}
-use borrow.Author.Tests.{lt-ltb, le-ltb, not-true, not-false}
+use borrow.Author.Tests.{lt-ltb, le-ltb}
 use Rattle.ledger_spec.specs.State.{sound_of}
 use Rattle.host_words.specs.Words.{book_in}
 use Rattle.channels.specs.Answered.{row_fits, taken_of}
-use borrow.Author.Rules.{rules}
 use Rattle.channels.proofs.Row.taken.Goals as goal
 
 pub returns-then-not-fits-sound : goal.returns-then-not-fits-sound

@@ -3,8 +3,7 @@
 use mathlib.Core.Path.{◌≡◌, sym, ◌∙◌}
 use mathlib.Core.Bool.{true}
 use native.Mathlib.Omega.{arith}
-use borrow.Author.Tests.{not-true, not-false, eq-eqb, ne_eqb}
-use borrow.Author.Rules.{rules}
+use borrow.Author.Tests.{eq-eqb, ne_eqb}
 use Rattle.ledger_spec.specs.State.{sound_of}
 use Rattle.ledger.specs.State.{book_of}
 use Rattle.ledger_spec.specs.Calls.{checked_of}

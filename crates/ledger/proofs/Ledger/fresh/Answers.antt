@@ -1,5 +1,4 @@
 -- Each field is that of the fresh book. Assumes nothing.
-use borrow.Author.Rules.{rules}
 use Rattle.ledger.proofs.Seam.{fresh_of}
 use Rattle.ledger.proofs.Ledger.fresh.Goals as goal
 

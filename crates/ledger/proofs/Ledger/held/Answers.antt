@@ -1,15 +1,14 @@
 -- The map's count of a sound state, else 13 and 0. Assumes nothing.
-use mathlib.Core.Bool.{not, true, false}
+use mathlib.Core.Bool.{true, false}
 use mathlib.Core.Path.{◌≡◌, sym, ap, ◌∙◌}
 use mathlib.Core.List.{[], ◌∷◌}
 use Prim.Native.Nat.{ℕ}
-use borrow.Author.Tests.{not-true, not-false}
 use borrow.Author.Rules.{rules}
 use Rattle.terms.specs.Paper.{answer}
 use Rattle.tick_map.specs.Bits.{Words}
 use Rattle.ledger_spec.specs.State.{sound_of}
 use Rattle.ledger.specs.State.{book_of, next_by}
-use Rattle.ledger_spec.specs.Calls.{own_number, checked_of, number_to, answer_to, values_of, done, taken, held_count}
+use Rattle.ledger_spec.specs.Calls.{own_number, checked_of, number_to, answer_to, values_of, done, held_count}
 use Rattle.ledger.proofs.Seam.{ledger_of_lem, held_of}
 use Rattle.ledger.proofs.Ledger.held.Goals as goal
 use Rattle.ledger.proofs.Ledger.held.Goals.{After-sound, Start}

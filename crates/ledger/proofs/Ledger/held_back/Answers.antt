@@ -1,5 +1,5 @@
 -- floor + 1 is not held, so no number is passed. Assumes nothing.
-use mathlib.Core.Path.{◌≡◌, ap, ap₂, ◌∙◌}
+use mathlib.Core.Path.{ap, ap₂, ◌∙◌}
 use mathlib.Core.List.{[], ◌∷◌}
 use Prim.Native.Nat.{ℕ, ◌+◌, max}
 use Rattle.terms.specs.declared.TickNumber.{TickNumber}

@@ -1,17 +1,16 @@
 -- Of a sound state no more are held than lie between floor and top, so neither difference goes
 -- below 0. Assumes nothing.
-use mathlib.Core.Bool.{not, true, false}
+use mathlib.Core.Bool.{true, false}
 use mathlib.Core.Path.{◌≡◌, sym, ap₂, ◌∙◌}
 use mathlib.Core.List.{[], ◌∷◌}
 use Prim.Native.Nat.{ℕ, ◌-◌, ◌≤◌}
 use native.Mathlib.Omega.{arith}
-use borrow.Author.Tests.{not-true, not-false}
 use borrow.Author.Rules.{rules}
 use Rattle.terms.specs.Paper.{answer}
 use Rattle.tick_map.specs.Bits.{Words}
 use Rattle.ledger_spec.specs.State.{sound_of}
 use Rattle.ledger.specs.State.{book_of, next_by}
-use Rattle.ledger_spec.specs.Calls.{own_number, checked_of, number_to, answer_to, values_of, done, taken, missing_count}
+use Rattle.ledger_spec.specs.Calls.{own_number, checked_of, number_to, answer_to, values_of, done, missing_count}
 use Rattle.ledger.proofs.Seam.{ledger_of_lem, held_of}
 use Rattle.ledger_spec.proofs.Rules.{rules_facts, held_fits}
 use Rattle.ledger.proofs.Ledger.missing.Goals as goal

@@ -10,7 +10,7 @@ use Rattle.tick_map.specs.Bits.{Words}
 use Rattle.ledger_spec.specs.State.{Book, largest}
 use Rattle.ledger_spec.specs.Calls.{Call, Ask, Between, elsewhere, tick_number, checked_of, own_number, number_to, between_count, values_of, done}
 use Rattle.ledger_spec.proofs.Given.{given_0}
-use Rattle.ledger.specs.State.{book_of, ledger_of}
+use Rattle.ledger.specs.State.{book_of}
 use Rattle.ledger.specs.Papers.{verdict_number}
 use Rattle.ledger.specs.declared.Ledger.{Ledger}
 use Rattle.ledger.proofs.Seam.{ledger_of_lem, done_answer, refused_answer, done_in, same_in, question_not_12}

@@ -2,15 +2,12 @@
 -- channel is its own. Assumes nothing.
 use mathlib.Core.Path.{◌≡◌, sym, ◌∙◌}
 use mathlib.Core.Bool.{true}
-use Prim.Native.Nat.{ℕ, ◌+◌, ◌≤◌, ◌<◌}
 use native.Mathlib.Omega.{arith}
-use borrow.Author.Tests.{not-true, not-false}
 use Rattle.terms.specs.Refusals.{number_of}
 use Rattle.terms.specs.declared.Refusal.TheVariants.{Range, Repeat, Far}
 use Rattle.tick_map.specs.Bits.{Words}
 use Rattle.ledger_spec.specs.State.{Book}
 use Rattle.ledger_spec.specs.Calls.{Tick, tick_number, number_to, values_of, done}
-use Rattle.ledger_spec.proofs.Numbers.{numbered}
 use Rattle.ledger.specs.State.{book_of}
 use Rattle.ledger.proofs.Seam.{own_fine, own_range, own_below, own_far, own_held, own_none, done_answer, refused_answer, done_in, refused_in}
 use borrow.Author.Rules.{rules}

@@ -3,7 +3,6 @@ use mathlib.Core.Path.{ap, ◌∙◌}
 use Prim.Native.Nat.{◌≤◌, ◌<◌}
 use native.Mathlib.Omega.{arith}
 use borrow.Author.Tests.{lt-ltb, le-ltb}
-use borrow.Author.Rules.{rules}
 use Rattle.terms.specs.declared.ChannelNumber.{ChannelNumber}
 use Rattle.ledger.specs.State.{ledger_of}
 use Rattle.ledger_spec.specs.Calls.{open_of, fresh}

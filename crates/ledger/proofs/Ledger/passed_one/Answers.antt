@@ -1,6 +1,6 @@
 -- The next number is not held, so one alone is passed, and its place is clear again. Assumes
 -- nothing.
-use mathlib.Core.Path.{◌≡◌, ap, ap₂, ◌∙◌}
+use mathlib.Core.Path.{ap, ap₂, ◌∙◌}
 use mathlib.Core.List.{[], ◌∷◌}
 use Prim.Native.Nat.{ℕ, max}
 use Rattle.terms.specs.declared.TickNumber.{TickNumber}

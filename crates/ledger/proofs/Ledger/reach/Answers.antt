@@ -1,7 +1,6 @@
 -- Only status 4 reaches above the floor. Assumes nothing.
 use mathlib.Core.Path.{sym, ap, ◌∙◌}
 use Prim.Native.Nat.{ℕ, ◌-◌}
-use borrow.Author.Rules.{rules}
 use borrow.Author.Tests.{eq-eqb, ne_eqb}
 use Rattle.ledger_spec.specs.Calls.{last_of, reach}
 use Rattle.ledger.specs.State.{asked_of, book_of}

@@ -1,8 +1,6 @@
 -- A sound state's pending request is cleared, else 13 and the very ledger. Assumes nothing.
-use mathlib.Core.Bool.{not, true, false}
-use mathlib.Core.Path.{◌≡◌, refl, sym, ◌∙◌}
-use borrow.Author.Tests.{not-true, not-false}
-use borrow.Author.Rules.{rules}
+use mathlib.Core.Bool.{true, false}
+use mathlib.Core.Path.{◌≡◌, sym, ◌∙◌}
 use Rattle.ledger_spec.specs.State.{sound_of}
 use Rattle.ledger.specs.State.{book_of, next_by}
 use Rattle.ledger_spec.specs.Calls.{own_number, checked_of, number_to, answer_to, values_of, done}

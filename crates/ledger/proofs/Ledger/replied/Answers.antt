@@ -1,11 +1,10 @@
 -- Where nothing is reached the short way does the same. Assumes nothing.
-use mathlib.Core.Path.{◌≡◌, sym, ap, ◌∙◌}
+use mathlib.Core.Path.{sym, ap, ◌∙◌}
 use mathlib.Core.List.{[], ◌∷◌}
 use Prim.Native.Nat.{ℕ, ◌+◌}
 use Rattle.terms.specs.Paper.{answer}
 use Rattle.ledger_spec.specs.Calls.{gave_up, handed, replied}
 use Rattle.ledger.specs.State.{book_of, ledger_of}
-use borrow.Author.Rules.{rules}
 use Rattle.ledger.proofs.Ledger.replied.Goals as goal
 
 pub returns-then-w-eq0 : goal.returns-then-w-eq0

@@ -4,13 +4,11 @@ use mathlib.Core.Path.{◌≡◌, sym, ap, ◌∙◌}
 use mathlib.Core.List.{[], ◌∷◌}
 use Prim.Native.Nat.{ℕ, ◌+◌}
 use native.Mathlib.Omega.{arith}
-use borrow.Author.Rules.{rules}
 use Rattle.terms.specs.Paper.{answer}
 use Rattle.terms.specs.Refusals.{number_of}
-use Rattle.tick_map.specs.Bits.{Words}
 use Rattle.ledger_spec.specs.State.{Book, StateRules}
 use Rattle.ledger.specs.State.{book_of, ledger_of}
-use Rattle.ledger_spec.specs.Calls.{Call, own_number, number_to, reach, gave_up, handed, replied, values_of, done, Reply}
+use Rattle.ledger_spec.specs.Calls.{Call, own_number, number_to, gave_up, handed, replied, values_of, done, Reply}
 use Rattle.ledger_spec.proofs.Numbers.{checked_facts}
 use Rattle.ledger_spec.proofs.Rules.{rules_test}
 use Rattle.ledger_spec.proofs.Steps.{reach_near}

@@ -1,8 +1,6 @@
 -- Each return is one check: 17, 16, none. Assumes nothing.
 use mathlib.Core.Path.{◌≡◌, sym, ◌∙◌}
 use mathlib.Core.Bool.{true, false}
-use borrow.Author.Tests.{not-true, not-false}
-use borrow.Author.Rules.{rules}
 use Rattle.ledger.specs.State.{book_of}
 use Rattle.ledger_spec.specs.Calls.{reply_status, own_number}
 use Rattle.ledger.proofs.Ledger.reply_verdict.Goals as goal

@@ -2,10 +2,9 @@
 -- Assumes nothing.
 use mathlib.Core.Path.{◌≡◌, sym, ap, ◌∙◌}
 use native.Mathlib.Omega.{arith}
-use borrow.Author.Rules.{rules}
 use Rattle.terms.specs.Refusals.{number_of}
 use Rattle.ledger_spec.specs.State.{Book}
-use Rattle.ledger.specs.State.{book_of, ledger_of}
+use Rattle.ledger.specs.State.{book_of}
 use Rattle.ledger_spec.specs.Calls.{Call, own_number, number_to, values_of, done, Request}
 use Rattle.ledger.specs.Papers.{verdict_number}
 use Rattle.ledger.proofs.Seam.{judged, done_answer, refused_answer, done_in, same_in, request_not_12}

@@ -2,7 +2,6 @@
 use mathlib.Core.Path.{◌≡◌}
 use native.Mathlib.Omega.{arith}
 use borrow.Author.Tests.{eq-eqb, ne_eqb}
-use borrow.Author.Rules.{rules}
 use Rattle.ledger.specs.State.{book_of}
 use Rattle.ledger_spec.specs.Calls.{own_number}
 use Rattle.ledger.proofs.Ledger.request_verdict.Goals as goal

@@ -1,7 +1,7 @@
 -- Nothing is reached, so nothing is given up, nor passed. Assumes nothing.
 use mathlib.Core.Path.{◌≡◌, sym, ap, ap₂, ◌∙◌}
 use mathlib.Core.List.{[], ◌∷◌}
-use Prim.Native.Nat.{ℕ, ◌+◌, ◌≤◌}
+use Prim.Native.Nat.{ℕ, ◌+◌}
 use native.Mathlib.Omega.{arith}
 use Rattle.terms.specs.declared.TickNumber.{TickNumber}
 use Rattle.terms.specs.Counters.{tick_of}
@@ -11,7 +11,6 @@ use Rattle.ledger_spec.proofs.Rules.{rules_facts}
 use Rattle.ledger_spec.proofs.GivenUp.{replied_0, values_0}
 use Rattle.ledger.specs.State.{book_of, ledger_of}
 use Rattle.ledger.proofs.Seam.{sound_low, empty_set}
-use borrow.Author.Rules.{rules}
 use Rattle.ledger.proofs.Ledger.settled.Goals as goal
 
 pub overflow_add-floor : goal.overflow_add-floor

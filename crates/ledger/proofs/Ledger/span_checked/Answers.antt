@@ -1,9 +1,8 @@
 -- A refusal of the outer checks stands; else the span's own number is the one. Assumes nothing.
-use mathlib.Core.Path.{◌≡◌, sym, ap, ◌∙◌}
+use mathlib.Core.Path.{sym, ap, ◌∙◌}
 use Rattle.terms.specs.Refusals.{number_of, refusal_not_0}
 use Rattle.ledger.specs.Papers.{verdict_number}
 use Rattle.ledger.proofs.Seam.{checked_bad, checked_fine}
-use borrow.Author.Rules.{rules}
 use Rattle.ledger.proofs.Ledger.span_checked.Goals as goal
 
 pub returns-in-Bad : goal.returns-in-Bad

@@ -1,13 +1,11 @@
 -- The verdict of the outer checks has the call's number where it is a refusal; where it is none,
 -- the ledger is sound and the channel its own. Assumes nothing.
 use mathlib.Core.Path.{◌≡◌, sym, ap, ap₂, ◌∙◌}
-use mathlib.Core.Bool.{true}
 use Prim.Native.Nat.{ℕ, max}
-use borrow.Author.Rules.{rules}
 use lib.Dec.{eqb}
 use Rattle.terms.specs.Paper.{pick}
 use Rattle.terms.specs.Refusals.{number_of, refusal_not_0}
-use Rattle.ledger_spec.specs.State.{Book, sound_of}
+use Rattle.ledger_spec.specs.State.{Book}
 use Rattle.ledger_spec.specs.Calls.{Call, Tick, number_to, answer_to}
 use Rattle.ledger.specs.State.{book_of, topped, next_in}
 use Rattle.ledger.specs.declared.Ledger.{Ledger}

@@ -5,22 +5,9 @@ use mathlib.Core.Path.{sym, ◌∙◌}
 use Rattle.octets.specs.Overlays.{laid_one}
 use Rattle.private.specs.Spans.{summed_last}
 use borrow.Author.Rules.{rules}
-use Rattle.scrub.proofs.store_sum.Statement.{statement}
-use Rattle.scrub.proofs.store_sum.Tie as tie
+use Rattle.scrub.proofs.store_sum.Goals as goal
 
-add-buf : tie.Need-overflow-add-buf
-add-buf c = search rules
-
-slice-write-buf : tie.Need-slice-write-buf
-slice-write-buf c = search rules
-
-same_length : tie.Need-same-length
-same_length c = search rules
-
-returns : tie.Need-returns
+pub returns : goal.returns
 returns c =
     let a = c.args in
     sym (laid_one (a.n + 3) a.v a.buf.now (omega arith)) ∙ summed_last a.n a.v a.buf.now (omega arith) c.requires.1.0 c.requires.1.1
-
-pub store-sum-spec : {M : Type 1} → statement M
-store-sum-spec = tie.close (tie.spec add-buf slice-write-buf same_length returns)
