@@ -1,3 +1,2 @@
 // No code: what was promised of a session (CR 12), as theorems over the crates below.
 #![tactic(auto)]
-
