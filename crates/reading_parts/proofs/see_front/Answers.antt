@@ -1,0 +1,15 @@
+-- `see_front`: what the front tells stays; else the frame is cut, or it is a long one. Assumes
+-- nothing.
+use Rattle.std.proofs.Common.{refl, length-append, rules}
+use borrow.Author.Tests.{not-true, not-false}
+use Rattle.reading_parts.specs.PartLaws.{seen_told, seen_cut, seen_behind}
+use Rattle.reading_parts.proofs.see_front.Goals as goal
+
+pub returns-then-not-waits : goal.returns-then-not-waits
+returns-then-not-waits c = let s = c in seen_told 512 _ _ _ s.requires c.see-seen.ensures _ c.waits.ensures (c.if-not-waits.true)
+
+pub returns-then-is_cut : goal.returns-then-is_cut
+returns-then-is_cut c = let s = c in seen_cut 512 _ _ _ s.requires c.see-seen.ensures _ c.waits.ensures _ _ (length-append s.args.first.now s.args.second.now) _ c.is_cut.ensures (c.if-not-waits.false) c.if-is_cut.true
+
+pub see_long-requires : goal.see_long-requires
+see_long-requires c = let s = c in seen_behind 512 _ _ _ s.requires c.see-seen.ensures _ c.waits.ensures _ _ (length-append s.args.first.now s.args.second.now) _ c.is_cut.ensures (c.if-not-waits.false) refl c.if-is_cut.false
