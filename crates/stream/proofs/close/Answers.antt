@@ -1,0 +1,6 @@
+-- `close`: the closing call, which brings no byte. Assumes nothing.
+use borrow.Author.Rules.{rules}
+use Rattle.stream.proofs.close.Goals as goal
+
+pub returns : goal.returns
+returns c = c.call.ensures

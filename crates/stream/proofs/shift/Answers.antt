@@ -1,0 +1,12 @@
+-- `shift`: the bytes are moved and those behind them cleared, or there is nothing to move.
+-- Assumes nothing.
+use native.Mathlib.Omega.{arith}
+use borrow.Author.Rules.{rules}
+use Rattle.stream.specs.StoreLaws.{shifted, shifted_none}
+use Rattle.stream.proofs.shift.Goals as goal
+
+pub returns-then-a-gt0 : goal.returns-then-a-gt0
+returns-then-a-gt0 c = let s = c in shifted s.args.a s.args.e s.args.kept.now s.requires.0 s.requires.1 _ _ c.down.ensures c.clear.ensures
+
+pub returns-else-a-gt0 : goal.returns-else-a-gt0
+returns-else-a-gt0 c = let s = c in shifted_none s.args.a s.args.e s.args.kept.now s.requires.0 s.requires.1 (omega arith)
