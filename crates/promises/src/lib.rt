@@ -2,4 +2,3 @@
 // crates below. Beside it stand `promises_frames` (demand 2), `promises_ledger` (demand 3),
 // `promises_streams` (a capture while it arrives, CR 1), and a crate each for other requests.
 #![tactic(auto)]
-
