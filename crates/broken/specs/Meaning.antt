@@ -13,7 +13,8 @@ use Rattle.rules.specs.Widths.{field, entry_field, fixed}
 use Rattle.rules.specs.Fields.{digits, s001_ok, s002_ok, p001_ok, p002_ok, m201_ok, pair_ok, m102_values_ok, m102_ok, tail_ok, entry_size, entry_ok, entries_ok, fields_ok}
 use Rattle.rules.specs.Rules.{FieldRules, Pair, pair_1, pair_2, pair_3_MD101, pair_3_MD102, pair_12, pair_13, pair_14}
 use Rattle.rules.specs.Sizes.{Wide, size_wide}
-use Rattle.rules.specs.Meaning.{fields_say, pair_says}
+use Rattle.rules.specs.Meaning.{pair_says}
+use Rattle.rules.proofs.Meaning.{fields_say}
 use Rattle.broken.specs.declared.Broken.{Broken}
 use Rattle.broken.specs.Broken.{Field, field_at, type_ok, count_ok, entry_fields, entries_fields, entries_of, fixed_fields, fields_of, none, told, lowest_from, broken_of}
 

@@ -1,2 +1,4 @@
 pub mod OneAnswer
 pub mod RuledOut
+pub mod Times
+pub mod Years

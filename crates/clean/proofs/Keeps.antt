@@ -6,7 +6,7 @@ use mathlib.Core.List.{List, [], ◌∷◌}
 use Rattle.terms.specs.Paper.{answer}
 use Rattle.private.specs.Into.{into_answer}
 use Rattle.reading.specs.Seen.{seen_of}
-use Rattle.reading.specs.SeenLaws.{seen_answer, seen_size}
+use Rattle.reading.proofs.SeenLaws.{seen_answer, seen_size}
 use Rattle.clean_spec.specs.Laid.{laid_reads, laid_long}
 use Rattle.clean.specs.declared.Kept.{Kept}
 use Rattle.clean.specs.Passes.{kept_of}

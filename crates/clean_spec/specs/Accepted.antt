@@ -8,12 +8,13 @@ use Rattle.std.proofs.Math.ListN.{length}
 use Rattle.std.proofs.Math.Seq.{length-take-le}
 use Rattle.terms.specs.Cases.{two}
 use Rattle.private.specs.Scrub.{scrubbed}
-use Rattle.private.specs.Laws.{length_always}
+use Rattle.private.proofs.Laws.{length_always}
 use Rattle.walk_laws.specs.Walk.{Says, frame, more, bad, Sight, Mode, within, seeking, after, next, found, noted, sights_of}
 use Rattle.walk_laws.specs.Frames.{joined, each_of, front_of, taken_of, accepted_of}
 use Rattle.reading.specs.declared.Seen.{Seen}
 use Rattle.reading.specs.Seen.{seen_of, seen_number, says_of}
-use Rattle.reading.specs.SeenLaws.{says_frame, frame_says, more_says, seen_fits}
+use Rattle.reading.specs.SeenLaws.{says_frame, frame_says, more_says}
+use Rattle.reading.proofs.SeenLaws.{seen_fits}
 use Rattle.walk_spec.specs.Walk.{sights}
 use Rattle.clean_spec.specs.Clean.{frames_in, clean_of}
 

@@ -12,7 +12,7 @@ use Rattle.walk_laws.specs.Literal.{from_of, sight_at, from_end}
 use Rattle.walk_laws.specs.Frames.{joined}
 use Rattle.reading.specs.declared.Seen.{Seen}
 use Rattle.reading.specs.Seen.{seen_of, seen_number, says_of}
-use Rattle.reading.specs.SeenLaws.{seen_answer}
+use Rattle.reading.proofs.SeenLaws.{seen_answer}
 use Rattle.walk_spec.specs.Onward.{Goes, goes_frame, goes_found, goes_none}
 use Rattle.walk_spec.specs.Walk.{sights, accepts}
 use Rattle.clean_spec.specs.Clean.{cut_at, frames_in, found_by, found_in, found_of}

@@ -10,10 +10,11 @@ use Rattle.frame_spec.specs.Frame.{body_length, read_of}
 use Rattle.frame_spec.specs.GivenRead.{read_given}
 use Rattle.private.specs.Scrub.{scrubbed}
 use Rattle.private.specs.Into.{into_answer, into_leaves}
-use Rattle.private.specs.IntoLaws.{into_room, into_laid, into_kept, into_given_0}
+use Rattle.private.specs.IntoLaws.{into_kept}
+use Rattle.private.proofs.IntoLaws.{into_room, into_laid, into_given_0}
 use Rattle.reading.specs.declared.Seen.{Seen}
 use Rattle.reading.specs.Seen.{seen_of}
-use Rattle.reading.specs.SeenLaws.{seen_size, seen_blank}
+use Rattle.reading.proofs.SeenLaws.{seen_size, seen_blank}
 use Rattle.clean_spec.specs.Turns.{scrubbed_none}
 
 pub nothing_laid : (n : ℕ) (d : List ℕ) → d ≡ laid_if_room n [] d

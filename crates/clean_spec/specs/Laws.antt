@@ -8,11 +8,12 @@ use Rattle.std.proofs.Math.Seq.{take_at, drop_at}
 use Rattle.frame_spec.specs.Frame.{body_length, read_of}
 use Rattle.private.specs.Scrub.{scrubbed, spans_of}
 use Rattle.private.specs.Paint.{Inside}
-use Rattle.private.specs.Laws.{length_always, again_always, scrub_fills}
+use Rattle.private.proofs.Laws.{length_always, again_always, scrub_fills}
 use Rattle.walk_laws.specs.Walk.{frame, within}
 use Rattle.walk_laws.specs.Frames.{joined, each_of, Frames, f_nil, f_cons, tagged_of, reads_of, frames_sights, reads_accepted, accepted_frames}
 use Rattle.reading.specs.Seen.{seen_of, seen_number, says_of}
-use Rattle.reading.specs.SeenLaws.{seen_answer, seen_kept, seen_fits, frame_says}
+use Rattle.reading.specs.SeenLaws.{frame_says}
+use Rattle.reading.proofs.SeenLaws.{seen_answer, seen_kept, seen_fits}
 use Rattle.walk_spec.specs.Walk.{sights}
 use Rattle.clean_spec.specs.Clean.{frames_in, clean_of}
 use Rattle.clean_spec.specs.Accepted.{accepted_in, frames_accepted, clean_is, scrubbed_length}

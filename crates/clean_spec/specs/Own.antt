@@ -9,11 +9,13 @@ use Rattle.frame_spec.specs.Outcomes.{good, good_reads}
 use Rattle.frame_view.specs.declared.View.{View}
 use Rattle.frame_view.specs.View.{view_of}
 use Rattle.private.specs.Scrub.{scrubbed}
-use Rattle.private.specs.Laws.{refused_same, scrub_reads, scrub_done, scrub_view}
-use Rattle.private.specs.IntoLaws.{own_not_more}
+use Rattle.private.specs.Laws.{refused_same}
+use Rattle.private.proofs.Laws.{scrub_reads, scrub_done, scrub_view}
+use Rattle.private.proofs.IntoLaws.{own_not_more}
 use Rattle.walk_laws.specs.Walk.{frame}
 use Rattle.reading.specs.Seen.{shown, seen_of, says_of}
-use Rattle.reading.specs.SeenLaws.{seen_frame, seen_answer, seen_size, seen_kept, frame_says, more_says}
+use Rattle.reading.specs.SeenLaws.{frame_says, more_says}
+use Rattle.reading.proofs.SeenLaws.{seen_frame, seen_answer, seen_size, seen_kept}
 
 -- AN ACCEPTED FRAME, CUT TO ITS OWN BYTES
 

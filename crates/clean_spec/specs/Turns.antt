@@ -7,13 +7,13 @@ use Rattle.frame_spec.specs.Frame.{body_length, read_of}
 use Rattle.frame_spec.specs.Outcomes.{good}
 use Rattle.frame_spec.specs.Measures.{fits}
 use Rattle.private.specs.Scrub.{scrubbed}
-use Rattle.private.specs.Laws.{length_always}
+use Rattle.private.proofs.Laws.{length_always}
 use Rattle.walk_laws.specs.Walk.{Sight}
 use Rattle.walk_laws.specs.Literal.{sight_at}
 use Rattle.walk_laws.specs.Frames.{joined, each_of}
 use Rattle.reading.specs.declared.Seen.{Seen}
 use Rattle.reading.specs.Seen.{seen_of, seen_number, says_of}
-use Rattle.reading.specs.SeenLaws.{seen_answer, seen_size}
+use Rattle.reading.proofs.SeenLaws.{seen_answer, seen_size}
 use Rattle.walk_spec.specs.Onward.{onward_of, onward_frame, refused_size, goes_onward}
 use Rattle.clean_spec.specs.Clean.{frames_in, clean_in}
 use Rattle.clean_spec.specs.Steps.{Steps}

@@ -7,7 +7,7 @@ use mathlib.Core.List.{List}
 use denote.Ref.{Bor}
 use Rattle.terms.specs.OneAnswer.{OneAnswer}
 use Rattle.terms.specs.declared.Verdict.{Verdict}
-use Rattle.terms.specs.Verdicts.{verdict_one}
+use Rattle.terms.proofs.Verdicts.{verdict_one}
 use Rattle.entries.specs.declared.Entries.{Entries}
 use Rattle.entries.specs.declared.Answer.{Answer}
 use Rattle.entries.specs.declared.Opened.{Opened}

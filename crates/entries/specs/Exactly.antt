@@ -7,7 +7,8 @@ use Rattle.terms.specs.Cases.{two, less}
 use Rattle.octets.specs.Octets.{be}
 use Rattle.rules.specs.declared.Kind.TheVariants.{M102}
 use Rattle.rules.specs.Fields.{fields_ok}
-use Rattle.rules.specs.Meaning.{fields_say, size_is, denied, unsaid}
+use Rattle.rules.specs.Meaning.{size_is, denied, unsaid}
+use Rattle.rules.proofs.Meaning.{fields_say}
 use Rattle.entries.specs.Reader.{open_of, size_in, placed, stands, step_of, place_after}
 use Rattle.entries.specs.Given.{Opens0, Opens3, Opens4, Opens6, OpensWith, Kth, Row20, body_below, no_place, passes_end, Stands}
 use Rattle.entries.specs.Outcomes.{not_le, open_long, open_length, open_field, open_fine, step_done, step_20, after_done, after_20, entry_number}

@@ -2,7 +2,8 @@
 use Rattle.std.specs.Prelude.{ℕ, ◌≡◌, refl, List, [], ◌∷◌, get_or}
 use Rattle.std.proofs.Common.{sym, ap, ◌∙◌}
 use Rattle.terms.specs.Paper.{Paper, answer, refusal}
-use Rattle.terms.specs.Refusals.{number_of, told, told_refused}
+use Rattle.terms.specs.Refusals.{number_of, told}
+use Rattle.terms.proofs.Refusals.{told_refused}
 use Rattle.entries.specs.declared.Entry.{Entry}
 use Rattle.entries.specs.declared.Entry.TheVariants.{Short, Long}
 use Rattle.entries.specs.declared.Answer.{Answer}

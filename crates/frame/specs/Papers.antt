@@ -2,7 +2,8 @@
 use Rattle.std.specs.Prelude.{◌≡◌, ℕ, List, [], ◌∷◌, ◌==◌, slice_index, refl}
 use Rattle.std.proofs.Common.{sym, ap, ◌∙◌}
 use Rattle.terms.specs.Paper.{Paper, answer, refusal, pick}
-use Rattle.terms.specs.Refusals.{number_of, told, told_refused}
+use Rattle.terms.specs.Refusals.{number_of, told}
+use Rattle.terms.proofs.Refusals.{told_refused}
 use Rattle.terms.specs.Counters.{session_of}
 use Rattle.rules.specs.Table.{kind_of}
 use Rattle.frame.specs.declared.Read.{Read}

@@ -5,12 +5,14 @@ use Rattle.std.proofs.Common.{◌∙◌, inl, inr, arith}
 use Rattle.terms.specs.Paper.{Paper, one_number}
 use Rattle.octets.specs.Octets.{be, sum_of, sum8}
 use Rattle.calendar.specs.Calendar.{RealTime, real_time}
-use Rattle.calendar.specs.Times.{time_says}
+use Rattle.calendar.proofs.Times.{time_says}
 use Rattle.rules.specs.declared.Kind.{Kind}
 use Rattle.rules.specs.Table.{kind_of, known, suits}
 use Rattle.rules.specs.Rules.{LengthRule, FieldRules}
-use Rattle.rules.specs.Outcomes.{measure_type, measure_long, measure_length, measure_fine, judge_time, judge_field, judge_fine, Measured, m_type, m_long, m_length, m_fine, measured, Judged, j_time, j_field, j_fine, judged}
-use Rattle.rules.specs.Meaning.{length_says, fields_say, type_is, type_known, type_says, rowed, denied, unsaid}
+use Rattle.rules.specs.Outcomes.{measure_type, measure_long, measure_length, measure_fine, Measured, m_type, m_long, m_length, m_fine, measured, Judged, j_time, j_field, j_fine}
+use Rattle.rules.proofs.Outcomes.{judge_time, judge_field, judge_fine, judged}
+use Rattle.rules.specs.Meaning.{length_says, type_is, type_known, type_says, rowed, denied, unsaid}
+use Rattle.rules.proofs.Meaning.{fields_say}
 use Rattle.frame_spec.specs.Frame.{msg_type, sending_time, body_length, body, plain, check_sum, read_of, Whole}
 use Rattle.frame_spec.specs.Measures.{fits}
 use Rattle.frame_spec.specs.Outcomes.{measure, judgement, Reading, r_short, r_measure, r_cut, r_sum, r_judged, r_frame, reading, read_short, read_measured, read_cut, read_sum, read_judgement, good_reads}

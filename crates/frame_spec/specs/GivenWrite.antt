@@ -3,12 +3,14 @@ use Rattle.std.specs.Prelude.{ℕ, zero, suc, ◌+◌, ◌<◌, ◌≤◌, ◌�
 use Rattle.std.proofs.Common.{◌∙◌, arith}
 use Rattle.terms.specs.Paper.{Paper, one_number}
 use Rattle.calendar.specs.Calendar.{RealTime, real_time}
-use Rattle.calendar.specs.Times.{time_says}
+use Rattle.calendar.proofs.Times.{time_says}
 use Rattle.rules.specs.declared.Kind.{Kind}
 use Rattle.rules.specs.Table.{kind_of, known}
 use Rattle.rules.specs.Rules.{LengthRule, FieldRules}
-use Rattle.rules.specs.Outcomes.{measure_type, measure_long, measure_length, measure_fine, judge_time, judge_field, judge_fine, Measured, m_type, m_long, m_length, m_fine, measured, Judged, j_time, j_field, j_fine, judged}
-use Rattle.rules.specs.Meaning.{length_says, fields_say, type_is, type_known, type_says, rowed, denied, unsaid}
+use Rattle.rules.specs.Outcomes.{measure_type, measure_long, measure_length, measure_fine, Measured, m_type, m_long, m_length, m_fine, measured, Judged, j_time, j_field, j_fine}
+use Rattle.rules.proofs.Outcomes.{judge_time, judge_field, judge_fine, judged}
+use Rattle.rules.specs.Meaning.{length_says, type_is, type_known, type_says, rowed, denied, unsaid}
+use Rattle.rules.proofs.Meaning.{fields_say}
 use Rattle.frame_spec.specs.Measures.{fits}
 use Rattle.frame_spec.specs.Write.{Message, write_of}
 use Rattle.frame_spec.specs.WriteLaws.{measure_in, judgement_in, Sound, Writing, w_measured, w_judged, w_room, w_done, writing, write_measured, write_judged, write_room, write_done}

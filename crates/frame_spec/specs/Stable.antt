@@ -7,7 +7,8 @@ use Rattle.terms.specs.Paper.{Paper, one_number}
 use Rattle.octets.specs.Octets.{be, sum8}
 use Rattle.octets.specs.Numerals.{numeral_append}
 use Rattle.rules.specs.Table.{kind_of}
-use Rattle.rules.specs.Outcomes.{measure_same, judge_same, measure_not_more, judge_not_more}
+use Rattle.rules.specs.Outcomes.{measure_same, judge_same, measure_not_more}
+use Rattle.rules.proofs.Outcomes.{judge_not_more}
 use Rattle.frame_spec.specs.Frame.{msg_type, sending_time, msg_seq_num, body_length, body, plain, check_sum, read_of, Whole}
 use Rattle.frame_spec.specs.Measures.{fits}
 use Rattle.frame_spec.specs.Outcomes.{accepted, measure, judgement, Reading, r_short, r_measure, r_cut, r_sum, r_judged, r_frame, reading, read_measured, read_sum, read_judgement, read_frame}

@@ -25,7 +25,7 @@ use Rattle.ledger.specs.declared.Ledger.{Ledger}
 use Rattle.ledger.specs.State.{ledger_of}
 use Rattle.walk_spec.specs.Walk.{walk_of, fits_in, walk_answer, walk_book, table_of, walk_leaves}
 use Rattle.walk_spec.specs.Literal.{Walk, literal_walk}
-use Rattle.walk_spec.specs.LiteralLaws.{literal_walk_lem}
+use Rattle.walk_spec.proofs.LiteralLaws.{literal_walk_lem}
 use Rattle.walk_spec.proofs.Demand3.{walk_demand_3}
 use Rattle.listing_text.specs.Laws.{length_table, listing_table}
 use Rattle.listing_text.specs.Whole.{listing_of}

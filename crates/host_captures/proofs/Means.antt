@@ -23,7 +23,7 @@ use Rattle.ledger_spec.proofs.Given.{given_13}
 use Rattle.ledger_spec.proofs.Numbers.{checked_test}
 use Rattle.ledger.specs.State.{book_of}
 use Rattle.walk_spec.specs.Literal.{Walk, literal_walk}
-use Rattle.walk_spec.specs.LiteralLaws.{literal_walk_lem}
+use Rattle.walk_spec.proofs.LiteralLaws.{literal_walk_lem}
 use Rattle.walk_spec.specs.Walk as walks
 use Rattle.clean_spec.specs.Checks.{First, Differs, d_none, d_first, differs, check_clean}
 use Rattle.clean_spec.specs.Clean as cleans

@@ -38,9 +38,11 @@ use Rattle.entries.specs.Given.{Stands}
 use Rattle.entries.specs.Outcomes.{step_done, entry_short, entry_long}
 use Rattle.entries.specs.Places.{stands_says}
 use Rattle.entries.specs.Reader.{step_of}
-use Rattle.private.specs.Laws.{scrub_number, answer_refused}
+use Rattle.private.specs.Laws.{answer_refused}
+use Rattle.private.proofs.Laws.{scrub_number}
 use Rattle.private.specs.Private.{private_of, span_at}
-use Rattle.private.specs.Cover.{Covers, spans_cover}
+use Rattle.private.specs.Cover.{Covers}
+use Rattle.private.proofs.Cover.{spans_cover}
 use Rattle.private.specs.Parts.{SpanGiven}
 use Rattle.private.specs.PartsLaws.{span_number, span_told_lem, span_given}
 use Rattle.private.specs.Scrub.{scrub_answer}

@@ -13,8 +13,8 @@ use Rattle.terms.specs.Paper.{Paper}
 use Rattle.terms.specs.Cases.{same}
 use Rattle.step_spec.specs.Frame.{step_read_of}
 use Rattle.step_spec.specs.Given.{Answer, numeral, Reads, Writes}
-use Rattle.step_spec.specs.GivenRead.{read_numbered, read_given}
-use Rattle.step_spec.specs.GivenWrite.{write_given}
+use Rattle.step_spec.proofs.GivenRead.{read_numbered, read_given}
+use Rattle.step_spec.proofs.GivenWrite.{write_given}
 use Rattle.step_scrub.specs.Scrubbed.{step_scrub_of}
 use Rattle.host_step.proofs.rk_step_read.Reads as read
 use Rattle.host_step.proofs.rk_step_read.Kinds as read-kinds

@@ -4,7 +4,8 @@ use Rattle.std.specs.Prelude.{◌≡◌, refl, List, [], ◌∷◌, ℕ, get_or}
 use Rattle.std.proofs.Common.{sym, ap, ap₂, ◌∙◌}
 use Rattle.terms.specs.Paper.{Paper, answer, refusal}
 use Rattle.terms.specs.Counters.{tick_of}
-use Rattle.terms.specs.Refusals.{number_of, told, told_refused}
+use Rattle.terms.specs.Refusals.{number_of, told}
+use Rattle.terms.proofs.Refusals.{told_refused}
 use Rattle.terms.specs.declared.TickNumber.{TickNumber}
 use Rattle.tick_map.specs.declared.Map.{Map}
 use Rattle.tick_map.specs.Bits.{bits_in, map_of}

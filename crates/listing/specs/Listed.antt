@@ -9,7 +9,7 @@ use Rattle.listing_text.specs.Lengths.{summary_most}
 use Rattle.walk.specs.declared.Walked.{Walked}
 use Rattle.walk_spec.specs.WalkLaws.{records_few}
 use Rattle.walk_spec.specs.Literal.{Walk, literal_walk}
-use Rattle.walk_spec.specs.LiteralLaws.{literal_walk_lem}
+use Rattle.walk_spec.proofs.LiteralLaws.{literal_walk_lem}
 use Rattle.walk.specs.Promises.{Listed}
 use Rattle.listing_text.specs.Whole.{listing_of}
 use Rattle.walk_spec.specs.Walk.{table_of}

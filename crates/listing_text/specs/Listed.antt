@@ -14,7 +14,7 @@ use Rattle.listing_text.specs.Text.{summary_of}
 use Rattle.walk_spec.specs.Walk.{calls_of}
 use Rattle.walk_spec.specs.CallLaws.{walk_ledger}
 use Rattle.walk_spec.specs.Literal.{Walk, literal_walk}
-use Rattle.walk_spec.specs.LiteralLaws.{literal_walk_lem}
+use Rattle.walk_spec.proofs.LiteralLaws.{literal_walk_lem}
 use Rattle.listing_text.specs.Whole.{lines_of}
 
 -- "`missing` is the ledger's"

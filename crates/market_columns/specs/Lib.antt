@@ -5,6 +5,5 @@ pub mod NumberSteps
 pub mod Columns
 pub mod ColumnLaws
 pub mod Tables
-pub mod ColumnSteps
 pub mod NumberPut
 pub mod Values

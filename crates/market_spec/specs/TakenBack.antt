@@ -8,7 +8,8 @@ use Rattle.octets.specs.Octets.{be, bytes_of, Bytes}
 use Rattle.octets.specs.Numerals.{length_digits, numeral_drop, be_front, bytes_of_be, below_drop}
 use Rattle.digits.specs.Laws.{both}
 use Rattle.market_columns.specs.Numbers.{spaces}
-use Rattle.market_columns.specs.NumberLaws.{units_below, fits_number}
+use Rattle.market_columns.specs.NumberLaws.{fits_number}
+use Rattle.market_columns.proofs.NumberLaws.{units_below}
 use Rattle.market_columns.specs.Columns.{Column, K, S, N, C, U, blank}
 use Rattle.market_columns.specs.Values.{Value, Fixed, Number, Text, fits}
 use Rattle.market_spec.specs.File.{fault, fine, place_of}

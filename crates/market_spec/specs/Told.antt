@@ -12,9 +12,8 @@ use Rattle.market_columns.specs.Pieces.{digits_either}
 use Rattle.market_columns.specs.Columns.{Column, wide, column_ok, alike}
 use Rattle.market_columns.specs.ColumnLaws.{alike_is, alike_self}
 use Rattle.market_spec.specs.File.{fault, fine, place_of, and_then, end_of, line_fault, word_of, trailer, begins_at, type_at, marks, mark_ok, tail_fault, left_over, count_ok, sum_ok, closing, trailer_fault}
-use Rattle.market_spec.specs.Lines.{line_cut, line_wrong, line_ends, line_bar, line_on}
 use Rattle.market_spec.specs.Files.{then_fine, then_fault, tail_cut, tail_wrong, tail_on}
-use Rattle.market_spec.specs.Types.{type_1, type_2, type_3, type_4, type_5, type_other, left_some, left_none}
+use Rattle.market_spec.specs.Types.{type_1, type_2, type_3, type_4, type_5, type_other, left_none}
 
 pub data Told (p : Paper) : Type 0 where
   at_place : (q : ℕ) → p ≡ fine q → Told p
@@ -23,7 +22,7 @@ pub data Told (p : Paper) : Type 0 where
 pub not_fine : (n q e : ℕ) → (n ≡ 0 → ⊥) → fault n q ≡ fine e → ⊥
 not_fine n q e h p = h (ap (λ (x : Paper). x.number) p)
 
-told_as : (p r : Paper) → p ≡ r → Told r → Told p
+pub told_as : (p r : Paper) → p ≡ r → Told r → Told p
 told_as p r e (at_place q x) = at_place q (e ∙ x)
 told_as p r e (refused m q z x) = refused m q z (e ∙ x)
 
@@ -36,23 +35,6 @@ pub record Then (p : Paper) (f : ℕ → Paper) (n : ℕ) : Type 0 where
 pub then_both : (p : Paper) (f : ℕ → Paper) (n : ℕ) → Told p → and_then p f ≡ fine n → Then p f n
 then_both p f n (at_place q x) e = record { place = q; first = x; second = sym (then_fine p f q x) ∙ e }
 then_both p f n (refused m q z x) e = absurd (not_fine m q n z (sym (then_fault p f m q x z) ∙ e))
-
-pub line_told : (n : ℕ) (cs : List Column) (at : ℕ) (s : List ℕ) → (n ≡ 0 → ⊥) → Told (line_fault n cs at s)
-unfolding line_fault
-line_told n [] at s z = at_place at refl
-line_told n (c ∷ cs) at s z =
-    ⊎_elim (λ (l : length s < at + wide c). refused 40 (length s) (λ q. omega arith) (line_cut n c cs at s l))
-    (λ (l : at + wide c ≤ length s).
-    ⊎_elim (λ (o : column_ok c (take (wide c) (drop at s)) ≡ true).
-    ⊎_elim (λ (m : at + wide c < length s).
-    ⊎_elim (λ (b : get_or s (at + wide c) 0 ≡ end_of cs). told_as (line_fault n (c ∷ cs) at s) (line_fault n cs (at + wide c + 1) s) (line_on n c cs at s l o m b) (line_told n cs (at + wide c + 1) s z))
-    (λ (b : get_or s (at + wide c) 0 ≡ end_of cs → ⊥). refused n (at + wide c) z (line_bar n c cs at s l o m b))
-    (same (get_or s (at + wide c) 0) (end_of cs)))
-    (λ (m : length s ≤ at + wide c). refused 40 (length s) (λ q. omega arith) (line_ends n c cs at s l o m))
-    (less (at + wide c) (length s)))
-    (λ (o : column_ok c (take (wide c) (drop at s)) ≡ false). refused n at z (line_wrong n c cs at s l o))
-    (two (column_ok c (take (wide c) (drop at s)))))
-    (less (length s) (at + wide c))
 
 pub tail_told : (ms : List ℕ) (at : ℕ) (s : List ℕ) → Told (tail_fault ms at s)
 unfolding tail_fault

@@ -16,7 +16,8 @@ use Rattle.market_columns.specs.Columns.{Column, K, S, N, C, U, row_of, columns,
 use Rattle.market_columns.specs.Tables.{length_of}
 use Rattle.market_spec.specs.File.{fault, fine, end_of}
 use Rattle.market_spec.specs.Lines.{columns_next, columns_none}
-use Rattle.market_columns.specs.Values.{Value, Fixed, Number, Text, text_of, fits, column_writes}
+use Rattle.market_columns.specs.Values.{Value, Fixed, Number, Text, text_of, fits}
+use Rattle.market_columns.proofs.Values.{column_writes}
 use Rattle.market_spec.specs.LineValues.{line_text, line_fits}
 
 abbrev pub value_bytes : Value → List ℕ

@@ -13,7 +13,8 @@ use Rattle.market.specs.Papers.{verdict_paper}
 use Rattle.market_spec.specs.File.{fine, fault_of}
 use Rattle.market_spec.specs.Sound.{Sound, file_of, values_of}
 use Rattle.market_spec.specs.FileBytes.{values_bytes, values_answer, laid_if0, values_given, written_answer}
-use Rattle.market_spec.specs.WrittenAgain.{Made, made, values_again, Again, written_again, taken_out}
+use Rattle.market_spec.specs.WrittenAgain.{Made, made, Again}
+use Rattle.market_spec.proofs.WrittenAgain.{values_again, written_again, taken_out}
 use Rattle.market_values.proofs.values.Reads as values
 use Rattle.market_values.proofs.values.Kinds as values-kinds
 use Rattle.market_values.proofs.written.Reads as written

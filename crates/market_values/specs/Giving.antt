@@ -15,21 +15,26 @@ use Rattle.octets.specs.Papers.{laid_if_room, laid_there}
 use Rattle.market_columns.specs.Numbers.{amount, number_in}
 use Rattle.market_columns.specs.Pieces.{column_length}
 use Rattle.market_columns.specs.Columns.{Column, K, S, N, C, U, header, row_of, columns, wide, kind_of, decimals_of, FormIs, column_ok}
-use Rattle.market_columns.specs.ColumnLaws.{ok_number}
-use Rattle.market_columns.specs.Values.{Value, value_in, fits, column_reads}
+use Rattle.market_columns.proofs.ColumnLaws.{ok_number}
+use Rattle.market_columns.specs.Values.{Value, value_in, fits}
+use Rattle.market_columns.proofs.Values.{column_reads}
 use Rattle.market_columns.specs.Tables.{length_of}
 use Rattle.market_spec.specs.File.{fault, fine, and_then, line_fault, lines_fault, type_at, layout_of, fault_of}
-use Rattle.market_spec.specs.Files.{line_long, lines_trailer, lines_cut, lines_type, lines_line}
-use Rattle.market_spec.specs.Told.{not_fine, Then, then_both, line_told}
+use Rattle.market_spec.specs.Files.{lines_trailer, lines_cut, lines_type, lines_line}
+use Rattle.market_spec.proofs.Files.{line_long}
+use Rattle.market_spec.specs.Told.{not_fine, Then, then_both}
+use Rattle.market_spec.proofs.Told.{line_told}
 use Rattle.market_spec.specs.Types.{type_most}
 use Rattle.market_spec.specs.LinesValues.{Line, is_line, lines_fit, lines_text, lines_values, is_line_holds}
-use Rattle.market_spec.specs.Sound.{Values, Sound, head_values, body_of, file_of, values_of, values_fit, Parts, parts, sound_exactly, file_parts}
+use Rattle.market_spec.specs.Sound.{Values, Sound, head_values, body_of, file_of, values_of, values_fit, Parts, file_parts}
+use Rattle.market_spec.proofs.Sound.{parts, sound_exactly}
 use Rattle.market_spec.specs.TrailerText.{trailer_text}
 use Rattle.market_spec.specs.WrittenAgain.{own_fits}
 use Rattle.digits.specs.Laws.{both}
 use Rattle.market_spec.specs.FileBytes.{own, own_values, type_number, line_bytes, lines_bytes, values_bytes, laid_if0}
 use Rattle.market_spec.specs.Lines.{columns_next, columns_none}
-use Rattle.market_spec.specs.LineValues.{line_values, line_fits, Passed, line_passed, line_reads, line_values_lem}
+use Rattle.market_spec.specs.LineValues.{line_values, line_fits, Passed, line_values_lem}
+use Rattle.market_spec.proofs.LineValues.{line_passed, line_reads}
 use Rattle.market_spec.specs.ValueBytes.{value_bytes, row_bytes, size_of}
 use Rattle.market_spec.specs.TakenBack.{sizes_of, value_long, row_long}
 

@@ -9,7 +9,8 @@ use Rattle.market_columns.specs.Numbers.{number_fits, column_text}
 use Rattle.market_columns.specs.Pieces.{column_length}
 use Rattle.market_columns.specs.Columns.{row_of, wide, kind_of, decimals_of, FormIs, ok_at, column_ok, is_fixed, fixed_text}
 use Rattle.market_columns.specs.ColumnLaws.{ok_there}
-use Rattle.market_columns.specs.Values.{Value, text_of, fits, column_writes}
+use Rattle.market_columns.specs.Values.{Value, text_of, fits}
+use Rattle.market_columns.proofs.Values.{column_writes}
 use Rattle.market_spec.specs.ValueBytes.{size_of, taken_of, size_fixed, size_number, size_text, fits_fixed, fits_number, fits_text, fits_name, text_fixed, text_number, text_own}
 
 module _ (i p : ℕ) (s : List ℕ) (k w d start : ℕ) (f : FormIs (row_of i) k w d start) where

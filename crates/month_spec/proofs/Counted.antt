@@ -23,7 +23,8 @@ use Rattle.reading.specs.Seen.{seen_number}
 use Rattle.walk_spec.specs.Offers.{calls_for, calls_by}
 use Rattle.walk_spec.specs.OfferLaws.{calls_refused, calls_of_lem}
 use Rattle.walk_spec.specs.Walk.{sights, walk_of, added, calls_of}
-use Rattle.walk_spec.specs.CallLaws.{brought, walk_ledger, walk_received}
+use Rattle.walk_spec.specs.CallLaws.{brought, walk_ledger}
+use Rattle.walk_spec.proofs.CallLaws.{walk_received}
 use Rattle.clean_spec.specs.Clean.{clean_of}
 use Rattle.clean_spec.specs.Laws.{clean_reads}
 use Rattle.clean_spec.specs.Figures.{reads, calls_made, calls_reads}

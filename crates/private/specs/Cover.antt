@@ -10,65 +10,14 @@ use Rattle.rules.specs.Table.{suits}
 use Rattle.private.specs.declared.Span.{Span}
 use Rattle.private.specs.Private.{tail_of, tail_spans, private_of, span_at}
 use Rattle.private.specs.Paint.{Inside, within_at}
-use Rattle.private.specs.PrivateLaws.{PrivateByte, private_is, private_within}
+use Rattle.private.specs.PrivateLaws.{PrivateByte, private_within}
 
 -- the byte j lies in span number i
 abbrev pub In : List Span → ℕ → ℕ → Type 0
 In ps i j = ((span_at i ps).place ≤ j) × (j < (span_at i ps).place + (span_at i ps).len)
-
--- a byte lies in one of the spans exactly where it lies in one that is told
-told_from : (ps : List Span) (j : ℕ) → Inside ps j → (i : ℕ) × In ps i j
-told_from [] j h = absurd h
-told_from (p ∷ ps) j h =
-    ⊎_elim (λ (x : (p.place ≤ j) × (j < p.place + p.len)). (0, x)) (λ (x : Inside ps j). let r = told_from ps j x in (suc r.0, r.1)) h
-
-told_to : (ps : List Span) (i j : ℕ) → In ps i j → Inside ps j
-told_to [] i j h = absurd (omega (arith, h.1))
-told_to (p ∷ ps) zero j h = inl h
-told_to (p ∷ ps) (suc i) j h = inr (told_to ps i j h)
-
--- but for the last, no span is empty
-abbrev Full : List Span → Type 0
-Full [] = zero ≡ zero
-Full (p ∷ []) = zero ≡ zero
-Full (p ∷ q ∷ ps) = (0 < p.len) × Full (q ∷ ps)
-
-tail_full : (l : Layout) (n : ℕ) → Full (tail_spans l n)
-tail_full Order n = (omega arith, (omega arith, refl))
-tail_full Trade n = refl
-tail_full Other n = refl
-
-full : (k : Kind) (b : List ℕ) → Full (private_of k b)
-full S001 b = (omega arith, refl)
-full S002 b = refl
-full S003 b = refl
-full P001 b = refl
-full P002 b = refl
-full M101 b = refl
-full M102 b = refl
-full M201 b = tail_full (tail_of b) (length b)
-full Unknown b = refl
-
-ends : (ps : List Span) (i m : ℕ) → Full ps → i ≤ m → (span_at i ps).len ≡ 0 → (span_at m ps).len ≡ 0
-ends [] i m f l e = refl
-ends (p ∷ []) zero zero f l e = e
-ends (p ∷ []) zero (suc m) f l e = refl
-ends (p ∷ []) (suc i) zero f l e = absurd (omega arith)
-ends (p ∷ []) (suc i) (suc m) f l e = refl
-ends (p ∷ q ∷ ps) zero m f l e = absurd (omega (arith, f.0, e))
-ends (p ∷ q ∷ ps) (suc i) zero f l e = absurd (omega arith)
-ends (p ∷ q ∷ ps) (suc i) (suc m) f l e = ends (q ∷ ps) i m f.1 (omega arith) e
 
 -- THE THEOREM, of every body whose length suits its type
 pub record Covers (k : Kind) (b : List ℕ) : Type 0 where
   pub exactly : (j : ℕ) → PrivateByte k b j ↔ ((i : ℕ) × In (private_of k b) i j)
   pub within : (i : ℕ) → (span_at i (private_of k b)).place + (span_at i (private_of k b)).len ≤ length b
   pub ends_there : (i m : ℕ) → i ≤ m → (span_at i (private_of k b)).len ≡ 0 → (span_at m (private_of k b)).len ≡ 0
-
-pub spans_cover : (k : Kind) (b : List ℕ) → suits k (length b) ≡ true → Covers k b
-spans_cover k b h =
-    record {
-      exactly = λ j. (λ p. told_from (private_of k b) j ((private_is k b j).1 p), λ t. (private_is k b j).0 (told_to (private_of k b) t.0 j t.1));
-      within = λ i. within_at (length b) i (private_of k b) (private_within k b h);
-      ends_there = λ i m. ends (private_of k b) i m (full k b);
-    }

@@ -4,7 +4,7 @@ use Rattle.std.specs.Prelude.{ℕ, ◌+◌, ◌≤◌, ◌≡◌, refl, List, []
 use Rattle.std.proofs.Common.{ap, ◌∙◌, arith}
 use Rattle.std.proofs.lemmas.List.{length-replicate}
 use Rattle.octets.specs.Octets.{laid, sum8, sum_after}
-use Rattle.octets.specs.Sums.{sum_after_part}
+use Rattle.octets.proofs.Sums.{sum_after_part}
 use Rattle.octets.specs.Overlays.{length_laid}
 use Rattle.octets.specs.Places.{laid_inner}
 use Rattle.private.specs.declared.Span.{Span}
@@ -22,15 +22,6 @@ painted_in (p ∷ ps) d = painted_in ps (span_painted p d)
 unfoldable pub moved_sum : List Span → ℕ → List ℕ → ℕ
 moved_sum [] v d = v
 moved_sum (p ∷ ps) v d = moved_sum ps (sum_after v (take p.len (drop (24 + p.place) d)) p.fill) (span_painted p d)
-
--- A SUM THAT WAS RIGHT IS RIGHT AFTER ALL SPANS ARE PAINTED, whatever the spans
-pub moved_right : (n : ℕ) (ps : List Span) (v : ℕ) (d : List ℕ) → 24 + n ≤ length d → Within n ps → v ≡ sum8 (take (24 + n) d) → moved_sum ps v d ≡ sum8 (take (24 + n) (painted_in ps d))
-unfolding moved_sum painted_in
-moved_right n [] v d h w e = e
-moved_right n (p ∷ ps) v d h w e =
-    let fits : 24 + p.place + length (replicate p.len p.fill) ≤ length d = rw (length-replicate p.len p.fill) (omega (arith, w.0, h)) in
-    let long : length (span_painted p d) ≡ length d = length_laid (24 + p.place) (replicate p.len p.fill) d fits in
-    moved_right n ps _ (span_painted p d) (rw long h) w.1 (sum_after_part d (24 + n) (24 + p.place) p.len p.fill v (omega (arith, w.0)) h e)
 
 -- painted where it stands, a body is what it is painted alone
 pub painted_there : (ps : List Span) (b d : List ℕ) → Within (length b) ps → 24 + length b ≤ length d → painted_in ps (laid 24 b d) ≡ laid 24 (painted ps b) d

@@ -4,7 +4,8 @@ use Rattle.std.specs.Prelude.{ℕ, zero, suc, ◌+◌, ◌<◌, ◌≤◌, ◌�
 use Rattle.std.proofs.Common.{sym, ap, ◌∙◌, ⊎_elim, arith, eq-eqb, ne_eqb}
 use Rattle.terms.specs.Paper.{Paper, answer, refusal, one_number}
 use Rattle.terms.specs.Cases.{two, same}
-use Rattle.terms.specs.Refusals.{told, told_refused}
+use Rattle.terms.specs.Refusals.{told}
+use Rattle.terms.proofs.Refusals.{told_refused}
 use Rattle.rules.specs.declared.Kind.{Kind}
 use Rattle.rules.specs.Table.{kind_of, known, suits, measure_of}
 use Rattle.rules.specs.Outcomes.{measure_type, measure_long, measure_length, measure_fine, Measured, m_type, m_long, m_length, m_fine, measured}

@@ -8,11 +8,11 @@ use mathlib.Core.List.{List, [], ◌∷◌, ◌++◌, append_assoc}
 use Rattle.terms.specs.Paper.{Paper, answer}
 use Rattle.terms.specs.Cases.{same}
 use Rattle.private.specs.Scrub.{scrubbed}
-use Rattle.private.specs.Laws.{length_always}
+use Rattle.private.proofs.Laws.{length_always}
 use Rattle.walk_laws.specs.Walk.{Says, frame, more, bad, within, next, after}
 use Rattle.walk_laws.specs.Frames.{joined, each_of, front_of, taken_of, accepted_of, f_nil, f_cons, each_joined}
 use Rattle.reading.specs.Seen.{seen_of, says_of}
-use Rattle.reading.specs.SeenLaws.{seen_kept, seen_fits}
+use Rattle.reading.proofs.SeenLaws.{seen_kept, seen_fits}
 use Rattle.clean_spec.specs.Clean.{clean_of, differ_of, check_of}
 use Rattle.clean_spec.specs.Accepted.{accepted_in, clean_is, clean_short}
 use Rattle.clean_spec.specs.Own.{seen_own, seen_scrubbed}

@@ -13,7 +13,7 @@ use Rattle.walk_laws.specs.Walk.{within}
 use Rattle.walk_laws.specs.Frames.{joined, each_of, accepted_of, each_joined}
 use Rattle.promises.specs.Parts.{piece_accepts}
 use Rattle.reading.specs.Seen.{seen_of, says_of}
-use Rattle.reading.specs.SeenLaws.{seen_kept, seen_fits}
+use Rattle.reading.proofs.SeenLaws.{seen_kept, seen_fits}
 use Rattle.clean_spec.specs.Clean.{clean_of}
 use Rattle.clean_spec.specs.Accepted.{accepted_in, clean_is}
 use Rattle.clean_spec.specs.Own.{seen_own}

@@ -8,7 +8,8 @@ use Rattle.terms.specs.Paper.{Paper}
 use Rattle.terms.specs.Cases.{less}
 use Rattle.market_spec.specs.File.{fault, fine, fault_of}
 use Rattle.market_spec.specs.Told.{Told, at_place, refused}
-use Rattle.market_spec.specs.Walk.{Finding, large, header_wrong, header_cut, type_wrong, type_cut, column_wrong, line_cut_short, mark_wrong, trailer_cut, left_over_lem, count_wrong, sum_wrong, sound, found, finding_told}
+use Rattle.market_spec.specs.Walk.{Finding, large, header_wrong, header_cut, type_wrong, type_cut, column_wrong, line_cut_short, mark_wrong, trailer_cut, left_over_lem, count_wrong, sum_wrong, sound, finding_told}
+use Rattle.market_spec.proofs.Walk.{found}
 use Rattle.market_spec.specs.Sound.{values_of, file_of}
 use Rattle.market_spec.specs.FileBytes.{values_bytes, values_answer, values_taken, values_given, written_answer}
 use Rattle.market_spec.specs.WrittenAgain.{values_told, taken_fine, values_wrong, values_lack, values_fine, written_wrong, written_large, written_lacks, written_fine}

@@ -16,7 +16,7 @@ use Rattle.frame_spec.specs.Frame.{read_of}
 use Rattle.frame_spec.specs.GivenRead.{read_given_0}
 use Rattle.step_spec.specs.Frame.{body_end, step_read_of}
 use Rattle.step_spec.specs.Exactly.{good}
-use Rattle.step_scrub.specs.ScrubLaws.{sum_stands}
+use Rattle.step_scrub.proofs.ScrubLaws.{sum_stands}
 
 -- a call of `octets::sum` on the first n bytes of s, and its answer
 module _ (κs : Lfts 1) (a : Dens κs sum-kinds.ps) (r : (res_t sum-kinds.r κs).Denot) (x : AtExit (ended_of 1 sum-kinds.ps sum-kinds.r) κs) (p : sum.Post κs a r x) (front : a.1.0 ≡ 0) where

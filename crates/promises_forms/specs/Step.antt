@@ -9,15 +9,17 @@ use Rattle.step_spec.specs.Pieces.{pieces}
 use Rattle.step_spec.specs.Fields.{judge_of}
 use Rattle.step_spec.specs.Frame.{kind, fields, frame_length, step_read_of}
 use Rattle.step_spec.specs.Written.{frame_of, step_write_of, step_left_of}
-use Rattle.step_spec.specs.WriteLaws.{frame_size, write_fine, left_laid}
+use Rattle.step_spec.specs.WriteLaws.{write_fine, left_laid}
+use Rattle.step_spec.proofs.WriteLaws.{frame_size}
 use Rattle.step_spec.specs.Given.{Writes, w_long, w_type, w_time, w_fields, w_room, w_frame}
-use Rattle.step_spec.specs.GivenRead.{judged_all}
-use Rattle.step_spec.specs.GivenWrite.{write_given}
-use Rattle.step_spec.specs.RoundTrip.{read_of_written, kind_of_frame, fields_of_frame}
-use Rattle.step_spec.specs.Exactly.{good, frame_ends, exactly_reads, written_of_read}
+use Rattle.step_spec.proofs.GivenRead.{judged_all}
+use Rattle.step_spec.proofs.GivenWrite.{write_given}
+use Rattle.step_spec.proofs.RoundTrip.{read_of_written, kind_of_frame, fields_of_frame}
+use Rattle.step_spec.specs.Exactly.{good}
+use Rattle.step_spec.proofs.Exactly.{frame_ends, exactly_reads, written_of_read}
 use Rattle.step_scrub.specs.Scrubbed.{scrubbed_of, step_scrub_of, step_scrub_left}
 use Rattle.step_scrub.specs.Private.{FieldThen}
-use Rattle.step_scrub.specs.Scrubbing.{scrubbed_same, scrubbed_length, scrubbed_rest, scrubbed_again, scrubbed_field, scrubbed_count}
+use Rattle.step_scrub.proofs.Scrubbing.{scrubbed_same, scrubbed_length, scrubbed_rest, scrubbed_again, scrubbed_field, scrubbed_count}
 
 -- "BOTH ROUND TRIPS OF DEMAND 2 HOLD HERE ALSO"
 

@@ -20,8 +20,10 @@ use Rattle.frame_spec.specs.Places.{body_of}
 use Rattle.frame_spec.specs.Write.{Message, message, message_of, write_of, left_of}
 use Rattle.frame_spec.specs.RoundTrip.{Widths, write_read, read_then_write, write_then_read, write_then_body}
 use Rattle.private.specs.Scrub.{scrubbed, scrub_answer}
-use Rattle.private.specs.Laws.{scrub_number, scrub_length, scrub_keeps, scrub_fills, scrub_reads, scrub_sum, refused_same, answer_as}
-use Rattle.private.specs.PrivateLaws.{PrivateByte, private_is}
+use Rattle.private.specs.Laws.{refused_same}
+use Rattle.private.proofs.Laws.{scrub_number, scrub_length, scrub_keeps, scrub_fills, scrub_reads, scrub_sum, answer_as}
+use Rattle.private.specs.PrivateLaws.{PrivateByte}
+use Rattle.private.proofs.PrivateLaws.{private_is}
 use Rattle.frame.specs.declared.Found.{Found}
 use Rattle.frame.specs.Papers.{found_paper}
 use Rattle.frame_spec.specs.Lowest.{ReadsAt, LowestPlace, search_given_place, search_given_none, search_given_9}

@@ -14,7 +14,8 @@ use Rattle.frame_spec.specs.Outcomes.{read_length}
 use Rattle.frame_spec.specs.Places.{body_of}
 use Rattle.frame_spec.specs.RoundTrip.{Widths, write_read, read_then_write, write_then_read, write_then_body}
 use Rattle.frame_spec.specs.Write.{Message, message, message_of, write_of, left_of}
-use Rattle.private.specs.Laws.{scrub_number, refused_same}
+use Rattle.private.specs.Laws.{refused_same}
+use Rattle.private.proofs.Laws.{scrub_number}
 use Rattle.host_words.specs.Told.{seen}
 use Rattle.host_frames.specs.Means.{HostRead, HostWrote, HostScrubbed}
 use Rattle.host_frames.proofs.Means as Means

@@ -14,8 +14,10 @@ use Rattle.frame_spec.specs.Outcomes.{good, good_reads}
 use Rattle.frame_spec.specs.Places.{body_length_lem}
 use Rattle.private.specs.Scrub.{spans_of, clean_body, summed, scrubbed}
 use Rattle.private.specs.Paint.{length_painted}
-use Rattle.private.specs.Laws.{scrubs, scrub_reads, scrub_done, spans_within}
-use Rattle.private.specs.Moved.{painted_in, moved_sum, moved_right, painted_there}
+use Rattle.private.specs.Laws.{scrubs}
+use Rattle.private.proofs.Laws.{scrub_reads, scrub_done, spans_within}
+use Rattle.private.specs.Moved.{painted_in, moved_sum, painted_there}
+use Rattle.private.proofs.Moved.{moved_right}
 
 -- THE FRAME: its new CheckSum is the old one, moved along its private spans
 module _ (s : List ℕ) (z : (read_of s).number ≡ 0) where

@@ -5,7 +5,7 @@ use Rattle.terms.specs.Cases.{clash}
 use Rattle.terms.specs.Paper.{answer}
 use Rattle.octets.specs.Octets.{be}
 use Rattle.calendar.specs.Calendar.{RealTime, leap, days_in, real_parts, real_time}
-use Rattle.calendar.specs.Times.{time_says}
+use Rattle.calendar.proofs.Times.{time_says}
 use Rattle.frame_spec.specs.Frame.{read_of}
 use Rattle.frame_spec.specs.Write.{Message, write_of}
 use Rattle.frame_spec.specs.GivenRead.{read_given_0}
@@ -13,7 +13,8 @@ use Rattle.frame_spec.specs.GivenWrite.{write_given_0}
 use Rattle.frame_spec.specs.Search.{search_of}
 use Rattle.frame_spec.specs.Lowest.{search_given_place}
 use Rattle.private.specs.Scrub.{scrub_answer, scrubbed}
-use Rattle.private.specs.Laws.{refused_same, scrub_number}
+use Rattle.private.specs.Laws.{refused_same}
+use Rattle.private.proofs.Laws.{scrub_number}
 use Rattle.ledger_spec.specs.State.{Book}
 use Rattle.record.specs.Record.{blank_of}
 use Rattle.reading.specs.Seen.{seen_of}

@@ -19,8 +19,9 @@ use Rattle.frame_spec.specs.Places.{body_length_lem}
 use Rattle.private.specs.Private.{tail_of, tail_spans, private_of}
 use Rattle.private.specs.Scrub.{scrubbed, spans_of}
 use Rattle.private.specs.Paint.{Inside}
-use Rattle.private.specs.PrivateLaws.{TailByte, tail_is, private_is}
-use Rattle.private.specs.Laws.{scrub_keeps, scrub_fills}
+use Rattle.private.specs.PrivateLaws.{TailByte, tail_is}
+use Rattle.private.proofs.PrivateLaws.{private_is}
+use Rattle.private.proofs.Laws.{scrub_keeps, scrub_fills}
 
 -- A TICK THAT READS, of a layout: "Read the extension by 2.5.4.1 and 2.5.4.2 of source document
 -- 000"

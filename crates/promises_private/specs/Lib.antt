@@ -1,4 +1,3 @@
 pub mod TwoCaptures
-pub mod TwoCapturesHold
 pub mod TwoCapturesArriving
 pub mod Witness

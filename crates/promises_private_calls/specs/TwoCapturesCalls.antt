@@ -10,7 +10,7 @@ use Rattle.terms.specs.Paper.{Paper}
 use Rattle.octets.specs.Papers.{written_one}
 use Rattle.frame_spec.specs.Frame.{body_length, read_of}
 use Rattle.private.specs.Scrub.{scrubbed, scrub_answer}
-use Rattle.private.specs.Laws.{answer_as}
+use Rattle.private.proofs.Laws.{answer_as}
 use Rattle.ledger.specs.State.{book_of, ledger_of, next_in}
 use Rattle.ledger.specs.declared.Ledger.{Ledger}
 use Rattle.ledger.specs.declared.RequestAnswer.{RequestAnswer}
@@ -57,7 +57,7 @@ use Rattle.host_frames.proofs.rk_scrub.Kinds as rk-scrub-kinds
 use Rattle.host_ledger.proofs.rk_ledger_request.Reads as rk-ledger-request
 use Rattle.host_ledger.proofs.rk_ledger_request.Kinds as rk-ledger-request-kinds
 use Rattle.promises_private.specs.TwoCaptures.{SameButPrivate, TwoCaptures, SameOutside}
-use Rattle.promises_private.specs.TwoCapturesHold.{same_frame, same_scrub_answer, same_outside}
+use Rattle.promises_private.proofs.TwoCapturesHold.{same_frame, same_scrub_answer, same_outside}
 
 -- two calls of one function whose arguments agree: whatever its promise allows, the answers are
 -- equal, and so is what is lent, as it is left

@@ -12,7 +12,7 @@ use Rattle.frame_spec.specs.Frame.{read_of}
 use Rattle.walk_spec.specs.Walk.{sights, table_of}
 use Rattle.walk_spec.specs.Records.{Covers}
 use Rattle.walk_spec.specs.Literal.{Walk, literal_walk}
-use Rattle.walk_spec.specs.LiteralLaws.{literal_walk_lem}
+use Rattle.walk_spec.proofs.LiteralLaws.{literal_walk_lem}
 use Rattle.listing_text.specs.Whole.{lines_of, listing_of}
 use Rattle.listing_text.specs.Laws.{listing_table}
 use Rattle.listing_text.specs.Fit.{walk_fits}

@@ -23,7 +23,7 @@ use Rattle.record.specs.declared.Record.{Record}
 use Rattle.walk_laws.specs.Frames.{joined, each_of, each_joined, each_long}
 use Rattle.walk_spec.specs.Walk.{walk_of, table_of, frames_of, sights}
 use Rattle.walk_spec.specs.Literal.{Walk, literal_walk}
-use Rattle.walk_spec.specs.LiteralLaws.{literal_walk_lem}
+use Rattle.walk_spec.proofs.LiteralLaws.{literal_walk_lem}
 use Rattle.listing_text.specs.Listed.{listed_of}
 use Rattle.stream_spec.specs.State.{last_place}
 use Rattle.stream_spec.specs.Calls.{Call, share, number_to}

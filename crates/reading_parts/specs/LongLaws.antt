@@ -12,7 +12,7 @@ use Rattle.octets.specs.Octets.{be, sum8}
 use Rattle.octets.specs.Numerals.{numeral_take, numeral_drop}
 use Rattle.calendar.specs.Calendar.{real_time}
 use Rattle.rules.specs.Table.{kind_of}
-use Rattle.rules.specs.Outcomes.{judge_time, judge_field, judge_fine}
+use Rattle.rules.proofs.Outcomes.{judge_time, judge_field, judge_fine}
 use Rattle.rules.specs.declared.Kind.{Kind}
 use Rattle.rules.specs.declared.Kind.TheVariants.{S001, S002, S003, P001, P002, M101, M102, M201, Unknown}
 use Rattle.rules.specs.declared.Layout.{Layout}
@@ -26,7 +26,7 @@ use Rattle.frame_view.specs.declared.View.{View}
 use Rattle.frame_view.specs.View.{view_of}
 use Rattle.reading.specs.declared.Seen.{Seen}
 use Rattle.reading.specs.Seen.{blank, seen_of}
-use Rattle.reading.specs.SeenLaws.{seen_refused, seen_read}
+use Rattle.reading.proofs.SeenLaws.{seen_refused, seen_read}
 use Rattle.reading_parts.specs.Parts.{Gathers, Long, is_m102}
 use Rattle.reading_parts.specs.PartLaws.{drop_parts, rest_of, gathered_part}
 

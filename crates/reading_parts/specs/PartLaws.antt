@@ -12,12 +12,14 @@ use Rattle.octets.specs.Overlays.{take_front, length_laid, laid_nil}
 use Rattle.octets.specs.Papers.{laid_if_room, lay_next}
 use Rattle.octets.specs.Sums.{sum8_append}
 use Rattle.rules.specs.Table.{kind_of}
-use Rattle.rules.specs.Outcomes.{measure_same, measure_not_more, judge_not_more}
+use Rattle.rules.specs.Outcomes.{measure_same, measure_not_more}
+use Rattle.rules.proofs.Outcomes.{judge_not_more}
 use Rattle.frame_spec.specs.Frame.{msg_type, body_length, read_of, Whole}
 use Rattle.frame_spec.specs.Outcomes.{measure, Reading, r_short, r_measure, r_cut, r_sum, r_judged, r_frame, reading, read_short, read_cut}
 use Rattle.reading.specs.declared.Seen.{Seen}
 use Rattle.reading.specs.Seen.{blank, seen_of, seen_number}
-use Rattle.reading.specs.SeenLaws.{seen_kept, seen_answer, seen_blank, more_says}
+use Rattle.reading.specs.SeenLaws.{more_says}
+use Rattle.reading.proofs.SeenLaws.{seen_kept, seen_answer, seen_blank}
 use Rattle.reading_parts.specs.Parts.{wanted_by, Gathers, Long}
 
 -- the first n bytes of both parts, and the bytes behind them

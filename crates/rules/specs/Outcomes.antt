@@ -44,43 +44,11 @@ measured k n =
     (λ h. m_type (measure_type k n h) h)
     (two (known k))
 
-module _ (k : Kind) (time : ℕ) (b : List ℕ) where
-  pub judge_time : real_time time ≡ false → judge_of k time b ≡ 7
-  unfolding judge_of
-  judge_time r = simp r
-
-  module _ (r : real_time time ≡ true) where
-    pub judge_field : fields_ok k b ≡ false → judge_of k time b ≡ 6
-    unfolding judge_of
-    judge_field f = simp (r, f)
-
-    pub judge_fine : fields_ok k b ≡ true → judge_of k time b ≡ 0
-    unfolding judge_of
-    judge_fine f = simp (r, f)
-
 -- which facts stand behind a number m of judgeOf k time b
 pub data Judged (k : Kind) (time : ℕ) (b : List ℕ) (m : ℕ) : Type 0 where
   j_time : m ≡ 7 → real_time time ≡ false → Judged k time b m
   j_field : m ≡ 6 → real_time time ≡ true → fields_ok k b ≡ false → Judged k time b m
   j_fine : m ≡ 0 → real_time time ≡ true → fields_ok k b ≡ true → Judged k time b m
-
-pub judged : (k : Kind) (time : ℕ) (b : List ℕ) → Judged k time b (judge_of k time b)
-judged k time b =
-    ⊎_elim (λ r.
-    ⊎_elim (λ f. j_fine (judge_fine k time b r f) r f) (λ f. j_field (judge_field k time b r f) r f)
-    (two (fields_ok k b)))
-    (λ r. j_time (judge_time k time b r) r)
-    (two (real_time time))
-
--- THE LAWS THAT LAYERS ABOVE USE: no check here asks for more bytes
-
-not_1 : (k : Kind) (time : ℕ) (b : List ℕ) (m : ℕ) → Judged k time b m → m ≡ 1 → ⊥
-not_1 k time b m (j_time e r) h = omega arith
-not_1 k time b m (j_field e r f) h = omega arith
-not_1 k time b m (j_fine e r f) h = omega arith
-
-pub judge_not_more : (k : Kind) (time : ℕ) (b : List ℕ) → judge_of k time b ≡ 1 → ⊥
-judge_not_more k time b e = not_1 k time b (judge_of k time b) (judged k time b) e
 
 never_1 : (k : Kind) (n m : ℕ) → Measured k n m → m ≡ 1 → ⊥
 never_1 k n m (m_type e a) h = omega arith

@@ -22,9 +22,9 @@ use Rattle.rules.specs.Table.{kind_of, suits}
 use Rattle.frame_spec.specs.Frame.{msg_type, body_length, read_of}
 use Rattle.private.specs.Scrub.{scrubbed}
 use Rattle.private.specs.Within.{scrubbed_as, SmallSum}
-use Rattle.private.specs.Laws.{read_there, read_suits, read_sum, read_small, read_scrubs}
+use Rattle.private.proofs.Laws.{read_there, read_suits, read_sum, read_small, read_scrubs}
 use Rattle.private.specs.Into.{frame_in, into_answer, into_leaves}
-use Rattle.private.specs.IntoLaws.{own_long, own_reads, own_type, own_length, into_long, into_room, into_laid, into_refused_keeps}
+use Rattle.private.proofs.IntoLaws.{own_long, own_reads, own_type, own_length, into_long, into_room, into_laid, into_refused_keeps}
 
 -- an answer that bytes were laid: how many, and that there was room
 room_told : (to n len size : ℕ) → answer 0 (size ∷ []) ≡ room_for to n len → (size ≡ n) × (to + n ≤ len)

@@ -4,8 +4,8 @@ use mathlib.Core.Path.{sym, ◌∙◌}
 use Rattle.terms.specs.OneAnswer.{OneAnswer}
 use Rattle.terms.specs.OneBuffer.{OneBuffer, RefusedKeeps}
 use Rattle.octets.specs.Papers.{Refuses, written_one}
-use Rattle.private.specs.IntoLaws.{into_refused_keeps}
-use Rattle.private.specs.Laws.{refused_kept}
+use Rattle.private.proofs.IntoLaws.{into_refused_keeps}
+use Rattle.private.proofs.Laws.{refused_kept}
 use Rattle.scrub.proofs.scrub_into.Reads as scrub-into
 use Rattle.scrub.proofs.scrub_into.Kinds as scrub-into-kinds
 use Rattle.scrub.proofs.scrub.Reads as scrub

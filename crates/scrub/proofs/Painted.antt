@@ -7,7 +7,7 @@ use native.Mathlib.Omega.{arith}
 use lib.ListN.{length, take, drop, replicate, length-drop}
 use lib.Seq.{length-take-le, take_all}
 use Rattle.octets.specs.Octets.{laid, sum8, sum_after}
-use Rattle.octets.specs.Sums.{sum_after_part}
+use Rattle.octets.proofs.Sums.{sum_after_part}
 use Rattle.rules.specs.declared.Kind.{Kind}
 use Rattle.rules.specs.Table.{suits}
 use Rattle.private.specs.declared.Span.{Span}
@@ -16,7 +16,7 @@ use Rattle.private.specs.Parts.{suited_spans}
 use Rattle.private.specs.PartsLaws.{suited_is}
 use Rattle.private.specs.Scrub.{painted}
 use Rattle.private.specs.Within.{body_in, span_painted}
-use Rattle.private.specs.Spans.{start, now_long, one_more_of, fits_of}
+use Rattle.private.proofs.Spans.{start, now_long, one_more_of, fits_of}
 
 module _ (k : Kind) (n : ℕ) (d : List ℕ) (h : 24 + n ≤ length d) (m : suits k n ≡ true) where
   -- what is told of the body is all of its private spans

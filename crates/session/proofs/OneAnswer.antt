@@ -4,7 +4,7 @@ use mathlib.Core.Path.{◌≡◌, refl, sym, ap, ap₂, ◌∙◌}
 use Prim.Native.Nat.{ℕ}
 use Rattle.terms.specs.OneAnswer.{OneAnswer}
 use Rattle.terms.specs.Counters.{session_of}
-use Rattle.terms.specs.Verdicts.{verdict_one}
+use Rattle.terms.proofs.Verdicts.{verdict_one}
 use Rattle.terms.specs.declared.Verdict.{Verdict}
 use Rattle.session_spec.specs.Faults as faults
 use Rattle.session_spec.specs.Table as table

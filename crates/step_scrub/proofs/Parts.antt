@@ -10,7 +10,7 @@ use Rattle.octets.specs.Octets.{laid}
 use mathlib.Core.Bool.{true}
 use Rattle.step_spec.specs.Pieces.{pieces, closed}
 use Rattle.step_scrub.specs.Scrubbed.{painted, all_fields}
-use Rattle.step_scrub.specs.Turns.{painted_length}
+use Rattle.step_scrub.proofs.Turns.{painted_length}
 
 back : (a k : ℕ) (xs ys : List ℕ) → length ys ≡ k → put_mid a k xs ys ≡ laid a ys xs
 unfolding laid

@@ -9,14 +9,10 @@ use Rattle.digits.specs.Laws.{both}
 use Rattle.step_spec.specs.Pieces.{SOH, equals, until_of, on_first, pieces, closed_by, closed}
 use Rattle.step_spec.specs.Fields.{is_field, tag_of, value_of}
 use Rattle.step_scrub.specs.Scrubbed.{is_private, paint_piece, paint_all, joined, all_fields}
-use Rattle.step_scrub.specs.PaintLaws.{public_is, painted_tag, painted_value}
 
 -- SenderCompID, TargetCompID, Username, Password, Text
 abbrev pub PrivateTag : ℕ → Type 0
 PrivateTag t = ((((t ≡ 49) ⊎ (t ≡ 56)) ⊎ (t ≡ 553)) ⊎ (t ≡ 554)) ⊎ (t ≡ 58)
-
-pub private_tags : (t : ℕ) → Says (is_private t) (PrivateTag t)
-private_tags t = says_or (says_or (says_or (says_or (says_eq t 49) (says_eq t 56)) (says_eq t 553)) (says_eq t 554)) (says_eq t 58)
 
 -- FIELDS THAT END IN SOH ARE THEIR PIECES, each with its SOH: none of their bytes is in no piece
 some_first : (x : ℕ) (qs : List (List ℕ)) → (p : List ℕ) × ((ps : List (List ℕ)) × (on_first x qs ≡ p ∷ ps))
@@ -53,25 +49,10 @@ pub record FieldThen (p q : List ℕ) : Type 0 where
   pub gone : PrivateTag (tag_of p) → value_of q ≡ replicate (length (value_of p)) 32
   pub stays : (PrivateTag (tag_of p) → ⊥) → q ≡ p
 
-field_then : (p : List ℕ) → is_field p ≡ true → FieldThen p (paint_piece p)
-field_then p f =
-    record {
-      tag = painted_tag p f;
-      gone = λ h. painted_value p f ((private_tags (tag_of p)).1 h);
-      stays = λ n. ⊎_elim (λ (y : is_private (tag_of p) ≡ true). absurd (n ((private_tags (tag_of p)).0 y))) (λ (y : is_private (tag_of p) ≡ false). public_is p f y) (two (is_private (tag_of p)));
-    }
-
 pub as_many : (ps : List (List ℕ)) → length (paint_all ps) ≡ length ps
 unfolding paint_all
 as_many [] = refl
 as_many (p ∷ ps) = ap suc (as_many ps)
-
--- the piece at a place of a row
-pub fields_then : (ps : List (List ℕ)) → all_fields ps ≡ true → (i : ℕ) → i < length ps → FieldThen (get_or ps i []) (get_or (paint_all ps) i [])
-unfolding all_fields paint_all
-fields_then [] a i h = absurd (omega arith)
-fields_then (p ∷ ps) a zero h = field_then p (both (is_field p) (all_fields ps) a).0
-fields_then (p ∷ ps) a (suc i) h = fields_then ps (both (is_field p) (all_fields ps) a).1 i (omega arith)
 
 -- FIELDS THAT DIFFER IN PRIVATE VALUES ALONE: each is the same in both; or both have the same
 -- private tag, written the same way, and values of one length
@@ -82,14 +63,3 @@ pub data AlikeField (p q : List ℕ) : Type 0 where
 pub data AlikeFields : List (List ℕ) → List (List ℕ) → Type 0 where
   no_more : AlikeFields [] []
   one_more : {p q : List ℕ} {ps qs : List (List ℕ)} → AlikeField p q → AlikeFields ps qs → AlikeFields (p ∷ ps) (q ∷ qs)
-
-alike_piece : (p q : List ℕ) → AlikeField p q → paint_piece p ≡ paint_piece q
-unfolding paint_piece
-alike_piece p q (same_field e) = rw e
-alike_piece p q (both_private h t e n) = rw (t, rw t at ((private_tags (tag_of p)).1 h), e, n)
-
--- they are painted alike
-pub alike_painted : (ps qs : List (List ℕ)) → AlikeFields ps qs → paint_all ps ≡ paint_all qs
-unfolding paint_all
-alike_painted ps qs no_more = refl
-alike_painted ps qs (one_more {p = p} {q = q} {ps = xs} {qs = ys} a rest) = rw (alike_piece p q a, alike_painted xs ys rest)

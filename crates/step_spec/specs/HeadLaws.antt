@@ -20,36 +20,6 @@ use Rattle.step_spec.specs.FieldLaws.{decimal_same}
 use Rattle.step_spec.specs.Frame.{front, digit_run, window, length_check, body_start, body_length, body_end, frame_length, long_check, kind_check, type_check, type_tag, head_of, begin, length_tag, sum_check, trailer_of, kind, fields, verdict_of, accepted, step_read_of}
 use Rattle.step_spec.specs.FrontLaws.{kind_length, front_short, reads_off, reads_on}
 
--- THE LENGTH FIELD, over its window
-
-module _ (w : List ℕ) (k : ℕ) (r : digit_run w ≡ k) where
-  pub length_many : 9 < k → length_check w ≡ 24
-  unfolding length_check
-  length_many h = rw (r, lt-leb k 9 h)
-
-  pub length_zero : plain k (get_or w 0 0) ≡ false → length_check w ≡ 24
-  unfolding length_check
-  length_zero h = rw (r, h, and_false)
-
-  module _ (few : k ≤ 9) (p : plain k (get_or w 0 0) ≡ true) where
-    pub length_more : length w ≤ k → length_check w ≡ 1
-    unfolding length_check
-    length_more h = rw (r, le-leb k 9 few, p, le-ltb k (length w) h)
-
-    module _ (h : k < length w) where
-      pub length_open : (get_or w k 0 ≡ SOH → ⊥) → length_check w ≡ 24
-      unfolding length_check
-      length_open ne = rw (r, le-leb k 9 few, p, lt-ltb k (length w) h, ne_eqb _ _ ne)
-
-      module _ (c : get_or w k 0 ≡ SOH) where
-        pub length_none : decimal_at 0 k w ≡ nothing → length_check w ≡ 24
-        unfolding length_check some
-        length_none e = rw (r, le-leb k 9 few, p, lt-ltb k (length w) h, eq-eqb _ _ c, e)
-
-        pub length_good : (n : ℕ) → decimal_at 0 k w ≡ number n → length_check w ≡ 0
-        unfolding length_check some
-        length_good n e = rw (r, le-leb k 9 few, p, lt-ltb k (length w) h, eq-eqb _ _ c, e)
-
 -- the window as a part of the bytes
 module _ (s : List ℕ) (at : ℕ) (room : at + 13 ≤ length s) where
   pub window_part : (to : ℕ) → to ≡ min (at + 13 + 10) (length s) → window (drop at s) ≡ part s (at + 13) to
@@ -87,22 +57,6 @@ module _ (s : List ℕ) where
   pub type_is : 5 ≤ body_length s → type_check s ≡ or_else (front 25 type_tag (drop (body_start s) s)) (kind_check (drop (body_start s + 3) s))
   unfolding type_check
   type_is h = rw (le-leb 5 (body_length s) h)
-
--- THE SUM
-
-module _ (e : ℕ) (s : List ℕ) where
-  pub sum_short : length s < e → sum_check e s ≡ 1
-  unfolding sum_check
-  sum_short h = rw (lt-leb e (length s) h)
-
-  module _ (h : e ≤ length s) where
-    pub sum_open : (get_or s (e - 1) 0 ≡ SOH → ⊥) → sum_check e s ≡ 5
-    unfolding sum_check
-    sum_open ne = rw (le-leb e (length s) h, ne_eqb _ _ ne)
-
-    pub sum_is : get_or s (e - 1) 0 ≡ SOH → sum_check e s ≡ front 5 (trailer_of (sum8 (take e s))) (drop e s)
-    unfolding sum_check
-    sum_is c = rw (le-leb e (length s) h, eq-eqb _ _ c)
 
 -- the three digits laid into their place
 pub trailer_laid : (v : ℕ) → laid_if_room 3 (decimal_of 3 v) (49 ∷ 48 ∷ 61 ∷ 48 ∷ 48 ∷ 48 ∷ 1 ∷ []) ≡ trailer_of v
@@ -147,9 +101,6 @@ length_empty (x ∷ xs) h = absurd (omega arith)
 
 pub type_room : (s : List ℕ) → 5 ≤ body_length s → type_check s ≡ 0 → body_start s + 5 ≤ length s
 type_room s five h = omega (arith, kind_length _ (else_both _ _ (sym (type_is s five) ∙ h)).1, length-drop (body_start s + 3) s)
-
-pub sum_room : (e : ℕ) (s : List ℕ) → sum_check e s ≡ 0 → e ≤ length s
-sum_room e s h = ⊎_elim (λ (l : length s < e). absurd (omega (arith, sum_short e s l, h))) (λ (l : e ≤ length s). l) (less (length s) e)
 
 -- TYPE AND FIELDS IN THE BYTES BEHIND A PLACE
 

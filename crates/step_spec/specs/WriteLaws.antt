@@ -15,7 +15,6 @@ use Rattle.step_tags.specs.Table.{among, types}
 use Rattle.step_spec.specs.Pieces.{SOH}
 use Rattle.step_spec.specs.Fields.{judge_of}
 use Rattle.step_spec.specs.Frame.{begin, length_tag, type_tag, trailer_of}
-use Rattle.step_spec.specs.RoundTrip.{plain_long}
 use Rattle.step_spec.specs.Exactly.{trailer_long}
 use Rattle.step_spec.specs.Written.{plain_of, frame_of, message_of, step_write_of, step_left_of}
 
@@ -25,13 +24,10 @@ pub frame_over : (type : ℕ) (fs : List ℕ) → length fs ≤ length (frame_of
 unfolding frame_of plain_of
 frame_over type fs = simp length-append (omega arith)
 
-pub frame_size : (type : ℕ) (fs : List ℕ) → length fs ≤ 8192 → length (frame_of type fs) ≡ 26 + width_of (length fs + 5) + length fs
-unfolding frame_of
-frame_size type fs h = simp (length-append, trailer_long) (omega (arith, plain_long type fs [] h))
-
 -- THE ANSWERS
 
 module _ (type : ℕ) (fs : List ℕ) where
+
   module _ (room : ℕ) where
     pub refuses : (n : ℕ) → message_of type fs ≡ n → (n ≡ 0 → ⊥) → step_write_of type fs room ≡ refusal n
     unfolding step_write_of

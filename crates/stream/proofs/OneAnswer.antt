@@ -8,7 +8,7 @@ use mathlib.Core.List.{List, [], ◌++◌}
 use Rattle.terms.specs.OneAnswer.{OneAnswer}
 use Rattle.terms.specs.OneBuffer.{OneBuffer, RefusedKeeps}
 use Rattle.terms.specs.declared.Verdict.TheVariants.{Fine}
-use Rattle.terms.specs.Verdicts.{verdict_one}
+use Rattle.terms.proofs.Verdicts.{verdict_one}
 use Rattle.stream_spec.specs.declared.Stream.{Stream}
 use Rattle.stream_spec.specs.declared.Fed.{Fed}
 use Rattle.stream_spec.specs.Calls.{fed_paper}

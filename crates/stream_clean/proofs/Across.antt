@@ -11,7 +11,7 @@ use Rattle.octets.specs.Octets.{laid}
 use Rattle.octets.specs.Overlays.{length_laid, mid_laid, laid_again, laid_append}
 use Rattle.octets.specs.Papers.{laid_if_room, laid_there, laid_kept}
 use Rattle.private.specs.Scrub.{scrubbed}
-use Rattle.private.specs.Laws.{length_always}
+use Rattle.private.proofs.Laws.{length_always}
 use Rattle.scrub.proofs.Parts.{back}
 use Rattle.clean_spec.specs.Laid.{nothing_laid}
 use Rattle.clean_spec.specs.Turns.{scrubbed_none}

@@ -18,7 +18,7 @@ use Rattle.clean_spec.specs.Laid.{laid_reads, laid_long, nothing_laid}
 use Rattle.clean_spec.specs.Turns.{scrubbed_none, size_inside}
 use Rattle.reading.specs.declared.Seen.{Seen}
 use Rattle.reading.specs.Seen.{seen_of, seen_number}
-use Rattle.reading.specs.SeenLaws.{seen_frame, seen_answer, seen_size, seen_blank}
+use Rattle.reading.proofs.SeenLaws.{seen_frame, seen_answer, seen_size, seen_blank}
 use Rattle.walk_spec.specs.Walk.{accepts}
 use Rattle.stream_spec.specs.Run.{waits_at, passed_over, stride_of}
 use Rattle.stream_spec.specs.RunLaws.{passed}

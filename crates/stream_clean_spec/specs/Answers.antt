@@ -5,7 +5,8 @@ use Rattle.terms.specs.Paper.{Paper, pick, one_number}
 use Rattle.terms.specs.Cases.{two}
 use Rattle.terms.specs.declared.Verdict.{Verdict}
 use Rattle.terms.specs.declared.Verdict.TheVariants.{Fine}
-use Rattle.terms.specs.Verdicts.{verdict_number, verdict_one}
+use Rattle.terms.specs.Verdicts.{verdict_number}
+use Rattle.terms.proofs.Verdicts.{verdict_one}
 use Rattle.stream_spec.specs.declared.Stream.{Stream}
 use Rattle.stream_clean_spec.specs.declared.Sums.{Sums}
 use Rattle.stream_clean_spec.specs.declared.Washed.{Washed}

@@ -15,7 +15,8 @@ use Rattle.walk_laws.specs.Cuts as Cuts
 use Rattle.walk_laws.specs.Frames.{joined, each_of, each_joined, front_of, taken_of, accepted_of}
 use Rattle.reading.specs.declared.Seen.{Seen}
 use Rattle.reading.specs.Seen.{seen_of, seen_number, says_of}
-use Rattle.reading.specs.SeenLaws.{seen_kept, frame_says, more_says, says_frame}
+use Rattle.reading.specs.SeenLaws.{frame_says, more_says, says_frame}
+use Rattle.reading.proofs.SeenLaws.{seen_kept}
 use Rattle.clean_spec.specs.Clean.{clean_of}
 use Rattle.walk_spec.specs.Onward.{refused_size}
 use Rattle.clean_spec.specs.Accepted.{accepted_in, clean_is, clean_short}

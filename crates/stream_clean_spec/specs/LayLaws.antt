@@ -5,7 +5,7 @@ use Rattle.terms.specs.Cases.{two}
 use Rattle.octets.specs.Octets.{laid}
 use Rattle.octets.specs.Papers.{laid_if_room, laid_there, laid_kept}
 use Rattle.octets.specs.Overlays.{laid_nil, laid_append, length_laid}
-use Rattle.private.specs.Laws.{length_always}
+use Rattle.private.proofs.Laws.{length_always}
 use Rattle.walk_laws.specs.Walk.{Sight}
 use Rattle.walk_laws.specs.Frames.{joined, each_of, each_joined}
 use Rattle.stream_clean_spec.specs.declared.Sums.{Sums}

@@ -18,7 +18,8 @@ use Rattle.walk_laws.specs.Waits.{halt, behind}
 use Rattle.walk_laws.specs.WaitLaws.{mode_of, notes, ran_at, ran_end, ran_more, ran_frame, ran_bad}
 use Rattle.reading.specs.declared.Seen.{Seen}
 use Rattle.reading.specs.Seen.{seen_of, seen_number}
-use Rattle.reading.specs.SeenLaws.{seen_fits, says_frame, seen_blank, seen_answer}
+use Rattle.reading.specs.SeenLaws.{says_frame}
+use Rattle.reading.proofs.SeenLaws.{seen_fits, seen_blank, seen_answer}
 use Rattle.frame_spec.specs.Frame.{read_of}
 use Rattle.walk_spec.specs.Walk.{accepts}
 use Rattle.clean_spec.specs.Turns.{size_inside}

@@ -28,7 +28,8 @@ use Rattle.walk_laws.specs.Account.{Account, account_of}
 use Rattle.walk_laws.specs.Cuts as Cuts
 use Rattle.reading.specs.declared.Seen.{Seen}
 use Rattle.reading.specs.Seen.{seen_of, says_of}
-use Rattle.reading.specs.SeenLaws.{seen_kept, seen_fits, seen_answer, more_says, says_more}
+use Rattle.reading.specs.SeenLaws.{more_says, says_more}
+use Rattle.reading.proofs.SeenLaws.{seen_kept, seen_fits, seen_answer}
 use Rattle.walk_spec.specs.Records.{Covers, covered}
 use Rattle.walk_spec.specs.Walk.{made_of, record_by, book_by, sights, walk_of, frames_of, refused_of}
 use Rattle.stream_spec.specs.declared.Stream.{Stream}

@@ -7,7 +7,8 @@ use Rattle.stream_spec.specs.declared.Stream.{Stream}
 use Rattle.stream_spec.specs.declared.Fed.{Fed}
 use Rattle.terms.specs.declared.Verdict.{Verdict}
 use Rattle.terms.specs.declared.Verdict.TheVariants.{Fine}
-use Rattle.terms.specs.Verdicts.{verdict_number, verdict_one}
+use Rattle.terms.specs.Verdicts.{verdict_number}
+use Rattle.terms.proofs.Verdicts.{verdict_one}
 use Rattle.stream_spec.specs.Calls.{number_for, answer_for, next_for, leaves_for, fed_paper}
 use Rattle.stream_spec.specs.CallLaws.{Promised}
 

@@ -15,7 +15,7 @@ use Rattle.walk_laws.specs.Closing.{final_frame}
 use Rattle.walk_laws.specs.Account.{account_length}
 use Rattle.walk_laws.specs.Cuts as Cuts
 use Rattle.reading.specs.Seen.{seen_of, says_of}
-use Rattle.reading.specs.SeenLaws.{seen_fits}
+use Rattle.reading.proofs.SeenLaws.{seen_fits}
 use Rattle.walk_spec.specs.Tables.{written_from, written_all}
 use Rattle.stream_spec.specs.declared.Stream.{Stream}
 use Rattle.stream_spec.specs.declared.Fed.{Fed}

@@ -10,7 +10,7 @@ use Rattle.walk_laws.specs.Account.{account_of, account_length}
 use Rattle.walk_laws.specs.Cuts as Cuts
 use Rattle.reading.specs.declared.Seen.{Seen}
 use Rattle.reading.specs.Seen.{seen_of, says_of}
-use Rattle.reading.specs.SeenLaws.{seen_kept, seen_fits}
+use Rattle.reading.proofs.SeenLaws.{seen_kept, seen_fits}
 use Rattle.stream_spec.specs.declared.Stream.{Stream}
 use Rattle.stream_spec.specs.declared.Tally.{Tally}
 use Rattle.stream_spec.specs.Tally.{record_at, tally_after}

@@ -15,7 +15,8 @@ use Rattle.walk_laws.specs.Account.{Account, account_of}
 use Rattle.reading.specs.declared.Seen.{Seen}
 use Rattle.walk_step.specs.declared.Offered.{Offered}
 use Rattle.reading.specs.Seen.{seen_of, seen_number, says_of}
-use Rattle.reading.specs.SeenLaws.{says_frame, says_more, says_bad, seen_fits}
+use Rattle.reading.specs.SeenLaws.{says_frame, says_more, says_bad}
+use Rattle.reading.proofs.SeenLaws.{seen_fits}
 use Rattle.walk_spec.specs.Offers.{offer_of}
 use Rattle.walk_spec.specs.Walk.{made_of, record_by, book_by, accepts, refuses}
 use Rattle.walk_spec.specs.Counts.{each}

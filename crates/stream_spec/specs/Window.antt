@@ -13,7 +13,7 @@ use Rattle.walk_laws.specs.Closing.{final_not_more}
 use Rattle.walk_laws.specs.Kept.{settled, few}
 use Rattle.walk_laws.specs.Cuts as Cuts
 use Rattle.reading.specs.Seen.{seen_of, says_of}
-use Rattle.reading.specs.SeenLaws.{seen_enough}
+use Rattle.reading.proofs.SeenLaws.{seen_enough}
 use Rattle.walk_spec.specs.Tables.{written_from}
 use Rattle.stream_spec.specs.declared.Stream.{Stream}
 use Rattle.stream_spec.specs.declared.Tally.{Tally}

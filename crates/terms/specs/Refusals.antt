@@ -62,38 +62,6 @@ refusal_of n =
     (pick (eqb n 32) Over
     Again)))))))))))))))))))))))
 
-pub refusal_back : (w : Refusal) → refusal_of (number_of w) ≡ w
-unfolding refusal_of
-refusal_back More = refl
-refusal_back MsgType = refl
-refusal_back Long = refl
-refusal_back Length = refl
-refusal_back Sum = refl
-refusal_back Field = refl
-refusal_back Time = refl
-refusal_back Room = refl
-refusal_back Place = refl
-refusal_back Range = refl
-refusal_back Repeat = refl
-refusal_back Far = refl
-refusal_back State = refl
-refusal_back Busy = refl
-refusal_back Whole = refl
-refusal_back Unasked = refl
-refusal_back Status = refl
-refusal_back Channel = refl
-refusal_back Closed = refl
-refusal_back Entries = refl
-refusal_back Places = refl
-refusal_back Early = refl
-refusal_back Sequence = refl
-refusal_back Over = refl
-refusal_back Again = refl
-
--- two refusals of one number are one
-pub refusal_one : (v w : Refusal) → number_of v ≡ number_of w → v ≡ w
-refusal_one v w e = sym (refusal_back v) ∙ ap refusal_of e ∙ refusal_back w
-
 -- no refusal is 0
 pub refusal_not_0 : (w : Refusal) → eqb (number_of w) 0 ≡ false
 refusal_not_0 More = refl
@@ -125,10 +93,6 @@ refusal_not_0 Again = refl
 -- an answer told from its paper: by its values where it is 0, else by its number
 unfoldable pub told : {A : Type 0} → (List ℕ → A) → (Refusal → A) → Paper → A
 told done refused p = pick (eqb p.number 0) (done p.values) (refused (refusal_of p.number))
-
-pub told_refused : {A : Type 0} (done : List ℕ → A) (refused : Refusal → A) (w : Refusal) → told done refused (refusal (number_of w)) ≡ refused w
-unfolding told
-told_refused done refused w = rw (refusal_not_0 w, refusal_back w)
 
 pub refusal_pos : (w : Refusal) → number_of w ≡ 0 → ⊥
 refusal_pos w = eqb-false (number_of w) 0 (refusal_not_0 w)

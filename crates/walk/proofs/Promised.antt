@@ -12,7 +12,7 @@ use Rattle.ledger_spec.specs.Trace.{trace}
 use Rattle.ledger_spec.specs.Demand3.{Demand3}
 use Rattle.walk_spec.specs.Walk.{calls_of}
 use Rattle.walk_spec.specs.Literal.{Walk, literal_walk}
-use Rattle.walk_spec.specs.LiteralLaws.{literal_walk_lem}
+use Rattle.walk_spec.proofs.LiteralLaws.{literal_walk_lem}
 use Rattle.walk.specs.Promises.{Listed, Untouched, with_room, without_room}
 use Rattle.walk_spec.proofs.Demand3.{ledger_demand_3}
 use Rattle.walk.proofs.walk.Reads as walk

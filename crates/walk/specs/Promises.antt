@@ -15,7 +15,7 @@ use Rattle.walk.specs.declared.Walked.{Walked}
 use Rattle.walk_spec.specs.Walk.{sights, walk_of, frames_of, refused_of, fits_in, walk_answer, walk_book, table_of, walk_leaves}
 use Rattle.walk.specs.Papers.{walk_paper}
 use Rattle.walk_spec.specs.Literal.{Walk, literal_walk}
-use Rattle.walk_spec.specs.LiteralLaws.{literal_walk_lem}
+use Rattle.walk_spec.proofs.LiteralLaws.{literal_walk_lem}
 
 -- WHAT THE CODE'S PROMISE COMES TO, of a capture s, a buffer d that is d' later, and the answer x
 

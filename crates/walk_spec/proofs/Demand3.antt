@@ -18,7 +18,8 @@ use Rattle.ledger_spec.proofs.Agree.{agrees}
 use Rattle.ledger_spec.proofs.Demand3.{demand_3}
 use Rattle.ledger.proofs.Seam.{book_of_lem}
 use Rattle.walk_spec.specs.Walk.{walk_of, calls_of}
-use Rattle.walk_spec.specs.CallLaws.{walk_ledger, brought, or_false, walk_received, walk_gives_up_none}
+use Rattle.walk_spec.specs.CallLaws.{walk_ledger, brought, or_false, walk_gives_up_none}
+use Rattle.walk_spec.proofs.CallLaws.{walk_received}
 
 module _ (s : List ℕ) where
   -- the calls that the readings make, with their answers

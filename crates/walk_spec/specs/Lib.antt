@@ -10,5 +10,4 @@ pub mod CallLaws
 pub mod Literal
 pub mod FrameLaws
 pub mod Marked
-pub mod LiteralLaws
 pub mod Records

@@ -27,10 +27,6 @@ marked =
 abbrev pub marked_book : Book
 marked_book = record { channel = 100; floor = 0; top = 3; bits = 0; pending = nothing }
 
-pub marked_walk : literal_walk marked ≡ record { records = record_a ∷ record_fF ∷ record_b ∷ []; frames = 2; refused = 1; ledger = marked_book }
-unfolding literal_walk walk_from marked read_of checked measure_of kind_of suits real_time real_parts days_in leap judge_of fields_ok p001_ok numeral sum8 sum_of search_of first_of next_of number_to checked_of own_number sound_of map_rules range_rules done raised fresh
-marked_walk = refl
-
 pub marked_missing : answer_to marked_book (Ask Missing) ≡ answer 0 (3 ∷ [])
 unfolding answer_to values_of missing_count ones number_to checked_of own_number sound_of map_rules range_rules
 marked_missing = refl

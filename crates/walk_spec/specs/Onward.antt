@@ -15,7 +15,8 @@ use Rattle.walk_laws.specs.Literal.{is_frame, from_of, sought_of, sight_at, from
 use Rattle.reading.specs.declared.Seen.{Seen}
 use Rattle.reading.specs.Seen.{seen_of, seen_number, says_of}
 use Rattle.walk_spec.specs.Walk.{accepts, frames_of}
-use Rattle.reading.specs.SeenLaws.{says_frame, says_not, seen_answer, seen_blank, seen_fits}
+use Rattle.reading.specs.SeenLaws.{says_frame, says_not}
+use Rattle.reading.proofs.SeenLaws.{seen_answer, seen_blank, seen_fits}
 
 -- Where the walk goes on behind the reading at p, whose frame has size bytes, none if it was
 -- refused: past the frame; behind a refusal where the search from the next byte on finds a frame.

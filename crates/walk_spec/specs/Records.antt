@@ -17,10 +17,10 @@ use Rattle.walk_laws.specs.Account.{account_of}
 use Rattle.walk_laws.specs.Seen.{Rising, r_nil, r_cons, places_rise, Inside, i_in, i_later, Has, h_at, h_in, h_later, none_lost}
 use Rattle.reading.specs.declared.Seen.{Seen}
 use Rattle.reading.specs.Seen.{seen_of, seen_number, says_of}
-use Rattle.reading.specs.SeenLaws.{says_frame, frame_says, seen_answer}
+use Rattle.reading.specs.SeenLaws.{says_frame, frame_says}
+use Rattle.reading.proofs.SeenLaws.{seen_answer}
 use Rattle.walk_spec.specs.Walk.{made_of, record_by, book_by, sights, walk_of}
 use Rattle.walk_spec.specs.Literal.{length_in, ledger_after, frame_record, Walk, stopped, go_on, walk_from, literal_walk}
-use Rattle.walk_spec.specs.LiteralLaws.{literal_walk_lem}
 
 -- ======== What each is
 
@@ -33,28 +33,6 @@ pub data Tells (s : List ℕ) (r : Record) : Type 0 where
 pub data Each (s : List ℕ) : List Record → Type 0 where
   e_nil : Each s []
   e_cons : {r : Record} {rs : List Record} → Tells s r → Each s rs → Each s (r ∷ rs)
-
--- behind a refusal, wherever the search goes
-each_on : (k : ℕ) (s : List ℕ) (b : Book) (vs : List ℕ) → ((q : ℕ) → Each s (walk_from k s q b).records) → Each s (go_on (λ q. walk_from k s q b) (stopped b) vs).records
-each_on k s b [] ih = e_nil
-each_on k s b (q ∷ vs) ih = ih q
-
-each_from : (k : ℕ) (s : List ℕ) (p : ℕ) (b : Book) → Each s (walk_from k s p b).records
-unfolding walk_from
-each_from zero s p b = e_nil
-each_from (suc k) s p b =
-    ⊎_elim (λ (h : p < length s).
-    ⊎_elim (λ (z : (read_of (drop p s)).number ≡ 0).
-    rw (lt-leb (length s) p h, eq-eqb (read_of (drop p s)).number 0 z) (e_cons (a_frame p b z refl) (each_from k s (p + length_in (drop p s)) (ledger_after b (drop p s)))))
-    (λ (ne : (read_of (drop p s)).number ≡ 0 → ⊥).
-    rw (lt-leb (length s) p h, ne_eqb (read_of (drop p s)).number 0 ne) (e_cons (a_refusal p b ne refl) (each_on k s b (search_of s (p + 1)).values (λ q. each_from k s q b))))
-    (same (read_of (drop p s)).number 0))
-    (λ (h : length s ≤ p). rw (le-leb (length s) p h) e_nil)
-    (less p (length s))
-
-pub records_tell : (s : List ℕ) → Each s (walk_of s).records
-unfolding literal_walk
-records_tell s = rw (ap (λ (w : Walk). w.records) (literal_walk_lem s)) at (each_from (length s) s 0 (fresh 100))
 
 -- ======== Places rise
 

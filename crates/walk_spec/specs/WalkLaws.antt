@@ -11,7 +11,7 @@ use Rattle.walk_laws.specs.Account.{account_length}
 use Rattle.walk_laws.specs.Walk.{within}
 use Rattle.walk_laws.specs.Seen.{readings_few}
 use Rattle.reading.specs.Seen.{seen_of, says_of}
-use Rattle.reading.specs.SeenLaws.{seen_fits}
+use Rattle.reading.proofs.SeenLaws.{seen_fits}
 use Rattle.walk_spec.specs.Walk.{record_by, book_by, sights, walk_of, frames_of, refused_of, fits_in, walk_answer, walk_book, walk_leaves, table_of}
 use Rattle.walk_spec.specs.Tables.{written_from, written_all}
 use Rattle.walk_spec.specs.Counts.{counts}

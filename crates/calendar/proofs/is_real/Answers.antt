@@ -3,7 +3,7 @@
 use mathlib.Core.Path.{sym}
 use native.Mathlib.Omega.{arith}
 use borrow.Author.Rules.{rules}
-use Rattle.calendar.specs.Times.{date_too_long, in_halves}
+use Rattle.calendar.proofs.Times.{date_too_long, in_halves}
 use Rattle.calendar.proofs.is_real.Goals as goal
 
 pub returns-then-date-ge100000000 : goal.returns-then-date-ge100000000

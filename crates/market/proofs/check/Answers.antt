@@ -4,7 +4,7 @@ use native.Mathlib.Omega.{arith}
 use mathlib.Core.Path.{◌≡◌, sym, ap, ◌∙◌}
 use Rattle.market_columns.specs.Columns.{header}
 use Rattle.market_spec.specs.File.{fine, line_fault}
-use Rattle.market_spec.specs.Files.{line_long}
+use Rattle.market_spec.proofs.Files.{line_long}
 use Rattle.market_spec.specs.Types.{file_large, file_header, file_lines}
 use Rattle.market.specs.Papers.{verdict_paper, fault_some}
 use Rattle.market.proofs.check.Goals as goal

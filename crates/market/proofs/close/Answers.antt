@@ -2,7 +2,8 @@
 use borrow.Author.Rules.{rules}
 use borrow.Author.Tests.{not-true, not-false}
 use mathlib.Core.Path.{◌≡◌, sym, ◌∙◌}
-use Rattle.market_spec.specs.Files.{close_count, close_sum, close_fine}
+use Rattle.market_spec.specs.Files.{close_sum, close_fine}
+use Rattle.market_spec.proofs.Files.{close_count}
 use Rattle.market.proofs.close.Goals as goal
 
 pub returns-then-not-count_ok : goal.returns-then-not-count_ok

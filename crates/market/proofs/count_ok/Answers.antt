@@ -2,7 +2,8 @@
 use borrow.Author.Rules.{rules}
 use mathlib.Core.Path.{◌≡◌, sym, ap, ◌∙◌}
 use Rattle.market_columns.specs.Numbers.{amount_paper}
-use Rattle.market_spec.specs.Files.{count_lacks, count_there}
+use Rattle.market_spec.specs.Files.{count_lacks}
+use Rattle.market_spec.proofs.Files.{count_there}
 use Rattle.market.proofs.count_ok.Goals as goal
 
 pub returns-in-Nothing : goal.returns-in-Nothing

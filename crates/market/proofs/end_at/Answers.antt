@@ -3,7 +3,8 @@ use borrow.Author.Rules.{rules}
 use mathlib.Core.Path.{◌≡◌, sym, ap, ◌∙◌}
 use Rattle.market_spec.specs.File.{fine, tail_fault, marks, left_over}
 use Rattle.market_spec.specs.Files.{then_fine, then_fault}
-use Rattle.market_spec.specs.Types.{left_some, left_none}
+use Rattle.market_spec.specs.Types.{left_none}
+use Rattle.market_spec.proofs.Types.{left_some}
 use Rattle.market.specs.Papers.{verdict_paper, fault_some}
 use Rattle.market.proofs.end_at.Goals as goal
 use Rattle.market.proofs.end_at.Goals.{In-Fine}

@@ -7,7 +7,8 @@ use mathlib.Core.Bool.{true}
 use lib.ListN.{length}
 use Rattle.market_columns.specs.Columns.{columns, ok_at}
 use Rattle.market_spec.specs.File.{line_fault}
-use Rattle.market_spec.specs.Lines.{turn_cut, turn_wrong, turn_ends, turn_bar, turn_on, turn_none}
+use Rattle.market_spec.specs.Lines.{turn_none}
+use Rattle.market_spec.proofs.Lines.{turn_cut, turn_wrong, turn_ends, turn_bar, turn_on}
 use Rattle.market.specs.Papers.{fault_number}
 use Rattle.market.proofs.line_at.Goals as goal
 use Rattle.market.proofs.line_at.Goals.{Else-not-column_ok}

@@ -6,7 +6,8 @@ use mathlib.Core.List.{List}
 use lib.ListN.{length}
 use Rattle.market_columns.specs.Columns.{Column}
 use Rattle.market_spec.specs.File.{fine, line_fault, layout_of, type_at}
-use Rattle.market_spec.specs.Types.{Left, trailer_room, left_first, left_trailer, left_cut, left_type, left_wrong, left_farther, left_next}
+use Rattle.market_spec.specs.Types.{Left, trailer_room, left_first}
+use Rattle.market_spec.proofs.Types.{left_trailer, left_cut, left_type, left_wrong, left_farther, left_next}
 use Rattle.market.specs.Papers.{verdict_paper, fault_some}
 use Rattle.market.proofs.lines_at.Goals as goal
 use Rattle.market.proofs.lines_at.Goals.{In-Fine}

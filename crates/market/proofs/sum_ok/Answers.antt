@@ -2,7 +2,8 @@
 use borrow.Author.Rules.{rules}
 use mathlib.Core.Path.{◌≡◌, sym, ap, ◌∙◌}
 use Rattle.digits.specs.Digits.{decimal_paper}
-use Rattle.market_spec.specs.Files.{sum_lacks, sum_there}
+use Rattle.market_spec.specs.Files.{sum_lacks}
+use Rattle.market_spec.proofs.Files.{sum_there}
 use Rattle.market.proofs.sum_ok.Goals as goal
 
 pub returns-in-NoNumber : goal.returns-in-NoNumber

@@ -4,7 +4,7 @@ use mathlib.Core.Path.{◌≡◌, sym, ap, ◌∙◌}
 use mathlib.Core.Bool.{true, ◌||◌}
 use lib.Dec.{leb, eqb}
 use lib.ListN.{length}
-use Rattle.market_columns.specs.ColumnSteps.{turn_lacks, turn_constant, turn_blank, turn_number, turn_text, turn_name}
+use Rattle.market_columns.proofs.ColumnSteps.{turn_lacks, turn_constant, turn_blank, turn_number, turn_text, turn_name}
 use Rattle.market_columns.proofs.column_ok.Goals as goal
 use Rattle.market_columns.proofs.column_ok.Goals.{Else-not-has_room}
 

@@ -6,7 +6,8 @@ use mathlib.Core.Path.{◌≡◌, sym, ap, ◌∙◌}
 use lib.ListN.{take, drop}
 use Rattle.digits.specs.Digits.{number, decimal_at, decimal_paper}
 use Rattle.market_columns.specs.Numbers.{decimals_at}
-use Rattle.market_columns.specs.NumberSteps.{Steps, whole_lacks, parts_fit, d_room, parts_lack, parts_there, small}
+use Rattle.market_columns.specs.NumberSteps.{Steps}
+use Rattle.market_columns.proofs.NumberSteps.{whole_lacks, parts_fit, d_room, parts_lack, parts_there, small}
 use Rattle.market_columns.proofs.number_in.Goals as goal
 use Rattle.market_columns.proofs.number_in.Goals.{After-whole_width-n, In-Number, In-Number-decimals_at}
 

@@ -8,7 +8,7 @@ use lib.Dec.{leb}
 use lib.ListN.{length}
 use Rattle.octets.specs.Octets.{laid}
 use Rattle.market_columns.specs.Columns.{row_of, wide, is_fixed, fixed_text}
-use Rattle.market_columns.specs.ColumnSteps.{fixed_may, fixed_is_constant, fixed_is_blank, put_done}
+use Rattle.market_columns.proofs.ColumnSteps.{fixed_may, fixed_is_constant, fixed_is_blank, put_done}
 use Rattle.market_columns.proofs.put_fixed.Goals as goal
 
 pub returns-then-kind-eq0 : goal.returns-then-kind-eq0

@@ -6,7 +6,8 @@ use mathlib.Core.Path.{◌≡◌, ap, ◌∙◌}
 use mathlib.Core.List.{[]}
 use Rattle.digits.specs.Digits.{width_of}
 use Rattle.market_columns.specs.Numbers.{behind}
-use Rattle.market_columns.specs.NumberLaws.{ten_pos, d_few}
+use Rattle.market_columns.specs.NumberLaws.{ten_pos}
+use Rattle.market_columns.proofs.NumberLaws.{d_few}
 use Rattle.market_columns.specs.NumberPut.{fits_room, kept_spaces, long_3, stored}
 use Rattle.market_columns.proofs.store_number.Goals as goal
 use Rattle.market_columns.proofs.store_number.Goals.{After-behind}

@@ -1,6 +1,7 @@
 use Rattle.std.proofs.Common.{◌≡◌, ◌+◌, ◌-◌, ◌%◌, ◌≤◌, take, drop, sym, refl, ◌∙◌, arith, rules}
 use Rattle.octets.specs.Octets.{sum_after}
-use Rattle.octets.specs.Sums.{left_on, left_none, one_off}
+use Rattle.octets.specs.Sums.{left_none, one_off}
+use Rattle.octets.proofs.Sums.{left_on}
 use Rattle.octets.proofs.sum_after.Goals as goal
 
 pub loop-i-preserved : goal.loop-i-preserved

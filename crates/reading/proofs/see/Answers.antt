@@ -14,7 +14,7 @@ use Rattle.frame_view.specs.View.{view_of}
 use Rattle.frame_spec.specs.Outcomes.{good, read_done, read_length}
 use Rattle.frame_spec.specs.Measures.{fits}
 use Rattle.frame_spec.specs.Places.{part_body, inside_at}
-use Rattle.reading.specs.SeenLaws.{seen_refused, seen_read}
+use Rattle.reading.proofs.SeenLaws.{seen_refused, seen_read}
 use Rattle.reading.proofs.see.Goals as goal
 use Rattle.reading.proofs.see.Goals.{After-read_at, In-Frame}
 

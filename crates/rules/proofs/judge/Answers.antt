@@ -1,5 +1,5 @@
 -- `judge`: each return cites the outcome for the tests that led there. Assumes nothing.
-use Rattle.rules.specs.Outcomes.{judge_time, judge_field, judge_fine}
+use Rattle.rules.proofs.Outcomes.{judge_time, judge_field, judge_fine}
 use Rattle.calendar.specs.Calendar.{real_time}
 use borrow.Author.Tests.{not-true, not-false}
 use mathlib.Core.Bool.{true}

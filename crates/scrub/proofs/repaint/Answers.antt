@@ -6,7 +6,7 @@ use mathlib.Core.List.{List}
 use lib.ListN.{take, drop}
 use borrow.Author.Rules.{rules}
 use Rattle.private.specs.Scrub.{summed}
-use Rattle.private.specs.Spans.{small_kept}
+use Rattle.private.proofs.Spans.{small_kept}
 use Rattle.scrub.proofs.repaint.Goals as goal
 
 pub store_sum-requires : goal.store_sum-requires

@@ -1,6 +1,7 @@
 -- `scrub`: reading's refusal is passed on; of a frame that reads, its paper tells the type and the
 -- length that it is scrubbed by, and CheckSum's last byte the sum. Assumes nothing.
-use Rattle.private.specs.Laws.{answer_as, read_there, read_suits, read_sum, read_small, read_scrubs, answer_refused, refused_same}
+use Rattle.private.specs.Laws.{answer_refused, refused_same}
+use Rattle.private.proofs.Laws.{answer_as, read_there, read_suits, read_sum, read_small, read_scrubs}
 use Rattle.frame_spec.specs.Outcomes.{read_done, read_values, read_length}
 use Rattle.frame.specs.Papers.{read_paper}
 use Rattle.frame_spec.specs.Frame.{msg_type, body_length, read_of}

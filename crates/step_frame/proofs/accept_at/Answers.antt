@@ -1,7 +1,8 @@
 -- `accept_at`: the fields are a part of the bytes; their judgement is the answer. Assumes nothing.
 use Rattle.step_spec.specs.HeadLaws.{kind_at, fields_at, accepted_at}
 use Rattle.step_frame.specs.Papers.{check_number, step_pos}
-use Rattle.step_spec.specs.HeadLaws.{sum_room, read_judged, read_frame}
+use Rattle.step_spec.specs.HeadLaws.{read_judged, read_frame}
+use Rattle.step_spec.proofs.HeadLaws.{sum_room}
 use Rattle.step_spec.specs.Frame.{body_start, body_length, kind, fields}
 use Rattle.step_spec.specs.Fields.{judge_of}
 use lib.ListN.{length, drop, length-drop}

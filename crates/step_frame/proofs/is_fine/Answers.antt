@@ -14,7 +14,8 @@ use Rattle.step_tags.specs.Laws.{fit_small}
 use Rattle.step_spec.specs.Fields.{tag_of, value_of}
 use Rattle.step_spec.specs.FieldLaws.{piece}
 use Rattle.step_spec.specs.Seen.{seen_none, set_room}
-use Rattle.step_spec.specs.Pass.{fine_from, pass_stops, pass_on, pass_no_field, pass_end, stands_row, stands_small, stands_new}
+use Rattle.step_spec.specs.Pass.{fine_from}
+use Rattle.step_spec.proofs.Pass.{pass_stops, pass_on, pass_no_field, pass_end, stands_row, stands_small, stands_new}
 use Rattle.step_frame.proofs.is_fine.Goals as goal
 
 fitting : (r : Fit) (at : ℕ) (t : List ℕ) (row next : ℕ) → r ≡ Fit.Row row next → FitSays r at t → Fitting at t row next

@@ -1,6 +1,6 @@
 -- `judge`: a pass that fails leaves 7 where a time is not real, else 26. Assumes nothing.
-use Rattle.step_spec.specs.FieldLaws.{judged_7}
-use Rattle.step_spec.specs.Pass.{fine_judged, unfine_judged}
+use Rattle.step_spec.proofs.FieldLaws.{judged_7}
+use Rattle.step_spec.proofs.Pass.{fine_judged, unfine_judged}
 use mathlib.Core.Path.{sym, ◌∙◌}
 use Rattle.step_frame.proofs.judge.Goals as goal
 

@@ -1,7 +1,8 @@
 -- `length_at`: the window of ten bytes is a part of the bytes; each return is one outcome of its
 -- check. Assumes nothing.
 use Rattle.step_spec.specs.FrontLaws.{run_le}
-use Rattle.step_spec.specs.HeadLaws.{window_part, window_length, window_byte, window_number, length_empty, length_many, length_zero, length_more, length_open, length_none, length_good}
+use Rattle.step_spec.specs.HeadLaws.{window_part, window_length, window_byte, window_number, length_empty}
+use Rattle.step_spec.proofs.HeadLaws.{length_many, length_zero, length_more, length_open, length_none, length_good}
 use Rattle.step_spec.specs.Frame.{body_start, body_length, window, digit_run}
 use Rattle.terms.specs.Paper.{Paper}
 use Rattle.terms.specs.Checks.{else_on, else_is}

@@ -1,7 +1,8 @@
 -- `may_write`: the frame's length is told without making it; then each check in turn.
 -- Assumes nothing.
 use Rattle.step_frame.specs.Papers.{check_number, step_pos}
-use Rattle.step_spec.specs.WriteLaws.{frame_over, frame_size, write_long, write_type, write_judged, write_room, write_fine}
+use Rattle.step_spec.specs.WriteLaws.{frame_over, write_long, write_type, write_judged, write_room, write_fine}
+use Rattle.step_spec.proofs.WriteLaws.{frame_size}
 use Rattle.step_spec.specs.Written.{frame_of}
 use Rattle.step_tags.specs.Table.{among, types}
 use Rattle.terms.specs.Paper.{answer}

@@ -1,7 +1,8 @@
 -- `store_plain`: each piece is laid behind the ones before it. Assumes nothing.
 use Rattle.octets.specs.Papers.{lay_next}
-use Rattle.step_spec.specs.WriteLaws.{frame_over, frame_size, plain_pieces}
-use Rattle.step_spec.specs.RoundTrip.{plain_long}
+use Rattle.step_spec.specs.WriteLaws.{frame_over, plain_pieces}
+use Rattle.step_spec.proofs.WriteLaws.{frame_size}
+use Rattle.step_spec.proofs.RoundTrip.{plain_long}
 use Rattle.step_spec.specs.Written.{frame_of}
 use Rattle.step_spec.specs.Frame.{begin, length_tag, type_tag}
 use Rattle.step_spec.specs.Pieces.{SOH}

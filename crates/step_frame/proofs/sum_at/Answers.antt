@@ -1,5 +1,6 @@
 -- `sum_at`: the trailer is laid out with the sum, and expected behind the body. Assumes nothing.
-use Rattle.step_spec.specs.HeadLaws.{sum_short, sum_open, sum_is, trailer_laid}
+use Rattle.step_spec.specs.HeadLaws.{trailer_laid}
+use Rattle.step_spec.proofs.HeadLaws.{sum_short, sum_open, sum_is}
 use lib.Seq.{drop-drop, get_or-drop}
 use lib.ListN.{drop, get_or, length-drop}
 use mathlib.Core.List.{List}

@@ -1,5 +1,5 @@
 use Rattle.step_scrub.specs.Moved.{moved_same, moved_on}
-use Rattle.step_scrub.specs.Turns.{field_here, fields_cut, painted_done, turn_drop, turn_take, turn_length}
+use Rattle.step_scrub.proofs.Turns.{field_here, fields_cut, painted_done, turn_drop, turn_take, turn_length}
 use Rattle.step_scrub.specs.Scrubbed.{painted}
 use Rattle.step_frame.specs.declared.Field.{Field}
 use Rattle.step_spec.specs.Fields.{field_at}

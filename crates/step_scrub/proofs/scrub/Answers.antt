@@ -1,11 +1,12 @@
 -- `scrub`: a refusal is reading's; else the fields are painted as a part, and the sum moved.
 -- Assumes nothing.
 use Rattle.step_spec.specs.Frame.{step_read_of}
-use Rattle.step_scrub.specs.ScrubLaws.{Told, told, end_is, part_is, end_in, sum_there, closed_fields, all_fields_lem, same_long, painting, renewing, scrub_off, scrub_on}
+use Rattle.step_scrub.specs.ScrubLaws.{scrub_off, scrub_on}
+use Rattle.step_scrub.proofs.ScrubLaws.{Told, told, end_is, part_is, end_in, sum_there, closed_fields, all_fields_lem, same_long, painting, renewing}
 use Rattle.step_scrub.specs.Scrubbed.{painted}
 use Rattle.step_frame.specs.declared.Read.{Read}
 use Rattle.step_frame.specs.Papers.{read_paper, step_pos}
-use Rattle.step_spec.specs.Exactly.{fields_long}
+use Rattle.step_spec.proofs.Exactly.{fields_long}
 use Rattle.step_spec.specs.Frame.{body_start, fields}
 use Rattle.octets.specs.Overlays.{length_laid}
 use Rattle.octets.specs.Octets.{laid}

@@ -12,7 +12,7 @@ use Rattle.frame_view.specs.declared.View.{View}
 use Rattle.private.specs.Laws.{Alike}
 use Rattle.private.specs.PrivateLaws.{view_same}
 use Rattle.reading.specs.Seen.{shown, seen_of}
-use Rattle.reading.specs.SeenLaws.{seen_frame}
+use Rattle.reading.proofs.SeenLaws.{seen_frame}
 
 module _ (f g : List ℕ) (a : Alike f g) where
   -- the header's numbers

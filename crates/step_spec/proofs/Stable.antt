@@ -12,11 +12,12 @@ use Rattle.step_tags.specs.Table.{among, types}
 use Rattle.octets.specs.Octets.{sum8}
 use Rattle.step_spec.specs.Pieces.{SOH, pieces}
 use Rattle.step_spec.specs.Fields.{judge_of, sound_of, unreal_in}
-use Rattle.step_spec.specs.FieldLaws.{judged_7, judged_26, judged_fine}
 use Rattle.step_spec.specs.Frame.{begin, length_tag, type_tag, trailer_of, front, digit_run, window, length_check, body_start, body_length, body_end, frame_length, long_check, kind_check, type_check, head_of, sum_check, kind, fields, verdict_of, step_read_of}
 use Rattle.step_spec.specs.FrontLaws.{front_length, kind_other, kind_there, run_le, reads_on, reads_off}
-use Rattle.step_spec.specs.HeadLaws.{length_many, length_zero, length_more, length_open, length_none, length_good, long_off, long_on, type_short, type_is, sum_short, sum_open, sum_is}
-use Rattle.step_spec.specs.Exactly.{LengthField, length_field, decimal_cases, trailer_long}
+use Rattle.step_spec.specs.HeadLaws.{long_off, long_on, type_short, type_is}
+use Rattle.step_spec.specs.Exactly.{LengthField, decimal_cases, trailer_long}
+use Rattle.step_spec.proofs.FieldLaws.{judged_26, judged_fine, judged_7}
+use Rattle.step_spec.proofs.HeadLaws.{length_many, length_open, length_good, length_none, length_zero, sum_is, sum_open}
 
 front_decided : (why : ℕ) (ls s : List ℕ) → (why ≡ 1 → ⊥) → length ls ≤ length s → front why ls s ≡ 1 → ⊥
 unfolding front

@@ -18,22 +18,25 @@ use Rattle.frame_spec.specs.Write.{Message, message_of}
 use Rattle.private.specs.Private.{private_of}
 use Rattle.private.specs.Scrub.{spans_of, clean_body, scrubbed, scrub_answer}
 use Rattle.private.specs.Paint.{Inside, painted_agrees}
-use Rattle.private.specs.PrivateLaws.{PrivateByte, private_is, private_few, private_same}
+use Rattle.private.specs.PrivateLaws.{PrivateByte, private_few, private_same}
+use Rattle.private.proofs.PrivateLaws.{private_is}
 use Rattle.private.specs.Laws as scrubs
-use Rattle.private.specs.Laws.{Alike, spans_within, scrub_message, scrub_keeps, scrub_alike, length_always, answer_as}
+use Rattle.private.specs.Laws.{Alike}
+use Rattle.private.proofs.Laws.{spans_within, scrub_message, scrub_keeps, scrub_alike, length_always, answer_as}
 use Rattle.walk_laws.specs.Walk.{frame}
 use Rattle.walk_laws.specs.Account as Account
 use Rattle.walk_laws.specs.Account.{account_of}
 use Rattle.walk_laws.specs.Frames.{joined, each_of, Frames, f_nil, f_cons, ReadAlike as SeenAlike, a_nil, a_cons, alike as seen-joined}
 use Rattle.reading.specs.Seen.{seen_of, says_of}
-use Rattle.reading.specs.SeenLaws.{seen_answer, seen_size, says_frame, seen_kept, seen_fits}
-use Rattle.reading.specs.Private.{seen_alike}
+use Rattle.reading.specs.SeenLaws.{says_frame}
+use Rattle.reading.proofs.SeenLaws.{seen_answer, seen_size, seen_kept, seen_fits}
+use Rattle.reading.proofs.Private.{seen_alike}
 use Rattle.ledger_spec.specs.Calls.{Request, answer_to, fresh}
 use Rattle.ledger_spec.specs.Trace.{none}
 use Rattle.walk_spec.specs.Walk as walk
 use Rattle.walk_spec.specs.Walk.{sights, record_by, book_by, walk_of, calls_from, calls_of, walk_answer, walk_book, walk_leaves}
 use Rattle.walk_spec.specs.Literal.{Walk, literal_walk}
-use Rattle.walk_spec.specs.LiteralLaws.{literal_walk_lem}
+use Rattle.walk_spec.proofs.LiteralLaws.{literal_walk_lem}
 use Rattle.listing_text.specs.Listed.{listed_of}
 use Rattle.listing_text.specs.Output.{output_of}
 use Rattle.month_spec.specs.Figures.{figures_of, figure_of}

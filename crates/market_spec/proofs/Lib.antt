@@ -1,0 +1,13 @@
+pub mod Files
+pub mod Given
+pub mod LineValues
+pub mod Lines
+pub mod LinesValues
+pub mod Lowest
+pub mod Renamed
+pub mod Sound
+pub mod Told
+pub mod TrailerText
+pub mod Types
+pub mod Walk
+pub mod WrittenAgain

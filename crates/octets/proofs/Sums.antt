@@ -1,0 +1,64 @@
+-- Laws of the sums.
+use Rattle.std.specs.Prelude.{◌≡◌, ℕ, suc, ◌+◌, ◌-◌, ◌%◌, ◌^◌, ◌<◌, ◌≤◌, min, List, [], ◌∷◌, ◌++◌, length, take, drop, replicate, slice_index, slice_range}
+use Rattle.std.proofs.Common.{sym, ap, ◌∙◌, append_assoc, ⊎_elim, add-one, zero-add, add_assoc, arith, length-drop, drop_of_length-le, take-suc, drop-cons, get_or-drop, length-take-le, take-add, drop-drop}
+use Rattle.std.proofs.Math.Nat.{add-mod}
+use Rattle.std.proofs.lemmas.List.{length-replicate}
+use Rattle.std.proofs.Math.Seq.{take-nil}
+use Rattle.terms.specs.Cases.{less}
+use Rattle.octets.specs.Octets.{sum_of, sum8, sum_after, laid}
+use Rattle.octets.specs.Overlays.{take_laid, mid_laid, drop_laid}
+use Rattle.octets.specs.Sums.{sum_of_append}
+
+-- A SUM AFTER BYTES CHANGED, without the others
+
+one_changed : (p x q b v : ℕ) → v ≡ (p + (x + q)) % 256 → (v + (256 - x % 256) + b) % 256 ≡ (p + (b + q)) % 256
+one_changed p x q b v e = omega arith
+
+-- where v is the sum of all, it is after the old bytes became b the sum of what then stands there
+pub sum_after_lem : (a old c : List ℕ) (b v : ℕ) → v ≡ sum8 (a ++ (old ++ c)) → sum_after v old b ≡ sum8 (a ++ (replicate (length old) b ++ c))
+unfolding sum_after sum8 sum_of
+sum_after_lem a [] c b v e = e
+sum_after_lem a (x ∷ old) c b v e =
+    let h : v ≡ (sum_of a + (x + sum_of (old ++ c))) % 256 = e ∙ ap (λ (k : ℕ). k % 256) (sum_of_append a (x ∷ (old ++ c))) in
+    let g : (v + (256 - x % 256) + b) % 256 ≡ sum8 ((a ++ (b ∷ [])) ++ (old ++ c)) =
+    one_changed (sum_of a) x (sum_of (old ++ c)) b v h ∙ ap (λ (k : ℕ). k % 256) (sym (ap sum_of (append_assoc a (b ∷ []) (old ++ c)) ∙ sum_of_append a (b ∷ (old ++ c)))) in
+    sum_after_lem (a ++ (b ∷ [])) old c b _ g ∙ ap sum8 (append_assoc a (b ∷ []) (replicate (length old) b ++ c))
+
+-- the first bytes of a list in three parts
+in_three : (at n k : ℕ) (d : List ℕ) → take (at + (n + k)) d ≡ take at d ++ (take n (drop at d) ++ take k (drop (at + n) d))
+in_three at n k d =
+    take-add at (n + k) d ∙ ap (λ (x : List ℕ). take at d ++ x) (take-add n k (drop at d) ∙ ap (λ (y : List ℕ). take n (drop at d) ++ take k y) (drop-drop n at d))
+
+-- the same where the bytes stand: v is the sum of the first m of a list, and n of these are
+-- painted over
+module _ (d : List ℕ) (m at n b v : ℕ) (within : at + n ≤ m) (there : m ≤ length d) where
+  abbrev bs : List ℕ
+  bs = replicate n b
+
+  abbrev behind : List ℕ
+  behind = take (m - at - n) (drop (at + n) d)
+
+  fits : at + length bs ≤ length d
+  fits = rw (length-replicate n b) (omega arith)
+
+  split : at + (n + (m - at - n)) ≡ m
+  split = omega arith
+
+  painted : take m (laid at bs d) ≡ take at d ++ (bs ++ behind)
+  painted =
+      let mid : take n (drop at (laid at bs d)) ≡ bs = rw (length-replicate n b) at (mid_laid at bs d fits) in
+      let end : drop (at + n) (laid at bs d) ≡ drop (at + n) d = rw (length-replicate n b) at (drop_laid at bs d fits) in
+      ap (λ (x : ℕ). take x (laid at bs d)) (sym split) ∙ in_three at n (m - at - n) (laid at bs d) ∙ rw (take_laid at bs d fits, mid, end)
+
+  pub sum_after_part : v ≡ sum8 (take m d) → sum_after v (take n (drop at d)) b ≡ sum8 (take m (laid at bs d))
+  sum_after_part e =
+      let old = take n (drop at d) in
+      let long : length old ≡ n = length-take-le n (drop at d) (simp length-drop (omega arith)) in
+      sum_after_lem (take at d) old behind b v (e ∙ ap sum8 (ap (λ (x : ℕ). take x d) (sym split) ∙ in_three at n (m - at - n) d))
+      ∙ ap (λ (x : ℕ). sum8 (take at d ++ (replicate x b ++ behind))) long
+      ∙ ap sum8 (sym painted)
+
+-- what is left to take off from the place i on, up to m
+pub left_on : (s : List ℕ) (m i v w b : ℕ) → i < m → i < length s → w ≡ (v + (256 - slice_index s i % 256) + b) % 256 → sum_after w (take (m - (i + 1)) (drop (i + 1) s)) b ≡ sum_after v (slice_range s i m) b
+unfolding sum_after
+left_on s m i v w b h l e = let p : m - i ≡ suc (m - (i + 1)) = omega arith in rw (p, drop-cons s i 0 l, add-one, e)

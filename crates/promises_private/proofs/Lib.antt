@@ -1,0 +1,3 @@
+pub mod TwoCapturesArriving
+pub mod TwoCapturesHold
+pub mod Witness

@@ -1,0 +1,12 @@
+pub mod Decided
+pub mod Exactly
+pub mod FieldLaws
+pub mod GivenRead
+pub mod GivenWrite
+pub mod HeadLaws
+pub mod Pass
+pub mod RoundTrip
+pub mod Sound
+pub mod Stable
+pub mod Stays
+pub mod WriteLaws

@@ -1,0 +1,22 @@
+-- A verdict as document 01's number: 0, or the refusal's.
+use Rattle.std.specs.Prelude.{ℕ, ◌≡◌, refl, List}
+use Rattle.std.proofs.Common.{sym, ap, ◌∙◌}
+use Rattle.terms.specs.Paper.{refusal}
+use Rattle.terms.specs.Refusals.{number_of, told}
+use Rattle.terms.specs.declared.Verdict.{Verdict}
+use Rattle.terms.specs.declared.Verdict.TheVariants.{Fine, Refused}
+use Rattle.terms.proofs.Refusals.{told_refused}
+use Rattle.terms.specs.Verdicts.{verdict_number}
+
+-- the verdict told from its number
+told_verdict : ℕ → Verdict
+told_verdict n = told (λ (vs : List ℕ). Fine) Refused (refusal n)
+
+verdict_told : (v : Verdict) → told_verdict (verdict_number v) ≡ v
+unfolding told_verdict told
+verdict_told Fine = refl
+verdict_told (Refused w) = told_refused (λ (vs : List ℕ). Fine) Refused w
+
+-- two verdicts of one number are one
+pub verdict_one : (v w : Verdict) → verdict_number v ≡ verdict_number w → v ≡ w
+verdict_one v w e = sym (verdict_told v) ∙ ap told_verdict e ∙ verdict_told w
