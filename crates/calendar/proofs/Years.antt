@@ -6,7 +6,7 @@ use Rattle.std.proofs.lemmas.Bool.{eqb-false, not-true}
 use Rattle.terms.specs.Paper.{pick}
 use Rattle.terms.specs.Says.{Says, says_eq, says_and, says_or, says_not, says_as}
 use Rattle.calendar.specs.Calendar.{leap, days_in, real_parts, real_time}
-use Rattle.calendar.specs.Years.{Divides, LeapYear, lengths, leap_day, leaps_from, total, days_from, some_real, some_not}
+use Rattle.calendar.specs.Years.{Divides, LeapYear, lengths, leap_day, leaps_from, total, days_from, some_not, some_real}
 
 says_4 : (y : ℕ) → Says (eqb (y % 4) 0) (Divides 4 y)
 says_4 y = says_as (says_eq (y % 4) 0) (λ e. (y / 4, omega arith)) (λ d. let e = d.1 in omega arith)

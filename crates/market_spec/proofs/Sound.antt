@@ -28,7 +28,7 @@ use Rattle.market_spec.proofs.LineValues.{line_reads, line_writes}
 use Rattle.market_spec.proofs.LinesValues.{lines_back, lines_made}
 use Rattle.market_spec.proofs.Told.{line_told}
 use Rattle.market_spec.proofs.TrailerText.{trailer_bytes, trailer_is, trailer_made}
-use Rattle.market_spec.specs.Sound.{units_in, sign_in, head_values, head_of, Values, Parts, values_of, body_of, file_of, body_is, body_long, head_text, SoundIs, values_fit, file_is, lines_few, SoundMade, MadeOf, Sound}
+use Rattle.market_spec.specs.Sound.{units_in, sign_in, head_of, head_values, Values, Parts, body_of, file_is, values_of, body_is, head_text, values_fit, body_long, SoundIs, file_of, lines_few, SoundMade, MadeOf, Sound}
 
 -- THE HEADER'S SHAPE
 

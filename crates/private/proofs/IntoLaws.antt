@@ -20,8 +20,8 @@ use Rattle.private.specs.Scrub.{spans_of, scrubbed}
 use Rattle.private.specs.Paint.{Agree}
 use Rattle.private.specs.Laws.{Alike}
 use Rattle.private.specs.Into.{frame_in, into_answer, into_leaves}
-use Rattle.private.proofs.Laws.{length_always, scrub_alike}
-use Rattle.private.specs.IntoLaws.{Into, into_passed, into_kept}
+use Rattle.private.proofs.Laws.{scrub_alike, length_always}
+use Rattle.private.specs.IntoLaws.{i_lacks, i_done, into_passed, i_passed, Into, into_kept}
 
 -- A FRAME'S OWN BYTES
 

@@ -27,8 +27,8 @@ use Rattle.stream_spec.specs.Trace.{Asked, Calls, none, ◌▸◌, after, accept
 use Rattle.stream_spec.specs.Words.{wait_at, decided, readings, tallied, number_told}
 use Rattle.stream_spec.proofs.Cuttings.{below_records, every_cutting}
 use Rattle.promises_private.specs.TwoCaptures.{Pairwise, no_pair, one_pair, TwoCaptures}
-use Rattle.promises_private.proofs.TwoCapturesHold.{same_seen, first_frame, second_frame, same_sights, same_long}
-use Rattle.promises_private.specs.TwoCapturesArriving.{Alike, SameCall, Fronts, next_cut, closing, CutAlike, SameArriving}
+use Rattle.promises_private.proofs.TwoCapturesHold.{first_frame, same_seen, second_frame, same_long, same_sights}
+use Rattle.promises_private.specs.TwoCapturesArriving.{Alike, SameCall, next_cut, Fronts, closing, CutAlike, the_end, one_cut, no_cut, SameArriving}
 
 -- PROOF
 

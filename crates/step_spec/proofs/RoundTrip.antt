@@ -22,7 +22,7 @@ use Rattle.step_spec.specs.Frame.{begin, length_tag, type_tag, trailer_of, front
 use Rattle.step_spec.specs.FrontLaws.{front_of_lem, kind_there}
 use Rattle.step_spec.specs.HeadLaws.{long_on, type_is, read_frame}
 use Rattle.step_spec.specs.Written.{plain_of, frame_of}
-use Rattle.step_spec.proofs.FieldLaws.{judged_26, judged_7}
+use Rattle.step_spec.proofs.FieldLaws.{judged_7, judged_26}
 use Rattle.step_spec.proofs.HeadLaws.{length_good, sum_is}
 use Rattle.step_spec.specs.RoundTrip.{text_of, last_soh, text_is}
 
