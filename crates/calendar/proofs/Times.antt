@@ -7,7 +7,7 @@ use Rattle.std.proofs.lemmas.Bool.{lt-leb}
 use Rattle.terms.specs.Paper.{pick}
 use Rattle.terms.specs.Says.{Says, says_le, says_and, says_as}
 use Rattle.calendar.specs.Calendar.{leap, days_in, Parts, time_of, TimeRules, RealTime, date_ok, clock_ok, time_ok, real_parts, real_time}
-use Rattle.calendar.specs.Times.{parts_back, time_back}
+use Rattle.calendar.specs.Times.{time_back, parts_back}
 
 -- THE TEST
 rules_say : (p : Parts) → Says (time_ok p) (TimeRules p)

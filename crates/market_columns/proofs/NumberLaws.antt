@@ -20,7 +20,7 @@ use Rattle.digits.specs.Laws.{both, length_decimal, all_decimal, said_decimal, s
 use Rattle.digits.specs.Texts.{Says, given_number, number_given, given_decimal, decimal_given, digits_written, decimal_written, shown_plain}
 use Rattle.market_columns.specs.Numbers.{amount, spaces, sign_of, behind, decimals_at, unless0, joined, start_of, whole_of, number_in, sign_text, decimals_text, number_text, column_text, number_fits}
 use Rattle.market_columns.specs.Pieces.{Either, digits_either, decimal_either, decimal_same, digits_same, spaces_most, spaces_stand, spaces_front, spaces_none}
-use Rattle.market_columns.specs.NumberLaws.{ten_pos, decimals_long, NumberFits, SaysOrNot}
+use Rattle.market_columns.specs.NumberLaws.{ten_pos, NumberFits, decimals_long, SaysOrNot}
 
 -- the column t with d decimals has 003's form, and says v units with the sign m
 pub record NumberSays (d : ℕ) (t : List ℕ) (m v : ℕ) : Type 0 where

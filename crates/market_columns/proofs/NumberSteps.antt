@@ -11,6 +11,7 @@ use Rattle.digits.specs.Texts.{Says, decimal_given}
 use Rattle.market_columns.specs.Numbers.{spaces, sign_of, behind, decimals_at, unless0, joined, start_of, whole_of, number_in, number_at}
 use Rattle.market_columns.specs.Pieces.{column_length, decimal_within, behind_some}
 use Rattle.market_columns.proofs.NumberLaws.{lo_below}
+use Rattle.market_columns.specs.NumberSteps.{Steps}
 
 module _ (d at w : ℕ) (s : List ℕ) (k m n : ℕ) (q : Steps d at w s k m n) where
   abbrev t : List ℕ

@@ -10,8 +10,8 @@ use Rattle.market_columns.specs.NumberLaws.{number_fits_lem, fits_number, SaysOr
 use Rattle.market_columns.specs.Pieces.{spaces_front, spaces_stand}
 use Rattle.market_columns.specs.Columns.{Column, K, S, N, C, U, wide, blank, column_ok}
 use Rattle.market_columns.specs.ColumnLaws.{alike_self, alike_is}
-use Rattle.market_columns.proofs.NumberLaws.{says_fits, says_back, number_says, number_either, column_fore, column_long}
-use Rattle.market_columns.specs.Values.{Back, value_in, text_of, fits, Value, Fore, Number, Text, Fixed}
+use Rattle.market_columns.proofs.NumberLaws.{number_says, says_fits, says_back, number_either, column_long, column_fore}
+use Rattle.market_columns.specs.Values.{value_in, Back, text_of, fits, Value, Text, Number, Fixed, Fore}
 
 blank_is : (x : List ℕ) → blank x ≡ true → x ≡ replicate (length x) 32
 blank_is x e =

@@ -15,7 +15,7 @@ use Rattle.market_columns.specs.Pieces.{column_length, column_byte}
 use Rattle.digits.specs.Digits.{number, nothing, digits_at}
 use Rattle.octets.specs.Octets.{sum8}
 use Rattle.market_spec.specs.File.{fault, fine, place_of, and_then, end_of, line_fault, words, word_of, begins_at, type_at, layout_of, marks, mark_ok, tail_fault, count_ok, sum_ok, closing, trailer_fault, lines_fault}
-use Rattle.market_spec.proofs.Lines.{line_wrong, line_bar, line_ends, line_cut, line_on}
+use Rattle.market_spec.proofs.Lines.{line_on, line_wrong, line_bar, line_cut, line_ends}
 use Rattle.market_spec.specs.Files.{x}
 
 -- HOW FAR A LINE GOES

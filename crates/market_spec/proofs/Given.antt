@@ -7,8 +7,8 @@ use Rattle.market_columns.specs.Columns.{header}
 use Rattle.market_spec.specs.File.{fault, fine, place_of, type_at, layout_of, mark_ok, count_ok, sum_ok, fault_of}
 use Rattle.market_spec.specs.LinesValues.{is_line}
 use Rattle.market_spec.specs.Walk.{At, Wrong, Cut, MarksAt, Walked, Whole, Finding, large, header_wrong, header_cut, type_wrong, type_cut, column_wrong, line_cut_short, mark_wrong, trailer_cut, left_over_lem, count_wrong, sum_wrong, sound}
-use Rattle.market_spec.proofs.Walk.{answers, found}
-use Rattle.market_spec.specs.Given.{in_line, in_type, in_header, Given40, in_trailer, left, Given41, Given42, Given43, Given44, Given45, Given46}
+use Rattle.market_spec.proofs.Walk.{found, answers}
+use Rattle.market_spec.specs.Given.{left, in_trailer, Given40, in_line, in_header, in_type, Given41, Given42, Given43, Given44, Given45, Given46}
 
 -- papers of two numbers are not equal
 other : {A : Type 0} {p q : Paper} → p ≡ q → (p.number ≡ q.number → ⊥) → A

@@ -12,8 +12,8 @@ use Rattle.market_columns.specs.Tables.{length_of}
 use Rattle.market_spec.specs.File.{fault, fine, place_of, end_of, line_fault}
 use Rattle.market_columns.specs.Values.{Value, value_in, text_of, fits}
 use Rattle.market_columns.proofs.Values.{column_reads, column_writes}
-use Rattle.market_spec.proofs.Lines.{line_wrong, line_bar, line_ends, line_cut, line_on}
-use Rattle.market_spec.specs.LineValues.{Passed, line_values, LineBack, line_text, line_fits, joint, after, line_fits_both, front}
+use Rattle.market_spec.proofs.Lines.{line_on, line_wrong, line_bar, line_cut, line_ends}
+use Rattle.market_spec.specs.LineValues.{Passed, line_fits, line_text, line_values, LineBack, joint, after, front, line_fits_both}
 
 not_fine : (n q e : ℕ) → (n ≡ 0 → ⊥) → fault n q ≡ fine e → ⊥
 not_fine n q e h p = h (ap (λ (x : Paper). x.number) p)

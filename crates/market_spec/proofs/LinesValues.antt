@@ -16,7 +16,7 @@ use Rattle.market_spec.specs.Types.{type_most}
 use Rattle.market_spec.proofs.Files.{line_long}
 use Rattle.market_spec.proofs.LineValues.{line_reads, line_writes}
 use Rattle.market_spec.proofs.Told.{line_told}
-use Rattle.market_spec.specs.LinesValues.{lines_values, lines_text, is_line_holds, not_line, LinesBack, lines_fit, type_drop, text_of_line, is_line, line_kind, Line, LinesMade}
+use Rattle.market_spec.specs.LinesValues.{LinesBack, lines_fit, lines_values, is_line_holds, not_line, lines_text, Line, line_kind, text_of_line, type_drop, is_line, LinesMade}
 
 pub lines_back : (f k at n : ℕ) (s : List ℕ) → at ≤ length s → lines_fault f k at s ≡ fine n → LinesBack k at n s (lines_values f at s)
 unfolding lines_fault lines_values lines_text lines_fit

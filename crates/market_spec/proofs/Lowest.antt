@@ -14,7 +14,7 @@ use Rattle.market_spec.specs.LinesValues.{is_line}
 use Rattle.market_spec.specs.Walk.{At, start, next, Walked, head, line, From, line_from}
 use Rattle.market_spec.proofs.Lines.{line_wrong, line_bar, line_ends, line_cut}
 use Rattle.market_spec.proofs.Walk.{at_is, walked_is}
-use Rattle.market_spec.specs.Lowest.{beyond, Counted, here, RightThere, first, later, Starts}
+use Rattle.market_spec.specs.Lowest.{beyond, Counted, here, RightThere, Starts, later, first}
 
 counted_all : {cs0 : List Column} {p0 : ℕ} (cs : List Column) (p : ℕ) → Counted cs0 p0 cs p → Counted cs0 p0 [] (p + length_of cs)
 counted_all [] p a = rw (add-zero p) a

@@ -24,7 +24,7 @@ use Rattle.market_spec.specs.Told.{Told, at_place, refused}
 use Rattle.market_spec.specs.Walk.{line_not}
 use Rattle.market_spec.proofs.Files.{close_count, line_long}
 use Rattle.market_spec.proofs.Told.{line_told}
-use Rattle.market_spec.specs.Renamed.{Agree, Step, but_name, ButNames, alike_all, But46, Renamed}
+use Rattle.market_spec.specs.Renamed.{Agree, ButNames, Step, alike_all, but_name, But46, Renamed}
 
 row_agree : (n : ℕ) (cs : List Column) (p : ℕ) (s t : List ℕ) → length s ≡ length t → Agree cs (drop p s) (drop p t) → line_fault n cs p s ≡ line_fault n cs p t
 unfolding line_fault

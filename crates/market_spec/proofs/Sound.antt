@@ -27,8 +27,8 @@ use Rattle.market_spec.proofs.Files.{line_long}
 use Rattle.market_spec.proofs.LineValues.{line_reads, line_writes}
 use Rattle.market_spec.proofs.LinesValues.{lines_back, lines_made}
 use Rattle.market_spec.proofs.Told.{line_told}
-use Rattle.market_spec.proofs.TrailerText.{trailer_bytes, trailer_is, trailer_made}
-use Rattle.market_spec.specs.Sound.{units_in, sign_in, head_of, head_values, Values, Parts, body_of, file_is, values_of, body_is, head_text, values_fit, body_long, SoundIs, file_of, lines_few, SoundMade, MadeOf, Sound}
+use Rattle.market_spec.proofs.TrailerText.{trailer_is, trailer_bytes, trailer_made}
+use Rattle.market_spec.specs.Sound.{sign_in, units_in, head_of, head_values, Values, Parts, body_long, file_of, body_is, values_fit, head_text, body_of, values_of, SoundIs, file_is, SoundMade, lines_few, Sound, MadeOf}
 
 -- THE HEADER'S SHAPE
 

@@ -14,8 +14,8 @@ use Rattle.market_columns.specs.ColumnLaws.{alike_is, alike_self}
 use Rattle.market_spec.specs.File.{fault, fine, place_of, and_then, end_of, line_fault, word_of, trailer, begins_at, type_at, marks, mark_ok, tail_fault, left_over, count_ok, sum_ok, closing, trailer_fault}
 use Rattle.market_spec.specs.Files.{then_fine, then_fault, tail_cut, tail_wrong, tail_on}
 use Rattle.market_spec.specs.Types.{type_1, type_2, type_3, type_4, type_5, type_other, left_none}
-use Rattle.market_spec.proofs.Lines.{line_wrong, line_bar, line_ends, line_cut, line_on}
-use Rattle.market_spec.specs.Told.{told_as, Told, at_place, refused}
+use Rattle.market_spec.proofs.Lines.{line_on, line_wrong, line_bar, line_cut, line_ends}
+use Rattle.market_spec.specs.Told.{Told, at_place, told_as, refused}
 
 pub line_told : (n : ℕ) (cs : List Column) (at : ℕ) (s : List ℕ) → (n ≡ 0 → ⊥) → Told (line_fault n cs at s)
 unfolding line_fault

@@ -14,9 +14,9 @@ use Rattle.market_spec.specs.Types.{left_none, trailer_wrong, trailer_fine, file
 use Rattle.market_spec.specs.Told.{Told, at_place, refused, not_fine}
 use Rattle.market_spec.specs.LinesValues.{is_line, is_line_holds}
 use Rattle.market_spec.proofs.Files.{close_count, line_long}
-use Rattle.market_spec.proofs.Lines.{line_wrong, line_bar, line_ends, line_cut, line_on}
+use Rattle.market_spec.proofs.Lines.{line_on, line_wrong, line_bar, line_cut, line_ends}
 use Rattle.market_spec.proofs.Types.{left_some}
-use Rattle.market_spec.specs.Walk.{wrong_at, passed, within, next, RowEnd, behind, At, bar, cut_short, column, Walked, mark_wrong, MarksEnd, trailer_cut, left_over_lem, Whole, start, marks_end, count_wrong, Finding, sound, sum_wrong, column_wrong, line_cut_short, line, type_cut, type_wrong, header_wrong, header_cut, large, head, Wrong, Cut, MarksAt, line_from, From}
+use Rattle.market_spec.specs.Walk.{RowEnd, within, At, cut_short, next, wrong_at, column, bar, behind, passed, left_over_lem, MarksEnd, Whole, trailer_cut, marks_end, mark_wrong, Finding, sum_wrong, sound, start, Walked, count_wrong, line, type_wrong, line_cut_short, column_wrong, type_cut, header_cut, head, header_wrong, large, Wrong, Cut, MarksAt, From, line_from}
 
 pub row_end : (n : ℕ) (s : List ℕ) (cs0 : List Column) (p0 : ℕ) (cs : List Column) (p : ℕ) → At s cs0 p0 cs p → RowEnd n s cs0 p0 (line_fault n cs p s)
 unfolding line_fault

@@ -29,7 +29,7 @@ use Rattle.market_spec.specs.FileBytes.{own, own_values, own_of, lines_bytes, va
 use Rattle.market_spec.specs.BytesBack.{lines_fit_lem, lines_bytes_lem, lines_read, lines_short, taken_told, fine_0}
 use Rattle.market_spec.proofs.Sound.{sound_exactly, sound_made}
 use Rattle.market_spec.proofs.Walk.{found}
-use Rattle.market_spec.specs.WrittenAgain.{Again, written_fine, values_read, own_fits, made, Back, given_bytes, given_fits, values_fine, values_lack, values_wrong}
+use Rattle.market_spec.specs.WrittenAgain.{Again, written_fine, values_read, own_fits, Back, given_bytes, given_fits, made, values_wrong, values_lack, values_fine}
 
 pub written_again : (room : ℕ) (s : List ℕ) → Sound s → length s ≤ room → Again room s
 unfolding values_fit

@@ -46,10 +46,10 @@ Agree (c ∷ cs) x y = (column_ok c (take (wide c) x) ≡ column_ok c (take (wid
 -- A STEP FROM LINE TO LINE
 
 pub record Step (x y : List ℕ) : Type 0 where
-  type_same : type_at 0 x ≡ type_at 0 y
-  rows_agree : is_line (type_at 0 x) ≡ true → Agree (layout_of (type_at 0 x)) x y
-  onward : is_line (type_at 0 x) ≡ true → ButNames (drop (length_of (layout_of (type_at 0 x))) x) (drop (length_of (layout_of (type_at 0 x))) y)
-  trailer_same : type_at 0 x ≡ 5 → x ≡ y
+  pub type_same : type_at 0 x ≡ type_at 0 y
+  pub rows_agree : is_line (type_at 0 x) ≡ true → Agree (layout_of (type_at 0 x)) x y
+  pub onward : is_line (type_at 0 x) ≡ true → ButNames (drop (length_of (layout_of (type_at 0 x))) x) (drop (length_of (layout_of (type_at 0 x))) y)
+  pub trailer_same : type_at 0 x ≡ 5 → x ≡ y
 
 -- THE TRAILER
 

@@ -21,7 +21,7 @@ use Rattle.private.specs.Paint.{Agree}
 use Rattle.private.specs.Laws.{Alike}
 use Rattle.private.specs.Into.{frame_in, into_answer, into_leaves}
 use Rattle.private.proofs.Laws.{scrub_alike, length_always}
-use Rattle.private.specs.IntoLaws.{i_lacks, i_done, into_passed, i_passed, Into, into_kept}
+use Rattle.private.specs.IntoLaws.{into_passed, i_done, i_lacks, Into, i_passed, into_kept}
 
 -- A FRAME'S OWN BYTES
 

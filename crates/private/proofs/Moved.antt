@@ -11,7 +11,7 @@ use Rattle.private.specs.declared.Span.{Span}
 use Rattle.private.specs.Scrub.{painted}
 use Rattle.private.specs.Paint.{Within, over, length_over}
 use Rattle.private.specs.Within.{span_painted}
-use Rattle.private.specs.Moved.{painted_in, moved_sum}
+use Rattle.private.specs.Moved.{moved_sum, painted_in}
 
 -- A SUM THAT WAS RIGHT IS RIGHT AFTER ALL SPANS ARE PAINTED, whatever the spans
 pub moved_right : (n : ℕ) (ps : List Span) (v : ℕ) (d : List ℕ) → 24 + n ≤ length d → Within n ps → v ≡ sum8 (take (24 + n) d) → moved_sum ps v d ≡ sum8 (take (24 + n) (painted_in ps d))

@@ -27,8 +27,8 @@ use Rattle.stream_spec.specs.Trace.{Asked, Calls, none, ◌▸◌, after, accept
 use Rattle.stream_spec.specs.Words.{wait_at, decided, readings, tallied, number_told}
 use Rattle.stream_spec.proofs.Cuttings.{below_records, every_cutting}
 use Rattle.promises_private.specs.TwoCaptures.{Pairwise, no_pair, one_pair, TwoCaptures}
-use Rattle.promises_private.proofs.TwoCapturesHold.{first_frame, same_seen, second_frame, same_long, same_sights}
-use Rattle.promises_private.specs.TwoCapturesArriving.{Alike, SameCall, next_cut, Fronts, closing, CutAlike, the_end, one_cut, no_cut, SameArriving}
+use Rattle.promises_private.proofs.TwoCapturesHold.{second_frame, same_seen, first_frame, same_sights, same_long}
+use Rattle.promises_private.specs.TwoCapturesArriving.{got, Alike, SameCall, Fronts, next_cut, closing, no_cut, one_cut, CutAlike, the_end, SameArriving}
 
 -- PROOF
 
@@ -51,11 +51,6 @@ front_waits f n e l = by (says_of (seen_of (take n f))) refl
         let h : frame (length f) ≡ frame m = whole un ∙ q in
         let k : length f ≡ m = cc in
         absurd (omega (arith, (seen_fits (take n f) m q).1, length-take-le n f (omega arith)))
-
--- THE RUN
-
-abbrev got : ℕ → List ℕ → Got Seen
-got p s = ran_of seen_of says_of (within 0) p s
 
 -- one frame read, and on behind it
 one_read : (p : ℕ) (f t : List ℕ) → says_of (seen_of f) ≡ frame (length f)

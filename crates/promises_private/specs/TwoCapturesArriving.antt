@@ -61,17 +61,22 @@ pub record SameArriving (s t : List ℕ) (c d : Calls) : Type 0 where
   pub next_cut_holds : (m room : ℕ) → SameCall c d (next_cut s c m room) (next_cut t d m room)
   pub at_end : (room : ℕ) → taken c ≡ s → taken d ≡ t → SameCall c d (closing room) (closing room)
 
+-- THE RUN
+
+abbrev pub got : ℕ → List ℕ → Got Seen
+got p s = ran_of seen_of says_of (within 0) p s
+
 pub record Alike (g h : Got Seen) : Type 0 where
-  seen : g.seen ≡ h.seen
-  place : g.place ≡ h.place
+  pub seen : g.seen ≡ h.seen
+  pub place : g.place ≡ h.place
 
 module _ (s t : List ℕ) (long : length s ≡ length t) (whole : sights s ≡ sights t) (cut : (n : ℕ) → Alike (got 0 (take n s)) (got 0 (take n t))) where
 
   -- the invariant: fronts of the two, equally long; all of them once closed
   pub record Fronts (c d : Calls) : Type 0 where
-    first : taken c ≡ take (length (taken c)) s
-    second : taken d ≡ take (length (taken d)) t
-    as_many : length (taken c) ≡ length (taken d)
-    ends : ended c ≡ ended d
-    all_first : ended c ≡ true → taken c ≡ s
-    all_second : ended c ≡ true → taken d ≡ t
+    pub first : taken c ≡ take (length (taken c)) s
+    pub second : taken d ≡ take (length (taken d)) t
+    pub as_many : length (taken c) ≡ length (taken d)
+    pub ends : ended c ≡ ended d
+    pub all_first : ended c ≡ true → taken c ≡ s
+    pub all_second : ended c ≡ true → taken d ≡ t

@@ -14,7 +14,7 @@ use Rattle.rules.specs.declared.Layout.TheVariants.{Order, Trade, Other}
 use Rattle.rules.specs.Fields.{s001_ok, s002_ok, p001_ok, p002_ok, orders_ok, trades_ok, layout_of, suits_tail, named_in, tail_ok, m201_ok, pair_ok, m102_values_ok, entry_size, entry_ok, entries_ok, m102_ok, fields_ok}
 use Rattle.rules.specs.Rules.{TypeRule, LengthRule, S001Rules, S002Rules, P001Rules, P002Rules, Pair, pair_1, pair_2, pair_3_MD101, pair_3_MD102, pair_12, pair_13, pair_14, EntrySize, short, long, EntryRules, M102Rules, Orders, order_0, order_4, Trades, trade_F, LayoutRule, is_order, is_trade, is_other, TailRule, M201Rules, FieldRules}
 use Rattle.terms.specs.Says.{Says, says_lt, says_le, says_eq, says_and, says_or, says_as}
-use Rattle.rules.specs.Meaning.{unsaid, suits_tail_says, layout_one, size_one, pair_says, size_is}
+use Rattle.rules.specs.Meaning.{unsaid, suits_tail_says, layout_one, size_is, pair_says, size_one}
 
 -- FIELDS
 

@@ -7,7 +7,7 @@ use Rattle.calendar.specs.Calendar.{real_time}
 use Rattle.rules.specs.declared.Kind.{Kind}
 use Rattle.rules.specs.Table.{known, suits, measure_of}
 use Rattle.rules.specs.Fields.{fields_ok, judge_of}
-use Rattle.rules.specs.Outcomes.{Judged, j_time, j_fine, j_field}
+use Rattle.rules.specs.Outcomes.{j_fine, j_time, j_field, Judged}
 
 module _ (k : Kind) (time : ℕ) (b : List ℕ) where
   pub judge_time : real_time time ≡ false → judge_of k time b ≡ 7

@@ -17,8 +17,8 @@ use Rattle.step_spec.specs.PieceLaws.{until_le, until_found, until_here, until_o
 use Rattle.step_spec.specs.Fields.{is_field, tag_of, value_of, fits, passes, sound_of, sound_from, begins52, unreal_in}
 use Rattle.step_spec.specs.FieldLaws.{piece, decimal_same, tag_52}
 use Rattle.step_scrub.specs.Scrubbed.{is_private, paint_piece, paint_all, joined, painted, all_fields}
-use Rattle.step_scrub.proofs.Turns.{mark_in, split_value, painted_cut, closed_found, fields_cut}
-use Rattle.step_scrub.specs.PaintLaws.{lacks, lacks_until, lacks_front, lacks_append, Kept, closed_joined, pieces_joined}
+use Rattle.step_scrub.proofs.Turns.{mark_in, split_value, painted_cut, fields_cut, closed_found}
+use Rattle.step_scrub.specs.PaintLaws.{lacks, lacks_front, lacks_until, lacks_append, Kept, pieces_joined, closed_joined}
 
 lacks_left : (b : ℕ) (s t : List ℕ) → lacks b (s ++ t) ≡ true → lacks b s ≡ true
 unfolding lacks

@@ -9,8 +9,8 @@ use Rattle.digits.specs.Laws.{both}
 use Rattle.step_spec.specs.Pieces.{SOH, equals, until_of, on_first, pieces, closed_by, closed}
 use Rattle.step_spec.specs.Fields.{is_field, tag_of, value_of}
 use Rattle.step_scrub.specs.Scrubbed.{is_private, paint_piece, paint_all, joined, all_fields}
-use Rattle.step_scrub.proofs.PaintLaws.{painted_tag, public_is, painted_value}
-use Rattle.step_scrub.specs.Private.{PrivateTag, FieldThen, same_field, AlikeField, both_private, no_more, AlikeFields, one_more}
+use Rattle.step_scrub.proofs.PaintLaws.{painted_value, painted_tag, public_is}
+use Rattle.step_scrub.specs.Private.{PrivateTag, FieldThen, both_private, same_field, AlikeField, one_more, no_more, AlikeFields}
 
 pub private_tags : (t : ℕ) → Says (is_private t) (PrivateTag t)
 private_tags t = says_or (says_or (says_or (says_or (says_eq t 49) (says_eq t 56)) (says_eq t 553)) (says_eq t 554)) (says_eq t 58)

@@ -19,7 +19,7 @@ use Rattle.step_scrub.specs.Scrubbed.{paint_all, joined, painted, scrubbed_of}
 use Rattle.step_scrub.specs.Private.{pieces_back, FieldThen, as_many, AlikeFields}
 use Rattle.step_scrub.proofs.PaintLaws.{painted_real, painted_sound, painted_twice, kept}
 use Rattle.step_scrub.proofs.Private.{fields_then, alike_painted}
-use Rattle.step_scrub.proofs.ScrubLaws.{same_long, all_fields_lem, closed_fields}
+use Rattle.step_scrub.proofs.ScrubLaws.{same_long, closed_fields, all_fields_lem}
 use Rattle.step_scrub.specs.Scrubbing.{StepAlike}
 
 -- a message's frame is as long as that of any other fields of that length

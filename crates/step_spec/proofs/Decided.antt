@@ -26,7 +26,7 @@ use Rattle.step_spec.specs.Stays.{front_stays, kind_stays}
 use Rattle.step_spec.specs.Undecided.{Front, front_undecided}
 use Rattle.step_spec.specs.Given.{At, Begins, Measures, start_of, end_of, Types, Sums}
 use Rattle.step_spec.proofs.Exactly.{length_field}
-use Rattle.step_spec.proofs.HeadLaws.{length_zero, length_many, length_none, length_good, length_open, sum_open, sum_is, sum_room, sum_short}
+use Rattle.step_spec.proofs.HeadLaws.{length_good, length_zero, length_open, length_none, length_many, sum_is, sum_open, sum_room, sum_short}
 use Rattle.step_spec.proofs.RoundTrip.{window_good, window_run, window_says}
 use Rattle.step_spec.proofs.Stays.{window_more, length_stays, sum_stays}
 use Rattle.step_spec.specs.Decided.{Decides, length_part, Kinded}

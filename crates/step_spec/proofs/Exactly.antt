@@ -21,9 +21,9 @@ use Rattle.step_spec.specs.HeadLaws.{long_off, type_short, type_is, type_room}
 use Rattle.step_spec.specs.Written.{plain_of, frame_of}
 use Rattle.step_spec.specs.RoundTrip.{text_of, text_is}
 use Rattle.step_spec.proofs.FieldLaws.{judged_fine, judged_7}
-use Rattle.step_spec.proofs.HeadLaws.{length_more, length_zero, length_many, length_none, length_open, sum_room, sum_open, sum_is}
+use Rattle.step_spec.proofs.HeadLaws.{length_zero, length_open, length_more, length_none, length_many, sum_room, sum_is, sum_open}
 use Rattle.step_spec.proofs.RoundTrip.{plain_long, read_of_written, judged_sound}
-use Rattle.step_spec.specs.Exactly.{LengthField, decimal_cases, kind_inv, trailer_long, Reads, paper_of, good}
+use Rattle.step_spec.specs.Exactly.{LengthField, decimal_cases, Good, kind_inv, trailer_long, paper_of, Reads, good}
 
 pub length_field : (w : List ℕ) → length_check w ≡ 0 → LengthField w
 length_field w h =

@@ -18,11 +18,11 @@ use Rattle.step_spec.specs.HeadLaws.{long_off, long_on, type_short, type_is}
 use Rattle.step_spec.specs.Sound.{piece_at, FieldsSound}
 use Rattle.step_spec.specs.Given.{Begins, Measures, start_of, end_of, Types, Sums, fields_in, Unreal, Headed, Sized, Typed, Summed, Timed, Given0, Given1, Given3, Given5, Given7, Given23, Given24, Given25, Given26, waits_begin, waits_length, waits_type, waits_sum, Answer, n0, n1, n3, n5, n7, n23, n24, n25, n26, numeral, Reads}
 use Rattle.step_spec.specs.Decided.{Decides, length_part}
-use Rattle.step_spec.proofs.Decided.{begin_decides, holds_from, measures_pass, measured_start, type_part, measured_room, type_decides, sum_decides, waits_from, length_decides, refused_from, refused_to, holds_to, waits_not}
+use Rattle.step_spec.proofs.Decided.{begin_decides, holds_from, measures_pass, measured_start, type_part, measured_room, type_decides, sum_decides, waits_from, length_decides, refused_from, holds_to, refused_to, waits_not}
 use Rattle.step_spec.proofs.FieldLaws.{judged_7, judged_26, judged_fine}
 use Rattle.step_spec.proofs.Sound.{fields_sound, sound_fields}
 use Rattle.step_spec.proofs.Stable.{never_1}
-use Rattle.step_spec.specs.GivenRead.{unreal_from, unreal_to, time, Judged, unsound, fine, number_is}
+use Rattle.step_spec.specs.GivenRead.{unreal_from, unreal_to, time, fine, unsound, Judged, number_is}
 
 -- what is judged of fields
 pub judged_time : (type : ℕ) (fs : List ℕ) → Unreal (pieces fs) → judge_of type fs ≡ 7

@@ -9,7 +9,7 @@ use Rattle.step_spec.specs.Written.{frame_of, step_write_of}
 use Rattle.step_spec.specs.WriteLaws.{frame_over, write_long, write_type, write_judged, write_room, write_fine}
 use Rattle.step_spec.specs.Given.{size_of, Writes, w_long, w_type, w_time, w_fields, w_room, w_frame}
 use Rattle.step_spec.specs.GivenRead.{Judged, time, unsound, fine}
-use Rattle.step_spec.proofs.GivenRead.{judged_time, judged_fields, judged_all, judged}
+use Rattle.step_spec.proofs.GivenRead.{judged_all, judged_fields, judged_time, judged}
 use Rattle.step_spec.proofs.WriteLaws.{frame_size}
 
 module _ (type : ℕ) (fs : List ℕ) (room : ℕ) where

@@ -28,7 +28,7 @@ use Rattle.step_spec.specs.Exactly.{decimal_cases}
 use Rattle.step_spec.specs.Undecided.{row_has}
 use Rattle.step_spec.specs.Seen.{seen_in, seen_get, seen_long, seen_set}
 use Rattle.step_spec.proofs.FieldLaws.{judged_fine, judged_26, sound_unfit, sound_twice, sound_on, sound_no_field, sound_end}
-use Rattle.step_spec.specs.Pass.{fine_from, fine_of}
+use Rattle.step_spec.specs.Pass.{fine_of, fine_from}
 
 -- what it says of the judgement
 pub fine_judged : (type : ℕ) (s : List ℕ) → fine_of type s ≡ true → judge_of type s ≡ 0

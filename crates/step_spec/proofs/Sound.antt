@@ -14,7 +14,7 @@ use Rattle.step_tags.specs.Forms.{form_ok}
 use Rattle.step_spec.specs.Pieces.{pieces, closed}
 use Rattle.step_spec.specs.Fields.{is_field, tag_of, value_of, fits, all_below, complete, passes, sound_from, sound_of, none}
 use Rattle.step_spec.specs.FieldLaws.{below_each, below_stops}
-use Rattle.step_spec.specs.Sound.{FieldOf, Stands, Passing, piece_at, row_at, seen_of, all_seen, FieldsSound}
+use Rattle.step_spec.specs.Sound.{FieldOf, Stands, piece_at, row_at, Passing, seen_of, all_seen, FieldsSound}
 
 field_of : (type : ℕ) (p : List ℕ) → fits type p ≡ true → FieldOf type p
 unfolding fits

@@ -16,8 +16,8 @@ use Rattle.step_spec.specs.Frame.{begin, length_tag, type_tag, trailer_of, front
 use Rattle.step_spec.specs.FrontLaws.{front_length, kind_other, kind_there, run_le, reads_on, reads_off}
 use Rattle.step_spec.specs.HeadLaws.{long_off, long_on, type_short, type_is}
 use Rattle.step_spec.specs.Exactly.{LengthField, decimal_cases, trailer_long}
-use Rattle.step_spec.proofs.FieldLaws.{judged_fine, judged_7, judged_26}
-use Rattle.step_spec.proofs.HeadLaws.{length_zero, length_many, length_none, length_good, length_open, sum_open, sum_is}
+use Rattle.step_spec.proofs.FieldLaws.{judged_7, judged_26, judged_fine}
+use Rattle.step_spec.proofs.HeadLaws.{length_good, length_zero, length_open, length_none, length_many, sum_is, sum_open}
 
 front_decided : (why : ℕ) (ls s : List ℕ) → (why ≡ 1 → ⊥) → length ls ≤ length s → front why ls s ≡ 1 → ⊥
 unfolding front

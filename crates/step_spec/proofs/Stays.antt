@@ -21,8 +21,8 @@ use Rattle.step_spec.specs.FrontLaws.{reads_on, reads_off, front_length, kind_le
 use Rattle.step_spec.specs.HeadLaws.{type_short, type_is, type_room}
 use Rattle.step_spec.specs.Exactly.{LengthField}
 use Rattle.step_spec.proofs.Exactly.{length_field}
-use Rattle.step_spec.proofs.HeadLaws.{length_more, length_zero, length_many, sum_open, sum_is, sum_short, sum_room}
-use Rattle.step_spec.specs.Stays.{front_stays, kind_stays}
+use Rattle.step_spec.proofs.HeadLaws.{length_zero, length_more, length_many, sum_is, sum_open, sum_short, sum_room}
+use Rattle.step_spec.specs.Stays.{kind_stays, front_stays}
 
 -- THE LENGTH FIELD
 

@@ -42,7 +42,7 @@ length_part s = or_else (front 24 length_tag (drop 11 s)) (length_check (window 
 
 -- a type of the seven and SOH, with some bytes behind what is there
 pub record Kinded (y : List ℕ) : Type 0 where
-  type : ℕ
-  more : List ℕ
-  known : among type types ≡ true
-  text : y ++ more ≡ type ∷ SOH ∷ []
+  pub type : ℕ
+  pub more : List ℕ
+  pub known : among type types ≡ true
+  pub text : y ++ more ≡ type ∷ SOH ∷ []

@@ -48,10 +48,10 @@ below_all f (suc n) h = rw (below_all f n (λ i k. h i (omega arith)), h n (omeg
 -- A PASS THAT HAS SEEN SOME ROWS
 
 pub record Passing (type : ℕ) (seen : List Bool) (ps : List (List ℕ)) : Type 0 where
-  each : (i : ℕ) → i < length ps → fits type (piece_at ps i) ≡ true
-  fresh : (i : ℕ) → i < length ps → get_or seen (row_at ps i) false ≡ false
-  once : (i j : ℕ) → i < j → j < length ps → row_at ps i ≡ row_at ps j → ⊥
-  needed : (r : ℕ) → r < 27 → needs type r ≡ true → (get_or seen r false ≡ true) ⊎ Stands ps r
+  pub each : (i : ℕ) → i < length ps → fits type (piece_at ps i) ≡ true
+  pub fresh : (i : ℕ) → i < length ps → get_or seen (row_at ps i) false ≡ false
+  pub once : (i j : ℕ) → i < j → j < length ps → row_at ps i ≡ row_at ps j → ⊥
+  pub needed : (r : ℕ) → r < 27 → needs type r ≡ true → (get_or seen r false ≡ true) ⊎ Stands ps r
 
 pub seen_of : (a b : Bool) → (not a || b) ≡ true → a ≡ true → b ≡ true
 seen_of true b h e = h

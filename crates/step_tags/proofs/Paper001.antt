@@ -3,7 +3,7 @@
 use Rattle.std.specs.Prelude.{ℕ, ◌≡◌, refl, Bool, true, false, List, [], ◌∷◌, ◌++◌, eqb}
 use Rattle.terms.specs.Paper.{pick}
 use Rattle.step_tags.specs.Table.{C, N, B, T, Row, rows, among}
-use Rattle.step_tags.specs.Paper001.{lines_of, header, body}
+use Rattle.step_tags.specs.Paper001.{header, lines_of, body}
 
 -- logon, logout, heartbeat, test request, resend request, reject, sequence reset
 pub table_A : lines_of 65 rows ≡ header ++ body 65

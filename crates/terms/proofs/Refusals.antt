@@ -5,7 +5,7 @@ use Rattle.std.proofs.lemmas.Bool.{eqb-false}
 use Rattle.terms.specs.Paper.{Paper, refusal, pick}
 use Rattle.terms.specs.declared.Refusal.{Refusal}
 use Rattle.terms.specs.declared.Refusal.TheVariants.{More, MsgType, Long, Length, Sum, Field, Time, Room, Place, Range, Repeat, Far, State, Busy, Whole, Unasked, Status, Channel, Closed, Entries, Places, Early, Sequence, Over, Again}
-use Rattle.terms.specs.Refusals.{refusal_of, number_of, refusal_not_0, told}
+use Rattle.terms.specs.Refusals.{number_of, refusal_of, refusal_not_0, told}
 
 pub refusal_back : (w : Refusal) → refusal_of (number_of w) ≡ w
 unfolding refusal_of

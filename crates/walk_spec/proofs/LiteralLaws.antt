@@ -21,7 +21,7 @@ use Rattle.walk_spec.specs.Onward.{Goes, goes_frame, goes_found, goes_none}
 use Rattle.walk_spec.specs.Walk.{record_by, book_by, sights, walk_of, accepts, refuses, frames_of, refused_of}
 use Rattle.walk_spec.specs.Literal.{length_in, ledger_after, frame_record, Walk, stopped, a_frame, a_refusal, go_on, walk_from, literal_walk}
 use Rattle.walk_spec.specs.FrameLaws.{refused_book, refused_record}
-use Rattle.walk_spec.proofs.FrameLaws.{frame_record_lem, offer_book}
+use Rattle.walk_spec.proofs.FrameLaws.{offer_book, frame_record_lem}
 
 -- records, counts and ledger of these readings
 abbrev whole : Book → List (Sight Seen) → Walk

@@ -14,7 +14,7 @@ use Rattle.ledger_spec.specs.State.{Book, nothing, range_rules, map_rules, sound
 use Rattle.ledger_spec.specs.Calls.{Ask, Missing, own_number, checked_of, number_to, missing_count, values_of, answer_to, raised, done, next_of, fresh}
 use Rattle.record.specs.Examples.{record_a, record_fF, record_b}
 use Rattle.walk_spec.specs.Literal.{walk_from, literal_walk}
-use Rattle.walk_spec.specs.Marked.{marked_book, marked}
+use Rattle.walk_spec.specs.Marked.{marked, marked_book}
 
 pub marked_walk : literal_walk marked ≡ record { records = record_a ∷ record_fF ∷ record_b ∷ []; frames = 2; refused = 1; ledger = marked_book }
 unfolding literal_walk walk_from marked read_of checked measure_of kind_of suits real_time real_parts days_in leap judge_of fields_ok p001_ok numeral sum8 sum_of search_of first_of next_of number_to checked_of own_number sound_of map_rules range_rules done raised fresh

@@ -22,7 +22,7 @@ use Rattle.reading.proofs.SeenLaws.{seen_answer}
 use Rattle.walk_spec.specs.Walk.{made_of, record_by, book_by, sights, walk_of}
 use Rattle.walk_spec.specs.Literal.{length_in, ledger_after, frame_record, Walk, stopped, go_on, walk_from, literal_walk}
 use Rattle.walk_spec.proofs.LiteralLaws.{literal_walk_lem}
-use Rattle.walk_spec.specs.Records.{Each, e_nil, a_refusal, e_cons, a_frame}
+use Rattle.walk_spec.specs.Records.{e_nil, Each, e_cons, a_frame, a_refusal}
 
 -- behind a refusal, wherever the search goes
 each_on : (k : ℕ) (s : List ℕ) (b : Book) (vs : List ℕ) → ((q : ℕ) → Each s (walk_from k s q b).records) → Each s (go_on (λ q. walk_from k s q b) (stopped b) vs).records
