@@ -1,7 +1,8 @@
--- How the code keeps a book: `book_of` and `ledger_of`. A number's place in the map is its remainder
--- by 256, so that the map is read round from the place of floor + 1, and laid back so; `place_is`
--- of proofs/SameMap.antt says it of each number. A reply's two sets have the same form: `laid_from`
--- below, `reply_paper` of Papers.antt, `sets_in` and `settled_row` of `host_ledger` read them so too.
+-- How the code keeps a book: `book_of` and `ledger_of`. A number's place in the map is its
+-- remainder by 256, so that the map is read round from the place of floor + 1, and laid back so;
+-- `place_is` of proofs/SameMap.antt says it of each number. A reply's two sets have the same form:
+-- `laid_from` below, `reply_paper` of Papers.antt, `sets_in` and `settled_row` of `host_ledger`
+-- read them so too.
 use Rattle.terms.specs.Counters.{tick_of, channel_of}
 use Rattle.std.specs.Prelude.{ℕ, ◌+◌, max, eqb}
 use Rattle.terms.specs.Paper.{pick}

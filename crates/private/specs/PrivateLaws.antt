@@ -52,8 +52,8 @@ TailByte Order n i = ((64 ≤ i) × (i < 76)) ⊎ (((76 ≤ i) × (i < 88)) ⊎ 
 TailByte Trade n i = ⊥
 TailByte Other n i = (45 ≤ i) × (i < n)
 
--- THE SPANS OUTRIGHT, by offsets in the body: an empty `private_of`, or one a byte short, is refused
--- here
+-- THE SPANS OUTRIGHT, by offsets in the body: an empty `private_of`, or one a byte short, is
+-- refused here
 abbrev pub PrivateByte : Kind → List ℕ → ℕ → Type 0
 PrivateByte S001 b i = i < 64
 PrivateByte S002 b i = (4 ≤ i) × (i < 260)

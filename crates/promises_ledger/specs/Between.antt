@@ -1,7 +1,7 @@
 -- Request 8, sentence by sentence: how many between here and there. Of every row of calls of the
--- code on a ledger that it opened, and of whatever the promise of the question allows; then through
--- the host. `count_between so a z` counts, one by one, the numbers from a to z that are so; `missing
--- h` is told from the calls alone.
+-- code on a ledger that it opened, and of whatever the promise of the question allows; then
+-- through the host. `count_between so a z` counts, one by one, the numbers from a to z that are
+-- so; `missing h` is told from the calls alone.
 use Rattle.std.specs.Prelude.{ℕ, ◌+◌, ◌≤◌, ◌<◌, ◌≡◌, refl, ◌↔◌, List, [], ◌∷◌, get_or}
 use Rattle.std.proofs.Common.{sym, ap, subst, ◌∙◌}
 use Rattle.terms.specs.Paper.{Paper, answer}

@@ -37,8 +37,8 @@ use Rattle.host_stream.proofs.Promised as Follow
 use Rattle.host_stream_spec.proofs.Cuttings.{every_host_cutting}
 use Rattle.stream.proofs.Promised.{ran_rules, ran_few, ran_heard, ran_closed, ran_number}
 
--- a place that "waits for more": `wait_at` is such a place, or the end, and every one before it lies
--- inside a frame that was read
+-- a place that "waits for more": `wait_at` is such a place, or the end, and every one before it
+-- lies inside a frame that was read
 pub waits_for_more : (s : List ℕ) → wait_at s < length s → (read_of (drop (wait_at s) s)).number ≡ 1
 waits_for_more = waits_there
 

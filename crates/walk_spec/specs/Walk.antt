@@ -1,6 +1,6 @@
 -- Document 01, "Fault records and the listing": the walk of a closed capture. What it sees is
--- `sights_of` of `walk_laws` over what `reading` shows of a reading; LiteralLaws.antt says that this
--- is the walk as the document tells it. Records, counts and ledger are made of what is seen.
+-- `sights_of` of `walk_laws` over what `reading` shows of a reading; LiteralLaws.antt says that
+-- this is the walk as the document tells it. Records, counts and ledger are made of what is seen.
 use Rattle.std.specs.Prelude.{ℕ, zero, ◌+◌, ◌/◌, Bool, List, [], ◌∷◌, eqb, leb, length}
 use Rattle.terms.specs.Paper.{Paper, answer, pick}
 use Rattle.terms.specs.Counters.{tick_of}

@@ -1,4 +1,4 @@
--- `number_fits_lem`: test by test. Assumes nothing.
+-- `number_fits`: test by test. Assumes nothing.
 use Prim.Native.Nat.{◌/◌, ◌^◌}
 use native.Mathlib.Omega.{arith}
 use mathlib.Core.Path.{sym}
