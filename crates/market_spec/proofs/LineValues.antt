@@ -54,10 +54,10 @@ line_reads n (c ∷ cs) at e s z p =
 module _ (x y r : List ℕ) (b w : ℕ) (l : length x ≡ w) where
 
   byte : get_or ((x ++ (b ∷ y)) ++ r) w 0 ≡ b
-  byte = rw joint (get_or_at x b (y ++ r) 0 w l)
+  byte = rw (joint x y r b w l) (get_or_at x b (y ++ r) 0 w l)
 
   more : w + 1 ≤ length ((x ++ (b ∷ y)) ++ r)
-  more = rw (joint, length-append x (b ∷ (y ++ r)), l) (omega arith)
+  more = rw (joint x y r b w l, length-append x (b ∷ (y ++ r)), l) (omega arith)
 
 -- nothing is wrong with them, wherever they stand
 pub line_writes : (n : ℕ) (cs : List Column) (vs : List Value) (at : ℕ) (s r : List ℕ) → line_fits cs vs ≡ true → at ≤ length s → drop at s ≡ line_text cs vs ++ r → (line_fault n cs at s ≡ fine (at + length_of cs)) × (drop (at + length_of cs) s ≡ r)
