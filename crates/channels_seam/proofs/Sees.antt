@@ -11,7 +11,7 @@ use Rattle.terms.specs.Cases.{two}
 use Rattle.terms.specs.Paper.{Paper, answer, refusal}
 use Rattle.tick_map.specs.Bits.{bits_in, map_of}
 use Rattle.tick_map.specs.Ring.{rotated, laid}
-use Rattle.tick_map.proofs.Ring.{rotated_laid}
+use Rattle.tick_map.proofs.Rotated.{rotated_laid}
 use Rattle.ledger_spec.specs.State.{Asked, nothing, range, Book, StateRules}
 use Rattle.ledger_spec.specs.Calls as ledger
 use Rattle.ledger_spec.specs.Calls.{reach, leaps, gave_up, handed, values_of, beside}

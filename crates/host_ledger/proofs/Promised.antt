@@ -19,7 +19,7 @@ use Rattle.terms.specs.Paper.{Paper, answer, refusal, one_number}
 use Rattle.terms.specs.Cases.{two, same, clash}
 use Rattle.tick_map.specs.Bits.{bits_in, map_of}
 use Rattle.tick_map.specs.Ring.{rotated, laid}
-use Rattle.tick_map.proofs.Ring.{rotated_laid}
+use Rattle.tick_map.proofs.Rotated.{rotated_laid}
 use Rattle.ledger_spec.specs.State.{Book, sound_of, StateRules}
 use Rattle.ledger_spec.specs.Calls.{Call, Tick, Announce, Request, Reply, Question, Ask, Missing, Held, Between, Renew, between_count, count_of, offered, own_number, reach, leaps, gave_up, handed, raised, done, values_of, beside, number_to, answer_to, next_of, open_of, missing_count, held_count}
 use Rattle.ledger_spec.specs.Trace.{Calls, none, ◌▸◌, after, History, start, ◌▸◌⇒◌, trace}

@@ -25,7 +25,8 @@ use Rattle.tick_map.specs.declared.Map.{Map}
 use Rattle.tick_map.proofs.Laws.{run_le, lt_of_shr}
 use Rattle.tick_map.proofs.Digits.{bit_lt, bit_none, bit_above, bit_ext, bit_shr, bit_set_same, bit_set_other, lt_of_clear, run_passed, run_stopped}
 use Rattle.tick_map.proofs.Words.{map_of_lem, map_at, value_of_lem, list_lt}
-use Rattle.tick_map.proofs.Ring.{bit_mod, rotated_none, rotated_ext, rotated_lt, rotated_bit, rotated_ones, rotated_zero, rotated_set, rotated_laid, laid_rotated}
+use Rattle.tick_map.proofs.Ring.{bit_mod, rotated_lt, rotated_bit, rotated_ones}
+use Rattle.tick_map.proofs.Rotated.{rotated_none, rotated_ext, rotated_zero, rotated_set, rotated_laid, laid_rotated}
 use Rattle.tick_map.proofs.Stretch.{without_lt, without_in, without_out, without_is, without_down, only_lt, only_read}
 use Rattle.ledger_spec.specs.State.{Asked, nothing, range, Book, largest, has, map_rules, sound_of, StateRules}
 use Rattle.ledger.specs.State.{asked_of, pending_of, book_of, ledger_of, topped, next_by, next_in, laid_from}

@@ -52,7 +52,6 @@ line_reads n (c ∷ cs) at e s z p =
 
 -- a text x, a byte b, then y and what follows
 module _ (x y r : List ℕ) (b w : ℕ) (l : length x ≡ w) where
-
   byte : get_or ((x ++ (b ∷ y)) ++ r) w 0 ≡ b
   byte = rw (joint x y r b w l) (get_or_at x b (y ++ r) 0 w l)
 

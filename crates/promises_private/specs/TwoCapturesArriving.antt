@@ -71,7 +71,6 @@ pub record Alike (g h : Got Seen) : Type 0 where
   pub place : g.place ≡ h.place
 
 module _ (s t : List ℕ) (long : length s ≡ length t) (whole : sights s ≡ sights t) (cut : (n : ℕ) → Alike (got 0 (take n s)) (got 0 (take n t))) where
-
   -- the invariant: fronts of the two, equally long; all of them once closed
   pub record Fronts (c d : Calls) : Type 0 where
     pub first : taken c ≡ take (length (taken c)) s

@@ -27,7 +27,6 @@ frame_over type fs = simp length-append (omega arith)
 -- THE ANSWERS
 
 module _ (type : ℕ) (fs : List ℕ) where
-
   module _ (room : ℕ) where
     pub refuses : (n : ℕ) → message_of type fs ≡ n → (n ≡ 0 → ⊥) → step_write_of type fs room ≡ refusal n
     unfolding step_write_of

@@ -4,6 +4,7 @@ pub mod OneAnswer
 pub mod Ones
 pub mod Places
 pub mod Ring
+pub mod Rotated
 pub mod Stretch
 pub mod Turned
 pub mod Words

@@ -10,7 +10,8 @@ use Rattle.tick_map.specs.Bits.{bit}
 use Rattle.tick_map.specs.Ring.{rotated, laid, without, only}
 use Rattle.tick_map.proofs.Laws.{bit_low, bit_high}
 use Rattle.tick_map.proofs.Digits.{bit_shr, bit_above}
-use Rattle.tick_map.proofs.Ring.{bit_mod, rotated_lt, rotated_bit, rotated_ext, rotated_laid}
+use Rattle.tick_map.proofs.Ring.{bit_mod, rotated_lt, rotated_bit}
+use Rattle.tick_map.proofs.Rotated.{rotated_ext, rotated_laid}
 
 -- ---- the map without a stretch
 

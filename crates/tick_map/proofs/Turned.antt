@@ -20,7 +20,8 @@ use Rattle.tick_map.specs.declared.Map.{Map}
 use Rattle.tick_map.specs.Ring.{rotated, without, only}
 use Rattle.tick_map.proofs.Laws.{shr_low, shr_high, lt_of_shr}
 use Rattle.tick_map.proofs.Digits.{bit_ext, bit_lt, bit_or_lem, bit_and_lem, bit_xor_lem, bit_none, bit_all, bit_all_out}
-use Rattle.tick_map.proofs.Ring.{rotated_lt, rotated_bit, rotated_round, rotated_zero, rotated_none, rotated_ones}
+use Rattle.tick_map.proofs.Ring.{rotated_lt, rotated_bit, rotated_ones}
+use Rattle.tick_map.proofs.Rotated.{rotated_round, rotated_zero, rotated_none}
 use Rattle.tick_map.proofs.Places.{four_words, and_words, and_each, only_words}
 use Rattle.tick_map.proofs.Stretch.{without_lt, without_read, only_lt, only_read}
 use Rattle.tick_map.proofs.Words.{over_four, list_lt, list_bit, value_lt, zero_or, zero_over, same_zero, map_at, value_of_lem}

@@ -10,7 +10,7 @@ use Rattle.tick_map.specs.declared.Map.{Map}
 use Rattle.tick_map.specs.Bits.{bits_in, map_of}
 use Rattle.tick_map.specs.Ring.{rotated}
 use Rattle.tick_map.proofs.Words.{value_of_lem}
-use Rattle.tick_map.proofs.Ring.{rotated_zero}
+use Rattle.tick_map.proofs.Rotated.{rotated_zero}
 use Rattle.ledger.specs.State.{laid_from}
 use Rattle.ledger.proofs.Seam.{laid_kept}
 use Rattle.ledger.proofs.Ledger.reply_refused.Goals as goal

@@ -5,7 +5,7 @@ use borrow.Author.Rules.{rules}
 use lib.Count.{count_trailing_zeros}
 use lib.ListN.{get_or}
 use Rattle.tick_map.specs.Bits.{Words}
-use Rattle.tick_map.proofs.Ring.{Clear, near_stops, near_passes, word_stops, word_passes, all_clear}
+use Rattle.tick_map.proofs.Rotated.{Clear, near_stops, near_passes, word_stops, word_passes, all_clear}
 use Rattle.tick_map.proofs.Map.first_from.Goals as goal
 use Rattle.tick_map.proofs.Map.first_from.Goals.{After-zeros_in-near, After-zeros_in-z, At-loop-passed, Start}
 

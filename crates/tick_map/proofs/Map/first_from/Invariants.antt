@@ -8,7 +8,7 @@ use borrow.Author.Rules.{rules}
 use lib.Count.{count_trailing_zeros}
 use lib.ListN.{get_or}
 use Rattle.tick_map.specs.Bits.{Words}
-use Rattle.tick_map.proofs.Ring.{Clear, near_stops, near_passes, word_stops, word_passes, all_clear}
+use Rattle.tick_map.proofs.Rotated.{Clear, near_stops, near_passes, word_stops, word_passes, all_clear}
 use Rattle.tick_map.proofs.Map.first_from.Given as goal
 
 abbrev pub invariant-loop-passed : goal.invariant-loop-passed

@@ -6,7 +6,7 @@ use borrow.Author.Rules.{rules}
 use lib.Count.{count_trailing_zeros}
 use Rattle.tick_map.specs.Bits.{Words}
 use Rattle.tick_map.specs.Ring.{rotated}
-use Rattle.tick_map.proofs.Ring.{rotated_run}
+use Rattle.tick_map.proofs.Rotated.{rotated_run}
 use Rattle.tick_map.proofs.Words.{list_lt}
 use Rattle.tick_map.proofs.Map.run_from.Goals as goal
 use Rattle.tick_map.proofs.Map.run_from.Goals.{Start}
