@@ -15,7 +15,7 @@ use Rattle.ledger_spec.specs.Calls.{is_pending, fresh}
 use Rattle.ledger_spec.specs.Given.{FineReply}
 use Rattle.ledger_spec.specs.Trace as ledger-trace
 use Rattle.ledger_spec.specs.Words.{answered, value_at, still_pending}
-use Rattle.ledger_spec.proofs.Given.{given_0}
+use Rattle.ledger_spec.proofs.Done.{given_0}
 use Rattle.ledger_spec.proofs.Tests.{and_false, pick_cases}
 use Rattle.ledger_spec.proofs.Steps.{Step, step}
 use Rattle.ledger_spec.proofs.Answers.{new_session}

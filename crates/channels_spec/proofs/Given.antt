@@ -19,6 +19,7 @@ use Rattle.ledger_spec.specs.Answers as ledger-answers
 use Rattle.ledger_spec.proofs.Answers.{keeps, renew_answer, renew_next}
 use Rattle.ledger_spec.proofs.Answers.{new_session as ledger-new-session}
 use Rattle.ledger_spec.proofs.Given as goal
+use Rattle.ledger_spec.proofs.Done as done
 use Rattle.ledger_spec.proofs.Numbers.{checked_facts}
 use Rattle.ledger_spec.proofs.Tests.{pick_cases, skip, false_of}
 use Rattle.ledger_spec.proofs.Demand3.{first_clear, nothing_pending}
@@ -283,7 +284,7 @@ request_to t r = ⊎_elim
         let s = r.sound (turn t) b g.is in
         let free_now : b.pending ≡ nothing = nothing_pending _ (false_of _ (λ y. none_waits t r l (turn t) (ap waits g.is ∙ y))) in
         ap (λ (p : Place). ledger.number_to (book_in p) (ledger.Request (book_in p).channel)) g.is
-        ∙ (goal.given_0 b (ledger.Request b.channel)).1
+        ∙ (done.given_0 b (ledger.Request b.channel)).1
         (record { rules = s; own = refl; fine = record { free = free_now; number = b.floor + 1; is_missing = missing_at b s g.missing } })
 
 pub given_14 : (t : Table) → TableRules t → ((answer_to t Request).number ≡ 14) ↔ SomePending t

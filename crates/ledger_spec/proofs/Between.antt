@@ -28,7 +28,8 @@ use Rattle.ledger_spec.proofs.Rules.{has_above}
 use Rattle.ledger_spec.proofs.Rows.{all_zero}
 use Rattle.ledger_spec.proofs.Agree.{agrees}
 use Rattle.ledger_spec.proofs.Demand3.{rest, missing_below, missing_above, missing_known, exactly, demand_3}
-use Rattle.ledger_spec.proofs.Given.{span_wrong, given_0, given_10_between}
+use Rattle.ledger_spec.proofs.Given.{span_wrong, given_10_between}
+use Rattle.ledger_spec.proofs.Done.{given_0}
 
 -- ---- a stretch of the bits, counted
 

@@ -36,7 +36,7 @@ own_test b (Ask Held) e = refl
 own_test b (Ask (Between channel a z)) e = ap not (eq-eqb channel b.channel e)
 own_test b Renew e = refl
 
-own_fact : (b : Book) (call : Call) → elsewhere b call ≡ false → Own b call
+pub own_fact : (b : Book) (call : Call) → elsewhere b call ≡ false → Own b call
 own_fact b (Tick channel n) e = eqb-true channel b.channel (not-false _ e)
 own_fact b (Announce channel n) e = eqb-true channel b.channel (not-false _ e)
 own_fact b (Request channel) e = eqb-true channel b.channel (not-false _ e)
@@ -353,7 +353,7 @@ given_10_between b channel a z = (λ e. to e, λ g. from g)
 
 -- ---- 0
 
-fine_fact : (b : Book) (call : Call) → StateRules b → own_number b call ≡ 0 → Fine b call
+pub fine_fact : (b : Book) (call : Call) → StateRules b → own_number b call ≡ 0 → Fine b call
 unfolding own_number
 fine_fact b (Tick channel n) r e =
     let s = skip (not (tick_number n)) 10 (pick (has b n) 11 (pick (ltb (b.floor + 256) n) 12 0)) e (λ q. omega arith) in
@@ -378,7 +378,7 @@ fine_fact b (Ask (Between channel a z)) r e =
     span_right a z (not-false _ s.0)
 fine_fact b Renew r e = tt
 
-fine_test : (b : Book) (call : Call) → Fine b call → own_number b call ≡ 0
+pub fine_test : (b : Book) (call : Call) → Fine b call → own_number b call ≡ 0
 unfolding own_number
 fine_test b (Tick channel n) f =
     simp (tick_test n f.above f.digits, false_of (has b n) (λ e. f.no_repeat (settled_fact b n e)), le-ltb _ _ f.near)
@@ -389,11 +389,3 @@ fine_test b (Ask Missing) f = refl
 fine_test b (Ask Held) f = refl
 fine_test b (Ask (Between channel a z)) f = simp (tick_test a f.from_above f.from_digits, tick_test z f.to_above f.to_digits)
 fine_test b Renew f = refl
-
-pub given_0 : (b : Book) (call : Call) → (number_to b call ≡ 0) ↔ Given0 b call
-given_0 b call = (λ e. to e, λ g. checked_test b call g.rules (own_test b call g.own) ∙ fine_test b call g.fine)
-  where
-    to : number_to b call ≡ 0 → Given0 b call
-    to e =
-        let c = checked_facts b call e (λ q. omega arith) (λ q. omega arith) in
-        record { rules = c.rules; own = own_fact b call c.here; fine = fine_fact b call c.rules c.own }

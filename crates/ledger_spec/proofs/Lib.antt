@@ -2,6 +2,7 @@ pub mod Agree
 pub mod Answers
 pub mod Demand3
 pub mod Given
+pub mod Done
 pub mod GivenUp
 pub mod Masks
 pub mod Numbers

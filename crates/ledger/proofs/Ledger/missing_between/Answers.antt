@@ -9,7 +9,7 @@ use Rattle.terms.specs.Refusals.{number_of}
 use Rattle.tick_map.specs.Bits.{Words}
 use Rattle.ledger_spec.specs.State.{Book, largest}
 use Rattle.ledger_spec.specs.Calls.{Call, Ask, Between, elsewhere, tick_number, checked_of, own_number, number_to, between_count, values_of, done}
-use Rattle.ledger_spec.proofs.Given.{given_0}
+use Rattle.ledger_spec.proofs.Done.{given_0}
 use Rattle.ledger.specs.State.{book_of}
 use Rattle.ledger.specs.Papers.{verdict_number}
 use Rattle.ledger.specs.declared.Ledger.{Ledger}
