@@ -69,7 +69,7 @@ use Rattle.promises_words.specs.Words.{Promises, in_table, Numbered, done, refus
 -- "FOR EVERY SEQUENCE OF TIMES AND RECEIVED FRAMES THE MESSAGES TO SEND ARE THOSE OF THE SIMPLE
 -- TABLE OF STATES": of what the code runs
 pub as_the_table : (calls : Calls) (s : Session) (h : History) → code.Ran calls s h → code.AsTheTable calls s h
-as_the_table calls s h ran = code.as-the-table ran
+as_the_table calls s h ran = code.as_the_table ran
 
 -- of the words that a host keeps, and of what it is told
 pub host_as_the_table : (calls : Calls) (w : List ℕ) → rows.HostRan calls w → w ≡ words_of (after calls)
@@ -87,7 +87,7 @@ host_arrival calls w time s ran = rows.host_arrival ran time s
 -- told from it alone: Words.antt of `session_spec`
 module _ {calls : Calls} {s : Session} {h : History} (ran : code.Ran calls s h) where
   abbrev of_history : (P : History → Type 0) → P (trace calls) → P h
-  of_history P p = subst P (sym (code.as-the-table ran).said) p
+  of_history P p = subst P (sym (code.as_the_table ran).said) p
 
   -- "MsgSeqNum from 1 rising by one each way"
   pub numbers_out : numbers_sent h ≡ one_to (count_sent h)
@@ -99,10 +99,10 @@ module _ {calls : Calls} {s : Session} {h : History} (ran : code.Ran calls s h) 
   -- the state that the code holds is the one that the history tells, and its rules hold: 13 is
   -- never answered
   pub stage_is : (line_of s).state ≡ stage h
-  stage_is = ap (λ (l : Line). l.state) (code.as-the-table ran).stands ∙ of_history (λ x. (after calls).state ≡ stage x) (agrees calls).state_is
+  stage_is = ap (λ (l : Line). l.state) (code.as_the_table ran).stands ∙ of_history (λ x. (after calls).state ≡ stage x) (agrees calls).state_is
 
   pub rules_kept : Rules (line_of s)
-  rules_kept = rules (line_of s) (ap sound_of (code.as-the-table ran).stands ∙ simple.rules_kept calls)
+  rules_kept = rules (line_of s) (ap sound_of (code.as_the_table ran).stands ∙ simple.rules_kept calls)
 
 -- the history before the last call, and its answer
 abbrev before : History → History
@@ -117,7 +117,7 @@ last_answer other (h ▸ call ⇒ a) = a
 module _ {calls : Calls} {call : Call} {next : Session} {h : History} {a : Answer} (ran : code.Ran (calls ▸ call) next (h ▸ call ⇒ a)) where
   seen : (h ≡ trace calls) × (a ≡ answer_after calls call)
   unfolding trace
-  seen = let e = (code.as-the-table ran).said in (ap before e, ap (last_answer a) e)
+  seen = let e = (code.as_the_table ran).said in (ap before e, ap (last_answer a) e)
 
   of_call : (P : History → Answer → Type 0) → P (trace calls) (answer_after calls call) → P h a
   of_call P p = subst (λ x. P x a) (sym seen.0) (subst (P (trace calls)) (sym seen.1) p)
@@ -144,11 +144,11 @@ module _ {calls : Calls} {call : Call} {next : Session} {h : History} {a : Answe
   agreed_is number heart e k =
       let logon : Call = record { now = call.now; event = Logon number heart } in
       let same_call : call ≡ logon = λ i. record { now = call.now; event = e i } in
-      ap interval (code.as-the-table ran).said ∙ ap (λ (c : Call). interval (trace (calls ▸ c))) same_call
+      ap interval (code.as_the_table ran).said ∙ ap (λ (c : Call). interval (trace (calls ▸ c))) same_call
       ∙ cells.agreed_is calls call.now number heart (sym (ap accepted (seen.1 ∙ ap (answer_after calls) same_call)) ∙ k)
 
   pub agreed_stays : is_logon call.event ≡ false → interval (h ▸ call ⇒ a) ≡ interval h
-  agreed_stays e = ap interval (code.as-the-table ran).said ∙ cells.agreed_stays calls call e ∙ sym (ap interval seen.0)
+  agreed_stays e = ap interval (code.as_the_table ran).said ∙ cells.agreed_stays calls call e ∙ sym (ap interval seen.0)
 
   -- "the line called dead when more than two intervals pass with nothing received", and once
   pub dead_exactly : (a.dead ≡ true) ↔ LineDead h call
@@ -178,7 +178,7 @@ module _ {calls : Calls} {call : Call} {next : Session} {h : History} {a : Answe
       let same_call : call ≡ out = λ i. record { now = call.now; event = e i } in
       let same_answer : a ≡ answer_after calls out = seen.1 ∙ ap (answer_after calls) same_call in
       let q = logout.ended_unsent calls call.now n (sym (ap stage seen.0) ∙ w) (sym (ap accepted same_answer) ∙ k) in
-      (ap (λ (b : Answer). b.kind) same_answer ∙ q.unsent, ap stage (code.as-the-table ran).said ∙ ap (λ (c : Call). stage (trace (calls ▸ c))) same_call ∙ q.ended)
+      (ap (λ (b : Answer). b.kind) same_answer ∙ q.unsent, ap stage (code.as_the_table ran).said ∙ ap (λ (c : Call). stage (trace (calls ▸ c))) same_call ∙ q.ended)
 
 -- AND OF EVERY SESSION that a program passes in, sound or not: one call of the code, by `turn` or
 -- by `received`, as its promise allows it

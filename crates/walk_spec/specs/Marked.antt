@@ -17,7 +17,7 @@ use Rattle.walk_spec.specs.Literal.{walk_from, literal_walk}
 
 -- 53303033 0047FA7908DACB40 0000000000000001 00000000 0000008E, FF,
 -- 50303031 0047FA7908DACB40 0000000000000002 0000000C 0D 0064 0000000000000003 4E 00000058
-pub marked : List ℕ
+unfoldable pub marked : List ℕ
 marked =
     0x53 ∷ 0x30 ∷ 0x30 ∷ 0x33 ∷ 0x00 ∷ 0x47 ∷ 0xFA ∷ 0x79 ∷ 0x08 ∷ 0xDA ∷ 0xCB ∷ 0x40 ∷ 0 ∷ 0 ∷ 0 ∷ 0 ∷ 0 ∷ 0 ∷ 0 ∷ 1 ∷ 0 ∷ 0 ∷ 0 ∷ 0 ∷ 0 ∷ 0 ∷ 0 ∷ 0x8E
     ∷ 0xFF
