@@ -37,6 +37,7 @@ module _ {C I O : Type 0} {kept : C → Type 0} {sees : C → I} {shows : C → 
   found : {row : Row I O} {rows : List (Row I O)} → AllHold kept sees shows rows → Stands row rows → Holds kept sees shows row
   found (also h hs) first = h
   found (also h hs) (later s) = found hs s
+  found Rattle.terms.specs.RuledOut.none s = elim s [ ]
 
   by : {row : Row I O} {rows : List (Row I O)} (table : RulesOut kept sees shows rows) → Stands row rows → RuledBy table row
   by table s = found table.each s

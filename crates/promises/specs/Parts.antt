@@ -47,6 +47,7 @@ module _ {R : Type 0} (read_of : List ℕ → R) (says_of : R → Says) where
   within_long : (k : ℕ) (s t : List ℕ) → Passes (within k) s t → k ≤ length s
   unfolding next
   within_long zero s t h = omega arith
+  within_long (suc k) _ t (p_end h) = elim h [ ]
   within_long (suc k) s t (p_on {s = s'} e h) = let q = within_long k s' t h in omega arith
 
   module _ (kept : (s t : List ℕ) → (says_of (read_of s) ≡ more → ⊥) → read_of (s ++ t) ≡ read_of s) (own : (s : List ℕ) (n : ℕ) → says_of (read_of s) ≡ frame n → read_of (take n s) ≡ read_of s) where

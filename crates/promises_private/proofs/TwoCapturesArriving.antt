@@ -28,7 +28,7 @@ use Rattle.stream_spec.specs.Words.{wait_at, decided, readings, tallied, number_
 use Rattle.stream_spec.proofs.Cuttings.{below_records, every_cutting}
 use Rattle.promises_private.specs.TwoCaptures.{Pairwise, no_pair, one_pair, TwoCaptures}
 use Rattle.promises_private.proofs.TwoCapturesHold.{second_frame, same_seen, first_frame, same_sights, same_long}
-use Rattle.promises_private.specs.TwoCapturesArriving.{got, Alike, SameCall, Fronts, next_cut, closing, no_cut, one_cut, CutAlike, the_end, SameArriving}
+use Rattle.promises_private.specs.TwoCapturesArriving.{got, Alike, SameCall, next_cut, closing, no_cut, one_cut, CutAlike, the_end, SameArriving}
 
 -- PROOF
 
@@ -149,6 +149,15 @@ module _ (c d : Calls) (a b : Asked) (same : a.room ≡ b.room) (before : given 
       record { same_answer = answer_by (accepted c a) refl q; same_buffer = λ buf l. buffer_by buf l (accepted c a) refl q }
 
 module _ (s t : List ℕ) (long : length s ≡ length t) (whole : sights s ≡ sights t) (cut : (n : ℕ) → Alike (got 0 (take n s)) (got 0 (take n t))) where
+  -- the invariant: fronts of the two, equally long; all of them once closed
+  record Fronts (c d : Calls) : Type 0 where
+    first : taken c ≡ take (length (taken c)) s
+    second : taken d ≡ take (length (taken d)) t
+    as_many : length (taken c) ≡ length (taken d)
+    ends : ended c ≡ ended d
+    all_first : ended c ≡ true → taken c ≡ s
+    all_second : ended c ≡ true → taken d ≡ t
+
   same_readings : (n : ℕ) → readings false (take n s) ≡ readings false (take n t)
   unfolding readings
   same_readings n = sym (ran_below seen_of says_of (within 0) 0 (take n s)) ∙ (cut n).seen ∙ ran_below seen_of says_of (within 0) 0 (take n t)

@@ -69,13 +69,3 @@ got p s = ran_of seen_of says_of (within 0) p s
 pub record Alike (g h : Got Seen) : Type 0 where
   pub seen : g.seen ≡ h.seen
   pub place : g.place ≡ h.place
-
-module _ (s t : List ℕ) (long : length s ≡ length t) (whole : sights s ≡ sights t) (cut : (n : ℕ) → Alike (got 0 (take n s)) (got 0 (take n t))) where
-  -- the invariant: fronts of the two, equally long; all of them once closed
-  pub record Fronts (c d : Calls) : Type 0 where
-    pub first : taken c ≡ take (length (taken c)) s
-    pub second : taken d ≡ take (length (taken d)) t
-    pub as_many : length (taken c) ≡ length (taken d)
-    pub ends : ended c ≡ ended d
-    pub all_first : ended c ≡ true → taken c ≡ s
-    pub all_second : ended c ≡ true → taken d ≡ t
