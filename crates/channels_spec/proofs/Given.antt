@@ -1,4 +1,4 @@
--- `given-N`, each number exactly when; what opening and closing do; that a refusal leaves the table
+-- `given_N`, each number exactly when; what opening and closing do; that a refusal leaves the table
 -- save 12's top; and that no number is 13. For every table that keeps its rules. Assumes nothing.
 use mathlib.Core.Path.{◌≡◌, refl, sym, ap, subst, ◌∙◌}
 use mathlib.Core.Bool.{Bool, true, false, ◌&&◌, not}

@@ -1,6 +1,6 @@
 -- Documents 01 and 02: when a call on a table is given each number. A record for each: the checks
 -- before it in the documents' order pass, and its own fails. proofs/Given.antt proves each by a
--- theorem `given-N`, both ways, for every table that keeps its rules; told from the calls alone, 0,
+-- theorem `given_N`, both ways, for every table that keeps its rules; told from the calls alone, 0,
 -- 14 and 15 of a request stand in Demand.antt. (13 is `channels`'.)
 use Rattle.std.specs.Prelude.{◌≡◌, true, false, ◌⊎◌, ℕ, ◌≤◌, ◌<◌, []}
 use Rattle.terms.specs.Paper.{Paper, answer}

@@ -1,4 +1,4 @@
--- What each call is answered, told from the history alone: each case is one `given-N`, read at a
+-- What each call is answered, told from the history alone: each case is one `given_N`, read at a
 -- book that agrees with the history. Assumes nothing.
 use mathlib.Core.Path.{◌≡◌, refl, sym, ap, ap₂, ◌∙◌}
 use mathlib.Core.Logic.{◌⊎◌, inl, inr}

@@ -1,6 +1,6 @@
 -- Document 01, "What each number says": when a call on any state, sound or not, is answered 0 or 10
 -- to 18. A record for each number: the checks before it in the document's order pass, and its own
--- fails. proofs/Given.antt proves each by a theorem `given-N`, both ways.
+-- fails. proofs/Given.antt proves each by a theorem `given_N`, both ways.
 use Rattle.std.specs.Prelude.{◌≡◌, ◌⊎◌, ℕ, ◌+◌, ◌-◌, ◌≤◌, ◌<◌}
 use Rattle.tick_map.specs.Bits.{bit}
 use Rattle.ledger_spec.specs.State.{nothing, range, Book, largest, StateRules}

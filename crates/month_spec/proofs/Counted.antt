@@ -106,26 +106,3 @@ module _ (channel : ℕ) where
   received_is small xs =
       let a = agrees channel small (calls_made none xs) in
       taken_all none xs (start_same channel) ∙ a.taken_is ∙ ap (count (received (trace channel (calls_made none xs)))) a.top_is
-
--- CHANNEL 100 IS THE WALK'S: what its records bring, and what its listing says is missing
-pub record Walks (s : List ℕ) : Type 0 where
-  pub received_brought : (figures_of 100 s).received ≡ count (brought (walk_of s).records) (walk_of s).ledger.top
-  pub missing_listed : answer_to (walk_of s).ledger (Ask Missing) ≡ answer 0 ((figures_of 100 s).missing ∷ [])
-
-pub one_channel : (s : List ℕ) → Walks s
-one_channel s =
-    let e = figures_reads 100 s in
-    let c = calls_told s in
-    let a = agrees 100 (omega arith) (calls_of s) in
-    record {
-      received_brought =
-          ap (λ (f : Figures). f.received) e
-          ∙ received_is 100 (omega arith) (reads_in s)
-          ∙ ap (λ (calls : Calls). count (received (trace 100 calls)) (known_top (trace 100 calls))) (sym c)
-          ∙ count_ext (received (trace 100 (calls_of s))) (brought (walk_of s).records) (known_top (trace 100 (calls_of s))) (λ n l h. walk_received s n)
-          ∙ ap (count (brought (walk_of s).records)) (sym a.top_is ∙ ap (λ (b : Book). b.top) (sym (walk_ledger s)));
-      missing_listed =
-          ap (λ (b : Book). answer_to b (Ask Missing)) (walk_ledger s ∙ ap (after 100) c)
-          ∙ missing_is 100 (omega arith) (reads_in s)
-          ∙ ap (λ (f : Figures). answer 0 (f.missing ∷ [])) (sym e);
-    }

@@ -12,6 +12,7 @@ use Rattle.private.specs.Private.{tail_of, tail_spans, private_of, span_at}
 use Rattle.private.specs.Paint.{Inside, within_at}
 use Rattle.private.specs.PrivateLaws.{PrivateByte, private_within}
 use Rattle.private.proofs.PrivateLaws.{private_is}
+use Rattle.private.proofs.Full.{Full, full}
 use Rattle.private.specs.Cover.{In, Covers}
 
 -- a byte lies in one of the spans exactly where it lies in one that is told
@@ -24,28 +25,6 @@ told_to : (ps : List Span) (i j : ℕ) → In ps i j → Inside ps j
 told_to [] i j h = absurd (omega (arith, h.1))
 told_to (p ∷ ps) zero j h = inl h
 told_to (p ∷ ps) (suc i) j h = inr (told_to ps i j h)
-
--- but for the last, no span is empty
-abbrev Full : List Span → Type 0
-Full [] = zero ≡ zero
-Full (p ∷ []) = zero ≡ zero
-Full (p ∷ q ∷ ps) = (0 < p.len) × Full (q ∷ ps)
-
-tail_full : (l : Layout) (n : ℕ) → Full (tail_spans l n)
-tail_full Order n = (omega arith, (omega arith, refl))
-tail_full Trade n = refl
-tail_full Other n = refl
-
-full : (k : Kind) (b : List ℕ) → Full (private_of k b)
-full S001 b = (omega arith, refl)
-full S002 b = refl
-full S003 b = refl
-full P001 b = refl
-full P002 b = refl
-full M101 b = refl
-full M102 b = refl
-full M201 b = tail_full (tail_of b) (length b)
-full Unknown b = refl
 
 ends : (ps : List Span) (i m : ℕ) → Full ps → i ≤ m → (span_at i ps).len ≡ 0 → (span_at m ps).len ≡ 0
 ends [] i m f l e = refl

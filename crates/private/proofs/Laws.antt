@@ -35,7 +35,7 @@ use Rattle.private.specs.Paint.{Inside, Within, Agree, length_painted, painted_o
 use Rattle.private.specs.Within.{scrubbed_as, SmallSum}
 use Rattle.frame_view.specs.View.{view_of}
 use Rattle.private.specs.PrivateLaws.{view_same, private_few, private_within, private_same, judged_same}
-use Rattle.private.proofs.PrivateLaws.{private_filled}
+use Rattle.private.proofs.Filled.{private_filled}
 use Rattle.private.specs.Laws.{scrubs, clean, Alike, refused_same, answer_refused}
 
 -- the checksum set anew, as bytes

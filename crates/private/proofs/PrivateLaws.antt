@@ -64,19 +64,3 @@ private_is Unknown b i = (λ h. h, λ h. h)
 -- "A private number becomes 0 and private text becomes spaces"
 pub fill_is : (fill_of number ≡ 0) × ((fill_of text ≡ 0x20) × ((i : ℕ) → (order_field i).fill ≡ fill_of (get_or order_holds i text)))
 fill_is = (refl, (refl, λ i. refl))
-
-tail_filled : (l : Layout) (n : ℕ) → Filled 0x20 (tail_spans l n)
-tail_filled Order n = (refl, (refl, (refl, refl)))
-tail_filled Trade n = refl
-tail_filled Other n = (refl, refl)
-
-pub private_filled : (k : Kind) (b : List ℕ) → Filled 0x20 (private_of k b)
-private_filled S001 b = (refl, (refl, refl))
-private_filled S002 b = (refl, refl)
-private_filled S003 b = refl
-private_filled P001 b = refl
-private_filled P002 b = (refl, refl)
-private_filled M101 b = refl
-private_filled M102 b = refl
-private_filled M201 b = tail_filled (tail_of b) (length b)
-private_filled Unknown b = refl

@@ -21,7 +21,8 @@ use Rattle.month_spec.specs.Trace.{Capture, page_after, answered_zero, sum_over,
 use Rattle.month_spec.specs.Given.{Names, Given10, Given21, Given22, Given27, Given28}
 use Rattle.month_spec.proofs.Lists.{get_d_tabled}
 use Rattle.month_spec.proofs.Counted as Counted
-use Rattle.month_spec.proofs.Counted.{Walks}
+use Rattle.month_spec.proofs.OneChannel as OneChannel
+use Rattle.month_spec.proofs.OneChannel.{Walks}
 use Rattle.month_spec.proofs.Given as Given
 use Rattle.month_spec.proofs.Order as Order
 use Rattle.month_spec.proofs.Order.{SamePage}
@@ -240,4 +241,4 @@ host_started κs a x s p z =
 -- ======== Page and listing
 -- For channel 100: received is how many numbers the walk's records bring, missing is the listing's.
 pub one_channel : (s : List ℕ) → Walks s
-one_channel = Counted.one_channel
+one_channel = OneChannel.one_channel

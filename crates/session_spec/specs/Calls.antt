@@ -115,7 +115,7 @@ abbrev pub spent : Line → Event → Kind → Bool
 spent l e k = ((is_ours e || sends k) && leb last_number l.sending) || (is_frame e && leb last_number l.expecting)
 
 -- "reading's own first, then 30 .., 31 .., 32 .., 33": a frame that reading refused is none to 31
--- and 32, so its own number stands (`own_IsFirst`)
+-- and 32, so its own number stands (`own_first`)
 abbrev pub ordered : Bool → Bool → ℕ → ℕ
 ordered wrong ended n = pick (eqb n 30) 30 (pick wrong 31 (pick ended 32 n))
 

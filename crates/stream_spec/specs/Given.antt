@@ -1,6 +1,6 @@
 -- When a call on any stream, sound or not, is answered 0, 8, 19 or 29: a record for each number.
 -- The checks before it in their order pass, and its own fails. proofs/Given.antt proves each by a
--- theorem `given-N`, both ways.
+-- theorem `given_N`, both ways.
 use Rattle.std.specs.Prelude.{ℕ, ◌+◌, ◌*◌, ◌≤◌, ◌<◌, ◌≡◌, true, false, length}
 use Rattle.stream_spec.specs.declared.Stream.{Stream}
 use Rattle.stream_spec.specs.State.{last_place, StreamRules}
