@@ -293,7 +293,7 @@ pub host_new_session : Promises _ rk-ledger-renew-kinds.ps rk-ledger-renew-kinds
     (λ κs a x s. StateRules (book_in a.0.now) → NewSession (book_in a.0.now) (answer x []) (book_in s.0.now))
 host_new_session κs a x s p r = host-ledgers.renew_new_session κs a x s p r
 
--- "DEMAND 3 THEN COUNTS THAT REQUEST AS NO LONGER PENDING": `handed_out` to `counted` of
+-- "DEMAND 3 THEN COUNTS THAT REQUEST AS NO LONGER PENDING": `handed_out_holds` to `counted` of
 -- `promises_ledger` are over rows of calls with `Renew` among them, and `pending` is told from the
 -- calls alone: granted, no reply answered 0 since, no new session since (`still_pending` of
 -- `ledger_spec`)
