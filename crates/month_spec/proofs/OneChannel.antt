@@ -28,7 +28,7 @@ use Rattle.clean_spec.specs.Clean.{clean_of}
 use Rattle.clean_spec.specs.Laws.{clean_reads}
 use Rattle.clean_spec.specs.Figures.{reads, calls_made, calls_reads}
 use Rattle.month_spec.specs.Figures.{ticks_answered, Figures, figures_from, figures_of, figures_by, reads_in}
-use Rattle.month_spec.proofs.Counted.{figures_reads, missing_is, received_is}
+use Rattle.month_spec.proofs.Counted.{calls_told, figures_reads, missing_is, received_is}
 
 -- CHANNEL 100 IS THE WALK'S: what its records bring, and what its listing says is missing
 pub record Walks (s : List ℕ) : Type 0 where
