@@ -1,3 +1,5 @@
 pub mod TwoCapturesArriving
 pub mod TwoCapturesHold
+pub mod Pages
+pub mod Converse
 pub mod Witness

@@ -20,7 +20,7 @@ use Rattle.clean_spec.specs.Clean.{frames_in, clean_of, found_by, found_in}
 use Rattle.clean_spec.specs.Inside as inside
 use Rattle.clean_spec.specs.Inside.{heartbeat, fixed_part, order_tail, named, inside_damaged}
 use Rattle.promises_private.specs.TwoCaptures.{SameButPrivate, Pairwise, no_pair, one_pair, TwoCaptures}
-use Rattle.promises_private.proofs.TwoCapturesHold.{only_private_hidden}
+use Rattle.promises_private.proofs.Converse.{only_private_hidden}
 use Rattle.promises_private.specs.Witness.{logout, mine, theirs}
 
 -- both read, and scrub to the same bytes: so they meet the premise
