@@ -1,5 +1,8 @@
 -- For each public function: two answers that its promise allows are equal. Assumes nothing.
 use mathlib.Core.Path.{sym, ◌∙◌}
+use denote.RattleType.{RattleType}
+use denote.Param.Laws.{Laws}
+use mir.Syntax.{Dict}
 use Rattle.terms.specs.OneAnswer.{OneAnswer}
 use Rattle.terms.proofs.SessionNumber.new.Reads as session-new
 use Rattle.terms.proofs.SessionNumber.new.Kinds as session-new-kinds
@@ -13,10 +16,10 @@ use Rattle.terms.proofs.ChannelNumber.new.Reads as channel-new
 use Rattle.terms.proofs.ChannelNumber.new.Kinds as channel-new-kinds
 use Rattle.terms.proofs.ChannelNumber.value.Reads as channel-value
 use Rattle.terms.proofs.ChannelNumber.value.Kinds as channel-value-kinds
-use Rattle.terms.proofs.Refusal.number.Reads as number
-use Rattle.terms.proofs.Refusal.number.Kinds as number-kinds
-use Rattle.terms.proofs.Verdict.number.Reads as verdict-number
-use Rattle.terms.proofs.Verdict.number.Kinds as verdict-number-kinds
+use Rattle.terms.proofs.U32FromRefusal.from.Reads as number
+use Rattle.terms.proofs.U32FromRefusal.from.Kinds as number-kinds
+use Rattle.terms.proofs.number_of.Reads as answer-number
+use Rattle.terms.proofs.number_of.Kinds as answer-number-kinds
 
 pub SessionNumber-new-one-answer : OneAnswer _ session-new-kinds.ps session-new-kinds.r session-new.Post
 SessionNumber-new-one-answer κs a x y s t p q = p ∙ sym q
@@ -39,5 +42,7 @@ ChannelNumber-value-one-answer κs a x y s t p q = p ∙ sym q
 pub Refusal-number-one-answer : OneAnswer _ number-kinds.ps number-kinds.r number.Post
 Refusal-number-one-answer κs a x y s t p q = p ∙ sym q
 
-pub Verdict-number-one-answer : OneAnswer _ verdict-number-kinds.ps verdict-number-kinds.r verdict-number.Post
-Verdict-number-one-answer κs a x y s t p q = p ∙ sym q
+-- whatever the answer holds
+module _ (T : RattleType) (laws : Laws T) (drops : Dict) where
+  pub number_of_one_answer : OneAnswer _ (answer-number-kinds.ps T laws) (answer-number-kinds.r T laws) (answer-number.Post T laws drops)
+  number_of_one_answer κs a x y s t p q = p ∙ sym q

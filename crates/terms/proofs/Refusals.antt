@@ -4,7 +4,7 @@ use Rattle.std.proofs.Common.{sym, ap, ◌∙◌}
 use Rattle.std.proofs.lemmas.Bool.{eqb-false}
 use Rattle.terms.specs.Paper.{Paper, refusal, pick}
 use Rattle.terms.specs.declared.Refusal.{Refusal}
-use Rattle.terms.specs.declared.Refusal.TheVariants.{More, MsgType, Long, Length, Sum, Field, Time, Room, Place, Range, Repeat, Far, State, Busy, Whole, Unasked, Status, Channel, Closed, Entries, Places, Early, Sequence, Over, Again}
+use Rattle.terms.specs.declared.Refusal.TheVariants.{More, MsgType, Long, Length, Sum, Field, Time, Room, Place, Range, Repeat, Far, State, Busy, Whole, Unasked, Status, Channel, Closed, Entries, Full, Open, Captures, Sums, Places, Early, Sequence, Over, Again}
 use Rattle.terms.specs.Refusals.{number_of, refusal_of, refusal_not_0, told}
 
 pub refusal_back : (w : Refusal) → refusal_of (number_of w) ≡ w
@@ -29,6 +29,10 @@ refusal_back Status = refl
 refusal_back Channel = refl
 refusal_back Closed = refl
 refusal_back Entries = refl
+refusal_back Full = refl
+refusal_back Open = refl
+refusal_back Captures = refl
+refusal_back Sums = refl
 refusal_back Places = refl
 refusal_back Early = refl
 refusal_back Sequence = refl

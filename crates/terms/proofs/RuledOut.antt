@@ -2,6 +2,10 @@
 -- and what is then wrong. Assumes nothing.
 use Prim.Native.Nat.{ℕ}
 use mathlib.Core.Path.{refl, ap}
+use denote.RattleType.{RattleType}
+use denote.Param.Laws.{Laws}
+use mir.Syntax.{Dict}
+use Rattle.std.specs.Prelude.{Result, Ok, Err}
 use mathlib.Core.List.{List, [], ◌∷◌}
 use Rattle.terms.specs.RuledOut.{Row, ◌never◌, ◌only◌, Kept, RulesOut, ruled, numbers}
 use Rattle.terms.specs.Refusals.{number_of}
@@ -10,9 +14,7 @@ use Rattle.terms.specs.declared.SessionNumber.{SessionNumber}
 use Rattle.terms.specs.declared.TickNumber.{TickNumber}
 use Rattle.terms.specs.declared.ChannelNumber.{ChannelNumber}
 use Rattle.terms.specs.declared.Refusal.{Refusal}
-use Rattle.terms.specs.declared.Verdict.{Verdict}
-use Rattle.terms.specs.declared.Verdict.TheVariants.{Fine, Refused}
-use Rattle.terms.specs.declared.Refusal.TheVariants.{Sum, Field, Time, Closed, Entries, Places, Early, Sequence, Over, Again}
+use Rattle.terms.specs.declared.Refusal.TheVariants.{Sum, Field, Time, Closed, Entries, Full, Open, Captures, Sums, Places, Early, Sequence, Over, Again}
 use Rattle.terms.proofs.SessionNumber.new.Reads as session-new
 use Rattle.terms.proofs.SessionNumber.new.Kinds as session-new-kinds
 use Rattle.terms.proofs.SessionNumber.value.Reads as session-value
@@ -25,10 +27,10 @@ use Rattle.terms.proofs.ChannelNumber.new.Reads as channel-new
 use Rattle.terms.proofs.ChannelNumber.new.Kinds as channel-new-kinds
 use Rattle.terms.proofs.ChannelNumber.value.Reads as channel-value
 use Rattle.terms.proofs.ChannelNumber.value.Kinds as channel-value-kinds
-use Rattle.terms.proofs.Refusal.number.Reads as number
-use Rattle.terms.proofs.Refusal.number.Kinds as number-kinds
-use Rattle.terms.proofs.Verdict.number.Reads as verdict-number
-use Rattle.terms.proofs.Verdict.number.Kinds as verdict-number-kinds
+use Rattle.terms.proofs.U32FromRefusal.from.Reads as number
+use Rattle.terms.proofs.U32FromRefusal.from.Kinds as number-kinds
+use Rattle.terms.proofs.number_of.Reads as answer-number
+use Rattle.terms.proofs.number_of.Kinds as answer-number-kinds
 
 -- THE COUNTERS: a number, and the counter that is made of it; a counter, and its number. All are
 -- wrong in the same ways.
@@ -65,6 +67,10 @@ Refusal-number-wrong =
     ∷ Time only 7  -- not 6 or 8, which are others'
     ∷ Entries never 18  -- counted on, without the gaps of the table
     ∷ Closed only 19  -- not 20, which is another's
+    ∷ Full only 21  -- told from an open channel
+    ∷ Open never 21
+    ∷ Captures only 27
+    ∷ Sums only 28
     ∷ Places only 29  -- not counted on behind 20
     ∷ Early only 30
     ∷ Sequence never 30  -- a wrong number told as too early
@@ -75,12 +81,14 @@ Refusal-number-wrong =
 pub Refusal-number-rules-out : RulesOut (Kept _ number-kinds.ps number-kinds.r number.Post) (λ c. c.args.0) (λ c. c.result) Refusal-number-wrong
 Refusal-number-rules-out = ruled numbers number_of (λ c p. p) _ refl
 
-abbrev pub Verdict-number-wrong : List (Row Verdict ℕ)
-Verdict-number-wrong =
-    Fine only 0
-    ∷ Refused Sum never 0  -- a refusal told as fine
-    ∷ Refused Sum only 5
-    ∷ []
+-- an answer, whatever it holds, and its number
+module _ (T : RattleType) (laws : Laws T) (drops : Dict) (held : T.Denot) where
+  abbrev pub number_of_wrong : List (Row (Result T.Denot Refusal) ℕ)
+  number_of_wrong =
+      Ok held only 0
+      ∷ Err Sum never 0  -- a refusal told as fine
+      ∷ Err Sum only 5
+      ∷ []
 
-pub Verdict-number-rules-out : RulesOut (Kept _ verdict-number-kinds.ps verdict-number-kinds.r verdict-number.Post) (λ c. c.args.0) (λ c. c.result) Verdict-number-wrong
-Verdict-number-rules-out = ruled numbers verdict_number (λ c p. p) _ refl
+  pub number_of_rules_out : RulesOut (Kept _ (answer-number-kinds.ps T laws) (answer-number-kinds.r T laws) (answer-number.Post T laws drops)) (λ c. c.args.0) (λ c. c.result) number_of_wrong
+  number_of_rules_out = ruled numbers verdict_number (λ c p. p) _ refl

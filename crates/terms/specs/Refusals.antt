@@ -4,7 +4,7 @@ use Rattle.std.proofs.Common.{sym, ap, ◌∙◌}
 use Rattle.std.proofs.lemmas.Bool.{eqb-false}
 use Rattle.terms.specs.Paper.{Paper, refusal, pick}
 use Rattle.terms.specs.declared.Refusal.{Refusal}
-use Rattle.terms.specs.declared.Refusal.TheVariants.{More, MsgType, Long, Length, Sum, Field, Time, Room, Place, Range, Repeat, Far, State, Busy, Whole, Unasked, Status, Channel, Closed, Entries, Places, Early, Sequence, Over, Again}
+use Rattle.terms.specs.declared.Refusal.TheVariants.{More, MsgType, Long, Length, Sum, Field, Time, Room, Place, Range, Repeat, Far, State, Busy, Whole, Unasked, Status, Channel, Closed, Entries, Full, Open, Captures, Sums, Places, Early, Sequence, Over, Again}
 
 abbrev pub number_of : Refusal → ℕ
 number_of More = 1  -- more
@@ -27,6 +27,10 @@ number_of Status = 17  -- status
 number_of Channel = 18  -- channel
 number_of Closed = 19  -- a call after a stream's closing one, of document 02, CR 1
 number_of Entries = 20  -- entries
+number_of Full = 21  -- every place of a table or page is taken, of document 02, CR 3 and 11; and so 22
+number_of Open = 22  -- a channel that is there already
+number_of Captures = 27  -- a page that has 500 captures, of CR 11; and so 28
+number_of Sums = 28  -- a sum past 64 bits
 number_of Places = 29  -- places of a stream past 64 bits, of document 02, CR 1
 number_of Early = 30  -- anything but logon or logout before the logon answer; this and the next three of document 02, CR 12
 number_of Sequence = 31  -- MsgSeqNum not the expected one
@@ -56,11 +60,15 @@ refusal_of n =
     (pick (eqb n 18) Channel
     (pick (eqb n 19) Closed
     (pick (eqb n 20) Entries
+    (pick (eqb n 21) Full
+    (pick (eqb n 22) Open
+    (pick (eqb n 27) Captures
+    (pick (eqb n 28) Sums
     (pick (eqb n 29) Places
     (pick (eqb n 30) Early
     (pick (eqb n 31) Sequence
     (pick (eqb n 32) Over
-    Again)))))))))))))))))))))))
+    Again)))))))))))))))))))))))))))
 
 -- no refusal is 0
 pub refusal_not_0 : (w : Refusal) → eqb (number_of w) 0 ≡ false
@@ -84,6 +92,10 @@ refusal_not_0 Status = refl
 refusal_not_0 Channel = refl
 refusal_not_0 Closed = refl
 refusal_not_0 Entries = refl
+refusal_not_0 Full = refl
+refusal_not_0 Open = refl
+refusal_not_0 Captures = refl
+refusal_not_0 Sums = refl
 refusal_not_0 Places = refl
 refusal_not_0 Early = refl
 refusal_not_0 Sequence = refl

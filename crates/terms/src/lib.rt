@@ -8,7 +8,7 @@ ghost use Rattle.terms.specs.Refusals.{number_of};
 ghost use Rattle.terms.specs.Verdicts.{verdict_number};
 
 // The session's MsgSeqNum. Its field is private: only `new` and `value` make one or take one apart.
-#[derive(Clone, Copy)]
+#[derive(Clone, Copy, Debug, PartialEq, Eq, PartialOrd, Ord)]
 pub struct SessionNumber(u64);
 
 impl SessionNumber {
@@ -28,7 +28,7 @@ impl SessionNumber {
 }
 
 // A channel's tick number: ApplSeqNum, ApplLastSeqNum, and both resend numbers.
-#[derive(Clone, Copy)]
+#[derive(Clone, Copy, Debug, PartialEq, Eq, PartialOrd, Ord)]
 pub struct TickNumber(u64);
 
 impl TickNumber {
@@ -48,7 +48,7 @@ impl TickNumber {
 }
 
 // ChannelNO. Two bytes wide, so that a number above 9,999 can be offered and refused.
-#[derive(Clone, Copy)]
+#[derive(Clone, Copy, Debug, PartialEq, Eq, PartialOrd, Ord)]
 pub struct ChannelNumber(u16);
 
 impl ChannelNumber {
@@ -69,7 +69,7 @@ impl ChannelNumber {
 
 // Why something is refused: a case for each row of document 01's table but 0, in its order, and for
 // the numbers that the requests add. (The rows "type" and "number" are MsgType and Range here.)
-#[derive(Clone, Copy)]
+#[derive(Clone, Copy, Debug, PartialEq, Eq)]
 pub enum Refusal {
     More,
     MsgType,
@@ -91,6 +91,10 @@ pub enum Refusal {
     Channel,
     Closed,
     Entries,
+    Full,
+    Open,
+    Captures,
+    Sums,
     Places,
     Early,
     Sequence,
@@ -98,12 +102,12 @@ pub enum Refusal {
     Again,
 }
 
-impl Refusal {
-    // Document 01's number of this refusal.
-    pub fn number(self) -> u32
-        ensures { result ≡ number_of self }
-    {
-        match self {
+// Document 01's number of a refusal.
+impl From<Refusal> for u32 {
+    ghost from_gives = { λ why n. n ≡ number_of why };
+
+    fn from(why: Refusal) -> u32 {
+        match why {
             Refusal::More => 1,
             Refusal::MsgType => 2,
             Refusal::Long => 3,
@@ -124,6 +128,10 @@ impl Refusal {
             Refusal::Channel => 18,
             Refusal::Closed => 19,
             Refusal::Entries => 20,
+            Refusal::Full => 21,
+            Refusal::Open => 22,
+            Refusal::Captures => 27,
+            Refusal::Sums => 28,
             Refusal::Places => 29,
             Refusal::Early => 30,
             Refusal::Sequence => 31,
@@ -133,21 +141,12 @@ impl Refusal {
     }
 }
 
-// What a check or a call says: fine, or why not.
-#[derive(Clone, Copy)]
-pub enum Verdict {
-    Fine,
-    Refused(Refusal),
-}
-
-impl Verdict {
-    // Document 01's number of this verdict: 0, or the refusal's.
-    pub fn number(self) -> u32
-        ensures { result ≡ verdict_number self }
-    {
-        match self {
-            Verdict::Fine => 0,
-            Verdict::Refused(why) => why.number(),
-        }
+// The number of an answer: 0 where there is one, else the refusal's.
+pub fn number_of<T: Drop>(answer: Result<T, Refusal>) -> u32
+    ensures { result ≡ verdict_number answer }
+{
+    match answer {
+        Ok(_) => 0,
+        Err(why) => u32::from(why),
     }
 }
