@@ -10,13 +10,6 @@ ghost use Rattle.octets.specs.Papers.{written_paper, room_for, laid_if_room};
 
 use terms::Refusal;
 
-// What a function that writes into a lent buffer returns: how many bytes it wrote, or why none.
-#[derive(Clone, Copy)]
-pub enum Written {
-    Bytes(usize),
-    Refused(Refusal),
-}
-
 fn wide(x: u8) -> u64
     ensures { (result ≡ x) × (result < 256) }
 {
@@ -163,7 +156,7 @@ pub fn u64_at(s: &[u8], at: usize) -> u64
 }
 
 // Whether a buffer of len bytes has n bytes from at on.
-fn has_room(len: usize, at: usize, n: usize) -> bool
+pub fn has_room(len: usize, at: usize, n: usize) -> bool
     ensures { result ≡ nat_le (at + n) len }
 {
     if len < n {
@@ -281,14 +274,14 @@ fn store(d: &mut [u8], at: usize, n: usize, v: u64)
 }
 
 // Writes the n lowest bytes of v over d from at on, high byte first.
-pub fn put(d: &mut [u8], at: usize, n: usize, v: u64) -> Written
+pub fn put(d: &mut [u8], at: usize, n: usize, v: u64) -> Result<usize, Refusal>
     ensures { (written_paper result ≡ room_for at n (length d.old)) × (d.new ≡ laid_if_room at (bytes_of n v) d.old) }
 {
     if !has_room(d.len(), at, n) {
-        return Written::Refused(Refusal::Room);
+        return Err(Refusal::Room);
     }
     store(d, at, n, v);
-    Written::Bytes(n)
+    Ok(n)
 }
 
 // Stores all of src from at on.
@@ -304,14 +297,14 @@ fn copy(d: &mut [u8], at: usize, src: &[u8])
 }
 
 // Writes all of src over d from at on.
-pub fn lay(d: &mut [u8], at: usize, src: &[u8]) -> Written
+pub fn lay(d: &mut [u8], at: usize, src: &[u8]) -> Result<usize, Refusal>
     ensures { (written_paper result ≡ room_for at (length src.now) (length d.old)) × (d.new ≡ laid_if_room at src.now d.old) }
 {
     if !has_room(d.len(), at, src.len()) {
-        return Written::Refused(Refusal::Room);
+        return Err(Refusal::Room);
     }
     copy(d, at, src);
-    Written::Bytes(src.len())
+    Ok(src.len())
 }
 
 // Fills a part with one byte.
