@@ -3,7 +3,7 @@
 // written and the answer is 8.
 #![tactic(auto)]
 
-ghost use Rattle.std.specs.Prelude.{◌≡◌, ◌+◌, ◌-◌, ◌*◌, ◌/◌, ◌%◌, ◌^◌, ◌<◌, ◌≤◌, min, [], ◌∷◌, length, take, drop, replicate, nat_le, slice_index};
+ghost use Rattle.std.specs.Prelude.{ℕ, ◌≡◌, ◌+◌, ◌-◌, ◌*◌, ◌/◌, ◌%◌, ◌^◌, ◌<◌, ◌≤◌, min, [], ◌∷◌, length, take, drop, replicate, nat_le, slice_index};
 ghost use Rattle.octets.specs.Octets.{be, bytes_of, laid, sum8, sum_after};
 ghost use Rattle.octets.specs.Turns.{turn2, turn4, turn8};
 ghost use Rattle.octets.specs.Papers.{written_paper, room_for, laid_if_room};
@@ -108,51 +108,82 @@ fn in8(s: &[u8], at: usize) -> u64
     wide32(in4(s, at)) * 4294967296 + wide32(in4(s, at + 4))
 }
 
-// The number in the one byte of s at a place; 0 past the end.
-pub fn u8_at(s: &[u8], at: usize) -> u8
-    ensures { result ≡ be 1 at s.now }
-{
-    if at < s.len() { s[at] } else { 0 }
+// A number that stands in bytes, high byte first.
+pub trait Number {
+    ghost width: { ℕ };
+
+    ghost value: { Self → ℕ };
+
+    // The number in the bytes of s from a place on; bytes past the end count as 0.
+    fn at(s: &[u8], at: usize) -> Self
+        ensures { value result ≡ be width at s.now };
 }
 
-// The number in two bytes from a place on, high byte first; bytes past the end count as 0.
-pub fn u16_at(s: &[u8], at: usize) -> u16
-    ensures { result ≡ be 2 at s.now }
-{
-    if has_room(s.len(), at, 2) {
-        return in2(s, at);
+impl Number for u8 {
+    ghost width = { 1 };
+
+    ghost value = { λ n. n };
+
+    fn at(s: &[u8], at: usize) -> u8
+        ensures { result ≡ be 1 at s.now }
+    {
+        if at < s.len() { s[at] } else { 0 }
     }
-    number_at(s, at, 2) as u16
 }
 
-// The same in four bytes.
-pub fn u32_at(s: &[u8], at: usize) -> u32
-    ensures { result ≡ be 4 at s.now }
-{
-    if has_room(s.len(), at, 4) {
-        return in4(s, at);
+impl Number for u16 {
+    ghost width = { 2 };
+
+    ghost value = { λ n. n };
+
+    fn at(s: &[u8], at: usize) -> u16
+        ensures { result ≡ be 2 at s.now }
+    {
+        if has_room(s.len(), at, 2) {
+            return in2(s, at);
+        }
+        number_at(s, at, 2) as u16
     }
-    number_at(s, at, 4) as u32
 }
 
-// The same in five bytes: the letters of an MDStreamID as one number.
-pub fn u40_at(s: &[u8], at: usize) -> u64
+impl Number for u32 {
+    ghost width = { 4 };
+
+    ghost value = { λ n. n };
+
+    fn at(s: &[u8], at: usize) -> u32
+        ensures { result ≡ be 4 at s.now }
+    {
+        if has_room(s.len(), at, 4) {
+            return in4(s, at);
+        }
+        number_at(s, at, 4) as u32
+    }
+}
+
+impl Number for u64 {
+    ghost width = { 8 };
+
+    ghost value = { λ n. n };
+
+    fn at(s: &[u8], at: usize) -> u64
+        ensures { result ≡ be 8 at s.now }
+    {
+        if has_room(s.len(), at, 8) {
+            return in8(s, at);
+        }
+        number_at(s, at, 8)
+    }
+}
+
+// The letters of an MDStreamID, five bytes, as one number; bytes past the end count as 0.
+pub fn letters_at(s: &[u8], at: usize) -> u64
     ensures { result ≡ be 5 at s.now }
 {
     if has_room(s.len(), at, 5) {
         return in5(s, at);
     }
     number_at(s, at, 5)
-}
-
-// The same in eight bytes.
-pub fn u64_at(s: &[u8], at: usize) -> u64
-    ensures { result ≡ be 8 at s.now }
-{
-    if has_room(s.len(), at, 8) {
-        return in8(s, at);
-    }
-    number_at(s, at, 8)
 }
 
 // Whether a buffer of len bytes has n bytes from at on.
