@@ -9,6 +9,7 @@ ghost use Rattle.rules.specs.Fields.{pair_ok};
 ghost use Rattle.rules.specs.declared.Kind.TheVariants.{S001, S002, P001, P002, M102, M201};
 ghost use Rattle.broken.specs.Broken.{none, broken_at, lowest_from, type_ok, fixed_fields, entry_fields, entries_fields, entries_of, extension, fields_of, broken_of};
 
+use octets::Number;
 use rules::Kind;
 
 // A field that breaks a rule: `found` is 1; where it starts in the body, how many bytes it has, and
@@ -68,24 +69,24 @@ fn unless(ok: bool, place: usize, len: usize, index: u64, rest: Broken) -> Broke
 fn s001_broken(b: &[u8]) -> Broken
     ensures { result ≡ lowest_from (fields_of S001 b.now) none }
 {
-    let heart_bt_int = octets::u16_at(b, 64);
+    let heart_bt_int = u16::at(b, 64);
     unless(0 < heart_bt_int, 64, 2, 2, all_hold())
 }
 
 fn s002_broken(b: &[u8]) -> Broken
     ensures { result ≡ lowest_from (fields_of S002 b.now) none }
 {
-    let session_status = octets::u32_at(b, 0);
+    let session_status = u32::at(b, 0);
     unless(session_status <= 9999, 0, 4, 0, all_hold())
 }
 
 fn p001_broken(b: &[u8]) -> Broken
     ensures { result ≡ lowest_from (fields_of P001 b.now) none }
 {
-    let security_type = octets::u8_at(b, 0);
-    let channel_no = octets::u16_at(b, 1);
-    let appl_last_seq_num = octets::u64_at(b, 3);
-    let end_of_channel = octets::u8_at(b, 11);
+    let security_type = u8::at(b, 0);
+    let channel_no = u16::at(b, 1);
+    let appl_last_seq_num = u64::at(b, 3);
+    let end_of_channel = u8::at(b, 11);
     let flag = (end_of_channel == b'Y') | (end_of_channel == b'N');
     let from3 = unless(flag, 11, 1, 3, all_hold());
     let from2 = unless(appl_last_seq_num < 1000000000000000000, 3, 8, 2, from3);
@@ -96,11 +97,11 @@ fn p001_broken(b: &[u8]) -> Broken
 fn p002_broken(b: &[u8]) -> Broken
     ensures { result ≡ lowest_from (fields_of P002 b.now) none }
 {
-    let channel_no = octets::u16_at(b, 0);
-    let resend_type = octets::u8_at(b, 2);
-    let first = octets::u64_at(b, 3);
-    let last = octets::u64_at(b, 11);
-    let status = octets::u8_at(b, 19);
+    let channel_no = u16::at(b, 0);
+    let resend_type = u8::at(b, 2);
+    let first = u64::at(b, 3);
+    let last = u64::at(b, 11);
+    let status = u8::at(b, 19);
     let request = (0 < status) | (last == 0) | (first <= last);
     let from4 = unless((status <= 5) | (status == 99), 19, 1, 4, all_hold());
     let from3 = unless((last < 1000000000000000000) & request, 11, 8, 3, from4);
@@ -123,11 +124,11 @@ fn behind(n: usize) -> usize
 fn m201_back(b: &[u8]) -> Broken
     ensures { result ≡ lowest_from (drop 5 (fixed_fields M201 b.now) ++ extension b.now) none }
 {
-    let transact_time = octets::u32_at(b, 24);
-    let exec = octets::u8_at(b, 28);
-    let price = octets::u64_at(b, 29);
-    let order_qty = octets::u64_at(b, 37);
-    let tail = rules::suits_tail(rules::layout_of(octets::u40_at(b, 11), exec), b.len());
+    let transact_time = u32::at(b, 24);
+    let exec = u8::at(b, 28);
+    let price = u64::at(b, 29);
+    let order_qty = u64::at(b, 37);
+    let tail = rules::suits_tail(rules::layout_of(octets::letters_at(b, 11), exec), b.len());
     let from9 = unless(tail, 45, behind(b.len()), 9, all_hold());
     let from8 = unless(order_qty < 1000000000000000, 37, 8, 8, from9);
     let from7 = unless(price < 10000000000000, 29, 8, 7, from8);
@@ -144,9 +145,9 @@ fn m201_back(b: &[u8]) -> Broken
 fn m201_broken(b: &[u8]) -> Broken
     ensures { result ≡ lowest_from (fields_of M201 b.now) none }
 {
-    let security_type = octets::u8_at(b, 0);
-    let channel_no = octets::u16_at(b, 1);
-    let tick = octets::u64_at(b, 3);
+    let security_type = u8::at(b, 0);
+    let channel_no = u16::at(b, 1);
+    let tick = u64::at(b, 3);
     let from2 = unless(
         (0 < tick) & (tick < 1000000000000000000),
         3,
@@ -183,12 +184,12 @@ fn entry_broken(b: &[u8], at: usize, w: usize, entry: usize) -> Broken
     requires { Wide w × (at + w ≤ length b.now) }
     ensures { result ≡ lowest_from (entry_fields w at entry b.now) none }
 {
-    let price = octets::u64_at(b, at + 2);
+    let price = u64::at(b, at + 2);
     if w == 10 {
         return unless_in(entry, price < 10000000000000, at + 2, 8, 14, all_hold());
     }
-    let size = octets::u64_at(b, at + 10);
-    let position = octets::u8_at(b, at + 18);
+    let size = u64::at(b, at + 10);
+    let position = u8::at(b, at + 18);
     let from16 = unless_in(entry, position < 100, at + 18, 1, 16, all_hold());
     let from15 = unless_in(entry, size < 1000000000000, at + 10, 8, 15, from16);
     unless_in(entry, price < 10000000000000, at + 2, 8, 14, from15)
@@ -217,8 +218,8 @@ fn entries_broken(b: &[u8], n: usize, w: usize) -> Broken
 fn m102_counted(b: &[u8]) -> Broken
     ensures { result ≡ lowest_from (drop 12 (fixed_fields M102 b.now) ++ entries_of b.now) none }
 {
-    let n = octets::u16_at(b, 71) as usize;
-    let w = rules::entry_size(octets::u40_at(b, 10));
+    let n = u16::at(b, 71) as usize;
+    let w = rules::entry_size(octets::letters_at(b, 10));
     if b.len() != 73 + n * w {
         return breaks(71, 2, 12, 0);
     }
@@ -229,10 +230,10 @@ fn m102_counted(b: &[u8]) -> Broken
 fn m102_back(b: &[u8]) -> Broken
     ensures { result ≡ lowest_from (drop 7 (fixed_fields M102 b.now) ++ entries_of b.now) none }
 {
-    let pre_close_px = octets::u64_at(b, 31);
-    let total_volume_traded = octets::u64_at(b, 39);
-    let num_trades = octets::u64_at(b, 47);
-    let total_value_traded = octets::u64_at(b, 55);
+    let pre_close_px = u64::at(b, 31);
+    let total_volume_traded = u64::at(b, 39);
+    let num_trades = u64::at(b, 47);
+    let total_value_traded = u64::at(b, 55);
     let from12 = m102_counted(b);
     let from10 = unless(total_value_traded < 10000000000000000, 55, 8, 10, from12);
     let from9 = unless(num_trades < 10000000000000000, 47, 8, 9, from10);
@@ -243,11 +244,11 @@ fn m102_back(b: &[u8]) -> Broken
 fn m102_broken(b: &[u8]) -> Broken
     ensures { result ≡ lowest_from (fields_of M102 b.now) none }
 {
-    let security_type = octets::u8_at(b, 0);
-    let mode = octets::u8_at(b, 1);
-    let trade_date = octets::u32_at(b, 2);
-    let last_update_time = octets::u32_at(b, 6);
-    let pair = pair_ok(security_type, octets::u40_at(b, 10));
+    let security_type = u8::at(b, 0);
+    let mode = u8::at(b, 1);
+    let trade_date = u32::at(b, 2);
+    let last_update_time = u32::at(b, 6);
+    let pair = pair_ok(security_type, octets::letters_at(b, 10));
     let from4 = unless(pair, 10, 5, 4, m102_back(b));
     let from3 = unless(last_update_time < 1000000000, 6, 4, 3, from4);
     let from2 = unless(trade_date < 100000000, 2, 4, 2, from3);

@@ -15,7 +15,7 @@ ghost use Rattle.clean.specs.Papers.{clean_paper, check_paper};
 ghost use Rattle.clean.specs.Passes.{passed_of, kept_of};
 
 use ledger::Answer;
-use octets::Written;
+use octets::Number;
 use terms::Refusal;
 
 // What cleaning returns: 0, or 8 where the buffer can't take the cleaned bytes; how many bytes were
@@ -60,8 +60,8 @@ fn keep(capture: &[u8], p: usize, out: &mut [u8], n: usize) -> Kept
         × (out.new ≡ laid_if_room n (scrubbed (take (seen_of (drop p capture.now)).size (drop p capture.now))) out.old) }
 {
     match scrub::scrub_into(capture, p, out, n) {
-        Written::Bytes(size) => Kept { answer: 0, size },
-        Written::Refused(_) => {
+        Ok(size) => Kept { answer: 0, size },
+        Err(_) => {
             let seen = reading::see(capture, p);
             let verdict = seen.answer;
             Kept {
@@ -154,7 +154,7 @@ fn word(s: &[u8], at: usize) -> u64
     ensures { result ≡ be 8 at s.now }
 {
     let end = at + 8;
-    octets::u64_at(&s[at..end], 0)
+    u64::at(&s[at..end], 0)
 }
 
 // How many whole words of eight bytes at the front of one stand in the capture from n on, up to the

@@ -4,9 +4,9 @@ use mathlib.Core.Path.{◌≡◌, sym, ◌∙◌}
 use Rattle.terms.specs.OneAnswer.{OneAnswer}
 use Rattle.terms.specs.OneBuffer.{OneBuffer, RefusedKeeps}
 use Rattle.terms.specs.Paper.{Paper}
-use Rattle.octets.specs.declared.Written.{Written}
+use Rattle.std.specs.Prelude.{ℕ, Result, Option}
+use Rattle.terms.specs.declared.Refusal.{Refusal}
 use Rattle.octets.specs.Papers.{Refuses, written_paper, written_one, refused_kept}
-use Rattle.digits.specs.declared.Decimal.{Decimal}
 use Rattle.digits.specs.Digits.{decimal_paper, decimal_one}
 use Rattle.digits.specs.Laws.{length_decimal}
 use Rattle.digits.proofs.put_digits.Reads as put-digits
@@ -22,7 +22,7 @@ use Rattle.digits.proofs.decimal_at.Kinds as decimal-at-kinds
 
 -- TEXT LAID
 
-one_written : (paper : Paper) (x y : Written) → written_paper x ≡ paper → written_paper y ≡ paper → x ≡ y
+one_written : (paper : Paper) (x y : Result ℕ Refusal) → written_paper x ≡ paper → written_paper y ≡ paper → x ≡ y
 one_written paper x y p q = written_one x y (p ∙ sym q)
 
 pub put_digits_one_answer : OneAnswer _ put-digits-kinds.ps put-digits-kinds.r put-digits.Post
@@ -50,7 +50,7 @@ width_one_answer κs a x y s t p q = p ∙ sym q
 
 -- TEXT READ
 
-one_decimal : (paper : Paper) (x y : Decimal) → decimal_paper x ≡ paper → decimal_paper y ≡ paper → x ≡ y
+one_decimal : (paper : Paper) (x y : Option ℕ) → decimal_paper x ≡ paper → decimal_paper y ≡ paper → x ≡ y
 one_decimal paper x y p q = decimal_one x y (p ∙ sym q)
 
 pub digits_at_one_answer : OneAnswer _ digits-at-kinds.ps digits-at-kinds.r digits-at.Post

@@ -5,7 +5,7 @@ use mathlib.Core.Path.{refl}
 use mathlib.Core.List.{List, [], ◌∷◌}
 use lib.ListN.{length, replicate}
 use Rattle.terms.specs.Paper.{Paper, answer, refusal}
-use Rattle.terms.specs.RuledOut.{Row, ◌never◌, ◌only◌, Kept, RulesOut, ruled, numbers, lists, papers, Left, left, lefts, left_is}
+use Rattle.terms.specs.RuledOut.{Row, ◌never◌, ◌only◌, Kept, RulesOut, ruled, numbers, papers, Left, left, lefts, left_is}
 use Rattle.octets.specs.Octets.{numeral, digits_of, laid}
 use Rattle.octets.specs.Papers.{written_paper, room_for, laid_if_room}
 use Rattle.digits.specs.Digits.{decimal_of, width_in, width_of, shown_of, all_digits, said_by, said_if_digits, digits_at, decimal_at, decimal_paper}

@@ -1,9 +1,7 @@
 -- Decimal text in ASCII: the digits of a number as bytes, and the number that such bytes say.
-use Rattle.std.specs.Prelude.{ℕ, zero, suc, ◌+◌, ◌/◌, ◌-◌, ◌≡◌, refl, Bool, true, not, ◌&&◌, ◌||◌, List, [], ◌∷◌, map, leb, ltb, eqb, length, get_or, take, drop}
+use Rattle.std.specs.Prelude.{ℕ, zero, suc, ◌+◌, ◌/◌, ◌-◌, ◌≡◌, refl, Bool, true, not, ◌&&◌, ◌||◌, List, [], ◌∷◌, map, leb, ltb, eqb, length, get_or, take, drop, Option, Some, None}
 use Rattle.std.proofs.Common.{sym, ap, ◌∙◌}
 use Rattle.terms.specs.Paper.{Paper, answer, pick}
-use Rattle.digits.specs.declared.Decimal.{Decimal}
-use Rattle.digits.specs.declared.Decimal.TheVariants.{Number, NoNumber}
 use Rattle.octets.specs.Octets.{numeral, digits_of}
 
 -- WRITING
@@ -65,20 +63,20 @@ decimal_at at n s = pick (plain n (get_or s at 0)) (digits_at at n s) nothing
 
 -- THE ANSWER'S PAPER
 
-abbrev pub decimal_paper : Decimal → Paper
-decimal_paper (Number v) = number v
-decimal_paper NoNumber = nothing
+abbrev pub decimal_paper : Option ℕ → Paper
+decimal_paper (Some v) = number v
+decimal_paper None = nothing
 
 -- the answer told from its values
-told_decimal : List ℕ → Decimal
-told_decimal [] = NoNumber
-told_decimal (v ∷ vs) = Number v
+told_decimal : List ℕ → Option ℕ
+told_decimal [] = None
+told_decimal (v ∷ vs) = Some v
 
-decimal_told : (r : Decimal) → told_decimal (decimal_paper r).values ≡ r
+decimal_told : (r : Option ℕ) → told_decimal (decimal_paper r).values ≡ r
 unfolding told_decimal
-decimal_told (Number v) = refl
-decimal_told NoNumber = refl
+decimal_told (Some v) = refl
+decimal_told None = refl
 
 -- two answers of one paper are one
-pub decimal_one : (x y : Decimal) → decimal_paper x ≡ decimal_paper y → x ≡ y
+pub decimal_one : (x y : Option ℕ) → decimal_paper x ≡ decimal_paper y → x ≡ y
 decimal_one x y e = sym (decimal_told x) ∙ ap (λ (p : Paper). told_decimal p.values) e ∙ decimal_told y

@@ -8,25 +8,7 @@ ghost use Rattle.octets.specs.Octets.{laid};
 ghost use Rattle.octets.specs.Papers.{written_paper, room_for, laid_if_room};
 ghost use Rattle.digits.specs.Digits.{decimal_of, shown_of, width_of, is_digit, said_if_digits, readable, digits_at, decimal_at, decimal_paper};
 
-use octets::Written;
 use terms::Refusal;
-
-// What reading decimal text finds.
-#[derive(Clone, Copy)]
-pub enum Decimal {
-    Number(u64),
-    NoNumber,
-}
-
-// Whether n bytes from at on end within len.
-fn has_room(len: usize, at: usize, n: usize) -> bool
-    ensures { result ≡ leb (at + n) len }
-{
-    if len < n {
-        return false;
-    }
-    at <= len - n
-}
 
 // Stores the n lowest decimal digits of v from at on.
 fn store_digits(d: &mut [u8], at: usize, n: usize, v: u64)
@@ -43,14 +25,14 @@ fn store_digits(d: &mut [u8], at: usize, n: usize, v: u64)
 }
 
 // Writes the n lowest decimal digits of v over d from at on, with zeros in front where v has fewer.
-pub fn put_digits(d: &mut [u8], at: usize, n: usize, v: u64) -> Written
+pub fn put_digits(d: &mut [u8], at: usize, n: usize, v: u64) -> Result<usize, Refusal>
     ensures { (written_paper result ≡ room_for at n (length d.old)) × (d.new ≡ laid_if_room at (decimal_of n v) d.old) }
 {
-    if !has_room(d.len(), at, n) {
-        return Written::Refused(Refusal::Room);
+    if !octets::has_room(d.len(), at, n) {
+        return Err(Refusal::Room);
     }
     store_digits(d, at, n, v);
-    Written::Bytes(n)
+    Ok(n)
 }
 
 // How many digits v has; 0 has one.
@@ -78,7 +60,7 @@ pub fn width(v: u64) -> usize
 
 // Writes v over d from at on as all its digits, with no needless zero in front, and returns how
 // many they are.
-pub fn put_decimal(d: &mut [u8], at: usize, v: u64) -> Written
+pub fn put_decimal(d: &mut [u8], at: usize, v: u64) -> Result<usize, Refusal>
     ensures { (written_paper result ≡ room_for at (width_of v) (length d.old)) × (d.new ≡ laid_if_room at (shown_of v) d.old) }
 {
     // of a constant number of digits the compiler makes no loop
@@ -106,7 +88,7 @@ fn digit(b: u8) -> bool
 
 // The number that the n bytes of s from at on say, if all of them are digits. Nineteen digits
 // stay below 2^64.
-fn said(s: &[u8], at: usize, n: usize) -> Decimal
+fn said(s: &[u8], at: usize, n: usize) -> Option<u64>
     requires { (at + n ≤ length s.now) × (n ≤ 19) }
     ensures { decimal_paper result ≡ said_if_digits (take n (drop at s.now)) }
 {
@@ -115,12 +97,12 @@ fn said(s: &[u8], at: usize, n: usize) -> Decimal
     while i < n {
         let b = s[at + i];
         if !digit(b) {
-            return Decimal::NoNumber;
+            return None;
         }
         v = v * 10 + (b - 48) as u64;
         i += 1;
     }
-    Decimal::Number(v)
+    Some(v)
 }
 
 // Whether n bytes from at on, of len bytes, can say a number: they are one to nineteen, and none
@@ -128,29 +110,29 @@ fn said(s: &[u8], at: usize, n: usize) -> Decimal
 fn can_say(len: usize, at: usize, n: usize) -> bool
     ensures { result ≡ readable at n len }
 {
-    (1 <= n) & (n <= 19) & has_room(len, at, n)
+    (1 <= n) & (n <= 19) & octets::has_room(len, at, n)
 }
 
 // The number that the n bytes of s from at on say: one to nineteen digits, all within s. Else there
 // is no number.
-pub fn digits_at(s: &[u8], at: usize, n: usize) -> Decimal
+pub fn digits_at(s: &[u8], at: usize, n: usize) -> Option<u64>
     ensures { decimal_paper result ≡ digits_at at n s.now }
 {
     if !can_say(s.len(), at, n) {
-        return Decimal::NoNumber;
+        return None;
     }
     said(s, at, n)
 }
 
 // The same, where the first digit is no needless zero: 0 stands alone or not in front.
-pub fn decimal_at(s: &[u8], at: usize, n: usize) -> Decimal
+pub fn decimal_at(s: &[u8], at: usize, n: usize) -> Option<u64>
     ensures { decimal_paper result ≡ decimal_at at n s.now }
 {
     if !can_say(s.len(), at, n) {
-        return Decimal::NoNumber;
+        return None;
     }
     if !((n == 1) | (s[at] != 48)) {
-        return Decimal::NoNumber;
+        return None;
     }
     said(s, at, n)
 }

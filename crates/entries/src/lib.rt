@@ -8,8 +8,9 @@ ghost use Rattle.terms.specs.Verdicts.{verdict_number};
 ghost use Rattle.entries.specs.Reader.{open_of, stands, entry_at, size_in, Carries, Opens, Stops, Steps};
 ghost use Rattle.entries.specs.Papers.{entry_paper};
 
+use octets::Number;
 use rules::Kind;
-use terms::{Refusal, Verdict};
+use terms::Refusal;
 
 // The reader: the body that it walks, and where the next entry starts.
 #[derive(Clone, Copy)]
@@ -50,7 +51,7 @@ pub struct Stop {
 // An opening: the answer, and the reader; beside a refusal, one over nothing.
 #[derive(Clone, Copy)]
 pub struct Opened<'a> {
-    pub answer: Verdict,
+    pub answer: Result<(), Refusal>,
     pub reader: Entries<'a>,
 }
 
@@ -63,27 +64,27 @@ pub struct Stepped<'a> {
 
 // Whether a body may be walked: the checks 3, 4 and 6 as for M102.
 // (Not `judge`: it is there for a message, and a body alone has no sending time.)
-pub fn open_at(body: &[u8]) -> Verdict
+pub fn open_at(body: &[u8]) -> Result<(), Refusal>
     ensures { verdict_number result ≡ open_of body.now }
 {
     match rules::measure(Kind::M102, body.len()) {
-        Verdict::Refused(why) => Verdict::Refused(why),
-        Verdict::Fine => {
+        Err(why) => Err(why),
+        Ok(()) => {
             if !rules::fields_ok(Kind::M102, body) {
-                return Verdict::Refused(Refusal::Field);
+                return Err(Refusal::Field);
             }
-            Verdict::Fine
+            Ok(())
         }
     }
 }
 
 // What the reader of an opening so answered carries: the body, or its empty part.
-fn carried(body: &[u8], answer: Verdict) -> &[u8]
+fn carried(body: &[u8], answer: Result<(), Refusal>) -> &[u8]
     ensures { Carries body.entry (verdict_number answer) result }
 {
     match answer {
-        Verdict::Refused(_) => &body[0..0],
-        Verdict::Fine => body,
+        Err(_) => &body[0..0],
+        Ok(()) => body,
     }
 }
 
@@ -99,7 +100,7 @@ fn is_entry(body: &[u8], place: usize, w: usize) -> bool
     if body.len() < place {
         return false;
     }
-    let n = octets::u16_at(body, 71) as usize;
+    let n = u16::at(body, 71) as usize;
     let i = place - 73;
     (i % w == 0) & (i / w < n) & (w <= body.len() - place)
 }
@@ -109,13 +110,13 @@ fn entry_at(body: &[u8], place: usize, w: usize) -> Entry
     requires { (w ≡ size_in body.now) × (place + w ≤ length body.now) }
     ensures { entry_paper result ≡ entry_at body.now place }
 {
-    let kind = octets::u16_at(body, place);
-    let price = octets::u64_at(body, place + 2);
+    let kind = u16::at(body, place);
+    let price = u64::at(body, place + 2);
     if w == 10 {
         return Entry::Short { kind, price };
     }
-    let size = octets::u64_at(body, place + 10);
-    let position = octets::u8_at(body, place + 18);
+    let size = u64::at(body, place + 10);
+    let position = u8::at(body, place + 18);
     Entry::Long {
         kind,
         price,
@@ -129,7 +130,7 @@ fn entry_at(body: &[u8], place: usize, w: usize) -> Entry
 fn step_at(body: &[u8], place: usize) -> Stop
     ensures { Stops body.now place result }
 {
-    let w = rules::entry_size(octets::u40_at(body, 10));
+    let w = rules::entry_size(octets::letters_at(body, 10));
     if !is_entry(body, place, w) {
         return Stop {
             answer: Answer::Refused(Refusal::Entries),

@@ -10,9 +10,9 @@ ghost use Rattle.frame.specs.Papers.{read_paper, found_paper, HeadSays};
 ghost use Rattle.frame_spec.specs.Write.{message, frame_of, write_of, left_of};
 ghost use Rattle.frame_spec.specs.Search.{search_of};
 
-use octets::Written;
+use octets::Number;
 use rules::Kind;
-use terms::{Refusal, SessionNumber, Verdict};
+use terms::{Refusal, SessionNumber};
 
 // What reading finds. A refusal carries nothing of the bytes.
 #[derive(Clone, Copy)]
@@ -54,17 +54,17 @@ fn head_at(bytes: &[u8], at: usize) -> Head
     if left < 24 {
         return Head::Refused(Refusal::More);
     }
-    if octets::u8_at(bytes, at + 2) != 0x30 {
+    if u8::at(bytes, at + 2) != 0x30 {
         return Head::Refused(Refusal::MsgType);
     }
-    let kind = rules::kind_of(octets::u32_at(bytes, at));
+    let kind = rules::kind_of(u32::at(bytes, at));
     if !rules::is_known(kind) {
         return Head::Refused(Refusal::MsgType);
     }
-    let n = octets::u32_at(bytes, at + 20) as usize;
+    let n = u32::at(bytes, at + 20) as usize;
     match rules::measure(kind, n) {
-        Verdict::Refused(why) => Head::Refused(why),
-        Verdict::Fine => {
+        Err(why) => Head::Refused(why),
+        Ok(()) => {
             if left < 28 + n {
                 return Head::Refused(Refusal::More);
             }
@@ -80,17 +80,17 @@ fn rest_at(bytes: &[u8], at: usize, kind: Kind, n: usize, v: u8) -> Read
 {
     let start = at + 24;
     let end = start + n;
-    let stored = octets::u32_at(bytes, end);
+    let stored = u32::at(bytes, end);
     if stored != v as u32 {
         return Read::Refused(Refusal::Sum);
     }
-    let sent = octets::u64_at(bytes, at + 4);
+    let sent = u64::at(bytes, at + 4);
     match rules::judge(kind, sent, &bytes[start..end]) {
-        Verdict::Refused(why) => Read::Refused(why),
-        Verdict::Fine => Read::Frame {
-            msg_type: octets::u32_at(bytes, at),
+        Err(why) => Read::Refused(why),
+        Ok(()) => Read::Frame {
+            msg_type: u32::at(bytes, at),
             sending_time: sent,
-            seq: SessionNumber::new(octets::u64_at(bytes, at + 12)),
+            seq: SessionNumber::new(u64::at(bytes, at + 12)),
             body_len: n,
         },
     }
@@ -136,20 +136,20 @@ fn may_write(
     seq: SessionNumber,
     body: &[u8],
     room: usize,
-) -> Written
+) -> Result<usize, Refusal>
     ensures { written_paper result ≡ write_of (message msg_type sending_time seq.0 body.now) room }
 {
     let kind = rules::kind_of(msg_type);
     let n = body.len();
     match rules::measure(kind, n) {
-        Verdict::Refused(why) => Written::Refused(why),
-        Verdict::Fine => match rules::judge(kind, sending_time, body) {
-            Verdict::Refused(why) => Written::Refused(why),
-            Verdict::Fine => {
+        Err(why) => Err(why),
+        Ok(()) => match rules::judge(kind, sending_time, body) {
+            Err(why) => Err(why),
+            Ok(()) => {
                 if room < 28 + n {
-                    return Written::Refused(Refusal::Room);
+                    return Err(Refusal::Room);
                 }
-                Written::Bytes(28 + n)
+                Ok(28 + n)
             }
         },
     }
@@ -178,14 +178,14 @@ pub fn write(
     seq: SessionNumber,
     body: &[u8],
     out: &mut [u8],
-) -> Written
+) -> Result<usize, Refusal>
     ensures { (written_paper result ≡ write_of (message msg_type sending_time seq.0 body.now) (length out.old)) × (out.new ≡ left_of (message msg_type sending_time seq.0 body.now) out.old) }
 {
     match may_write(msg_type, sending_time, seq, body, out.len()) {
-        Written::Refused(why) => Written::Refused(why),
-        Written::Bytes(n) => {
+        Err(why) => Err(why),
+        Ok(n) => {
             store(msg_type, sending_time, seq, body, out);
-            Written::Bytes(n)
+            Ok(n)
         }
     }
 }

@@ -6,6 +6,7 @@ ghost use Rattle.std.specs.Prelude.{◌≡◌};
 ghost use Rattle.octets.specs.Octets.{be};
 ghost use Rattle.frame_view.specs.View.{viewed, view_of};
 
+use octets::Number;
 use rules::Kind;
 use terms::{ChannelNumber, TickNumber};
 
@@ -40,8 +41,8 @@ fn ticked(kind: Kind, body: &[u8], channel_at: usize) -> View
 {
     View {
         kind,
-        channel: ChannelNumber::new(octets::u16_at(body, channel_at)),
-        tick: TickNumber::new(octets::u64_at(body, 3)),
+        channel: ChannelNumber::new(u16::at(body, channel_at)),
+        tick: TickNumber::new(u64::at(body, 3)),
         first: TickNumber::new(0),
         last: TickNumber::new(0),
         status: 0,
@@ -53,11 +54,11 @@ fn resend(body: &[u8]) -> View
 {
     View {
         kind: Kind::P002,
-        channel: ChannelNumber::new(octets::u16_at(body, 0)),
-        tick: TickNumber::new(octets::u64_at(body, 3)),
-        first: TickNumber::new(octets::u64_at(body, 3)),
-        last: TickNumber::new(octets::u64_at(body, 11)),
-        status: octets::u8_at(body, 19),
+        channel: ChannelNumber::new(u16::at(body, 0)),
+        tick: TickNumber::new(u64::at(body, 3)),
+        first: TickNumber::new(u64::at(body, 3)),
+        last: TickNumber::new(u64::at(body, 11)),
+        status: u8::at(body, 19),
     }
 }
 

@@ -13,9 +13,10 @@ ghost use Rattle.host_frames.specs.Frames.{read_told, search_told, tail_told, br
 
 use entries::Entry;
 use frame::{Found, Read};
+use octets::Number;
 use private::Told;
 use rules::Kind;
-use terms::{SessionNumber, Verdict};
+use terms::SessionNumber;
 
 // Reads the frame at a place. Results: MsgType, SendingTime, MsgSeqNum, BodyLength, and what the
 // view has of the body: channel, tick number, a resend's first and last number, and its status; 0
@@ -24,7 +25,7 @@ pub fn rk_read(bytes: &[u8], place: usize, told: &mut [u64; 9]) -> u32
     ensures { Tells (read_told (drop place bytes.now)) told.old result told.new }
 {
     match frame::read_at(bytes, place) {
-        Read::Refused(why) => why.number(),
+        Read::Refused(why) => u32::from(why),
         Read::Frame {
             msg_type,
             sending_time,
@@ -104,7 +105,7 @@ pub fn rk_private(msg_type: u32, body: &[u8], i: usize, told: &mut [u64; 3]) -> 
     ensures { Tells (span_answer msg_type body.now i) told.old result told.new }
 {
     match private::private_span(msg_type, body, i) {
-        Told::Refused(why) => why.number(),
+        Told::Refused(why) => u32::from(why),
         Told::Part(s) => {
             *told = [s.place as u64, s.len as u64, s.fill as u64];
             0
@@ -119,9 +120,9 @@ pub fn rk_tail_field(body: &[u8], i: usize, told: &mut [u64; 4]) -> u32
     ensures { Tells (tail_told body.now i) told.old result told.new }
 {
     match rules::measure(Kind::M201, body.len()) {
-        Verdict::Refused(why) => why.number(),
-        Verdict::Fine => {
-            let layout = rules::layout_of(octets::u40_at(body, 11), octets::u8_at(body, 28));
+        Err(why) => u32::from(why),
+        Ok(()) => {
+            let layout = rules::layout_of(octets::letters_at(body, 11), u8::at(body, 28));
             if !rules::suits_tail(layout, body.len()) {
                 return 6;
             }
@@ -142,8 +143,8 @@ pub fn rk_broken_field(msg_type: u32, body: &[u8], told: &mut [u64; 5]) -> u32
 {
     let kind = rules::kind_of(msg_type);
     match rules::measure(kind, body.len()) {
-        Verdict::Refused(why) => why.number(),
-        Verdict::Fine => {
+        Err(why) => u32::from(why),
+        Ok(()) => {
             let f = broken::broken_field(kind, body);
             *told = [
                 f.found,
@@ -162,8 +163,8 @@ pub fn rk_entries(body: &[u8], told: &mut u64) -> u32
     ensures { Tells (entries_told body.now) (told.old ∷ []) result (told.new ∷ []) }
 {
     match entries::open_at(body) {
-        Verdict::Refused(why) => why.number(),
-        Verdict::Fine => {
+        Err(why) => u32::from(why),
+        Ok(()) => {
             *told = 73;
             0
         }
@@ -193,7 +194,7 @@ pub fn rk_entry(body: &[u8], place: usize, told: &mut [u64; 6]) -> u32
     let s = entries::step_from(body, place);
     let answer = s.answer;
     match answer {
-        entries::Answer::Refused(why) => why.number(),
+        entries::Answer::Refused(why) => u32::from(why),
         entries::Answer::Done(entry) => {
             *told = entry_told(entry, s.place as u64);
             0

@@ -9,7 +9,6 @@ ghost use Rattle.listing.specs.LastLine.{last_by};
 ghost use Rattle.listing_text.specs.Output.{output_of};
 
 use listing_text::Summary;
-use octets::Written;
 use std::io::{self, Read, Write};
 use walk::Walked;
 
@@ -47,8 +46,8 @@ fn list(capture: &[u8], records: &mut [u8], text: &mut [u8]) -> usize
     let walked = walk::walk(capture, records);
     let n = 64 * walked.records;
     match listing_text::put_listing(text, &records[..n], last_of(walked)) {
-        Written::Refused(_) => 0,
-        Written::Bytes(e) => e,
+        Err(_) => 0,
+        Ok(e) => e,
     }
 }
 

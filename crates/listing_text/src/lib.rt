@@ -11,7 +11,6 @@ ghost use Rattle.listing_text.specs.Columns.{Room};
 ghost use Rattle.listing_text.specs.Text.{column, type_shown, type_column, first_columns, last_columns, line_of, named, summary_of};
 ghost use Rattle.listing_text.specs.Whole.{lines_in, listing_of};
 
-use octets::Written;
 use record::Record;
 use terms::{Refusal, TickNumber};
 
@@ -32,7 +31,7 @@ const BLANK: u32 = 0x20202020;
 const DASHES: u32 = 0x2D2D2D2D;
 
 // Writes the first n bytes of src over out from at on.
-fn lay_front(out: &mut [u8], at: usize, src: &[u8], n: usize) -> Written
+fn lay_front(out: &mut [u8], at: usize, src: &[u8], n: usize) -> Result<usize, Refusal>
     requires { n ≤ length src.now }
     ensures { (written_paper result ≡ room_for at n (length out.old)) × (out.new ≡ laid_if_room at (take n src.now) out.old) }
 {
@@ -45,8 +44,8 @@ fn store_column(d: &mut [u8], at: usize, v: u64, behind: u8) -> usize
     ensures { Stored at (column v behind) d.old d.new result }
 {
     match digits::put_decimal(d, at, v) {
-        Written::Refused(_) => at,
-        Written::Bytes(n) => {
+        Err(_) => at,
+        Ok(n) => {
             let e = at + n;
             d[e] = behind;
             e + 1
@@ -108,7 +107,7 @@ fn store_line(d: &mut [u8], at: usize, r: Record) -> usize
 
 // Writes the record's line, with its newline, over out from at on, and returns how many
 // bytes it has.
-pub fn put_line(out: &mut [u8], at: usize, r: Record) -> Written
+pub fn put_line(out: &mut [u8], at: usize, r: Record) -> Result<usize, Refusal>
     ensures { (written_paper result ≡ room_for at (length (line_of r)) (length out.old)) × (out.new ≡ laid_if_room at (line_of r) out.old) }
 {
     // no line has more
@@ -141,7 +140,7 @@ fn store_summary(d: &mut [u8], at: usize, s: Summary) -> usize
 
 // Writes the listing's last line, with its newline, over out from at on, and returns how many
 // bytes it has.
-pub fn put_summary(out: &mut [u8], at: usize, s: Summary) -> Written
+pub fn put_summary(out: &mut [u8], at: usize, s: Summary) -> Result<usize, Refusal>
     ensures { (written_paper result ≡ room_for at (length (summary_of s)) (length out.old)) × (out.new ≡ laid_if_room at (summary_of s) out.old) }
 {
     // no last line has more
@@ -224,25 +223,25 @@ fn store_lines(out: &mut [u8], records: &[u8]) -> usize
 // Writes the lines of all whole records of `records` (64 bytes each; what is left over at its end
 // is passed over) over the front of out, and returns how many bytes that took. 8, and nothing is
 // written, where out is shorter.
-pub fn put_lines(out: &mut [u8], records: &[u8]) -> Written
+pub fn put_lines(out: &mut [u8], records: &[u8]) -> Result<usize, Refusal>
     ensures { (written_paper result ≡ room_for 0 (length (lines_in records.now)) (length out.old))
         × (out.new ≡ laid_if_room 0 (lines_in records.now) out.old) }
 {
     if !takes(out.len(), records, 0) {
-        return Written::Refused(Refusal::Room);
+        return Err(Refusal::Room);
     }
-    Written::Bytes(store_lines(out, records))
+    Ok(store_lines(out, records))
 }
 
 // Writes these lines and then the last line over the front of out, and returns how many bytes that
 // took. 8, and nothing is written, where out is shorter.
-pub fn put_listing(out: &mut [u8], records: &[u8], s: Summary) -> Written
+pub fn put_listing(out: &mut [u8], records: &[u8], s: Summary) -> Result<usize, Refusal>
     ensures { (written_paper result ≡ room_for 0 (length (listing_of records.now s)) (length out.old))
         × (out.new ≡ laid_if_room 0 (listing_of records.now s) out.old) }
 {
     if !takes(out.len(), records, last_len(s)) {
-        return Written::Refused(Refusal::Room);
+        return Err(Refusal::Room);
     }
     let at = store_lines(out, records);
-    Written::Bytes(store_summary(out, at, s))
+    Ok(store_summary(out, at, s))
 }

@@ -6,7 +6,6 @@ ghost use Rattle.market_columns.specs.Columns.{columns};
 ghost use Rattle.market_spec.specs.File.{end_of, line_fault, begins_at, word_of, type_at, layout_of, first_of, last_of, tail_fault, marks, mark_ok, left_over, and_then, count_ok, sum_ok, closing, trailer_fault, lines_fault, fault_of, fault};
 ghost use Rattle.market.specs.Papers.{fault_number, verdict_paper};
 
-use digits::Decimal;
 use market_columns::Amount;
 
 // What is wrong: CR 10's numbers 40 to 47, in its order; and 8, too small a buffer, which no check
@@ -246,8 +245,8 @@ fn sum_ok(s: &[u8], at: usize) -> bool
     ensures { result ≡ sum_ok at s.now }
 {
     match digits::digits_at(s, at + 8, 3) {
-        Decimal::NoNumber => false,
-        Decimal::Number(v) => v == wide(octets::sum(s, 0, at + 8)),
+        None => false,
+        Some(v) => v == wide(octets::sum(s, 0, at + 8)),
     }
 }
 

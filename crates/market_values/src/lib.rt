@@ -22,6 +22,7 @@ ghost use Rattle.market_values.specs.Writing.{judged_paper, lines_judged, judged
 
 use market::{Fault, Verdict};
 use market_columns::Amount;
+use octets::Number;
 
 // How many bytes the value of row i's column has.
 fn size(i: usize) -> usize
@@ -49,7 +50,7 @@ fn value_fits(s: &[u8], p: usize, i: usize) -> bool
         return true;
     }
     if kind == 2 {
-        return market_columns::number_fits(f.width, f.decimals, s[p], octets::u64_at(s, p + 1));
+        return market_columns::number_fits(f.width, f.decimals, s[p], u64::at(s, p + 1));
     }
     if kind == 3 {
         return market_columns::column_ok(s, p, i);
@@ -71,7 +72,7 @@ fn put_column(out: &mut [u8], at: usize, s: &[u8], p: usize, i: usize)
         return;
     }
     if kind == 2 {
-        market_columns::put_number(out, at, w, f.decimals, s[p], octets::u64_at(s, p + 1));
+        market_columns::put_number(out, at, w, f.decimals, s[p], u64::at(s, p + 1));
         return;
     }
     let e = p + w;
@@ -323,7 +324,7 @@ fn judge_lines(s: &[u8]) -> Judged
         if s.len() - p < 2 {
             return Judged::Bad(Fault::CutShort, s.len());
         }
-        let t = type_of(octets::u16_at(s, p));
+        let t = type_of(u16::at(s, p));
         if t == 0 {
             return Judged::Bad(Fault::LineType, p);
         }
@@ -369,7 +370,7 @@ fn put_lines(out: &mut [u8], s: &[u8])
     let mut a: usize = 82;
     let mut p: usize = 38;
     while p < s.len() {
-        let t = type_of(octets::u16_at(s, p));
+        let t = type_of(u16::at(s, p));
         let r = market::rows_of(t);
         put_line(out, a, s, p + 2, r.first, r.last);
         a += line_long(t);

@@ -1,20 +1,20 @@
 -- For each public function: wrong answers that its promise rules out, as tables of what is given
 -- and what is then wrong. Assumes nothing.
 use Rattle.std.proofs.Common.{ℕ, List, [], ◌∷◌, length, take, drop, replicate, refl}
-use Rattle.terms.specs.Paper.{Paper, answer, refusal}
-use Rattle.terms.specs.RuledOut.{Row, ◌never◌, ◌only◌, Kept, RulesOut, ruled, numbers, lists, papers, Left, left, lefts, left_is}
+use Rattle.terms.specs.Paper.{answer, refusal}
+use Rattle.terms.specs.RuledOut.{Row, ◌never◌, ◌only◌, Kept, RulesOut, ruled, numbers, lists, Left, left, lefts, left_is}
 use Rattle.octets.specs.Octets.{numeral, digits_of, laid, be, bytes_of, sum8, sum_of, sum_after}
 use Rattle.octets.specs.Papers.{written_paper, room_for, laid_if_room}
-use Rattle.octets.proofs.u8_at.Reads as u8-at
-use Rattle.octets.proofs.u8_at.Kinds as u8-at-kinds
-use Rattle.octets.proofs.u16_at.Reads as u16-at
-use Rattle.octets.proofs.u16_at.Kinds as u16-at-kinds
-use Rattle.octets.proofs.u32_at.Reads as u32-at
-use Rattle.octets.proofs.u32_at.Kinds as u32-at-kinds
-use Rattle.octets.proofs.u40_at.Reads as u40-at
-use Rattle.octets.proofs.u40_at.Kinds as u40-at-kinds
-use Rattle.octets.proofs.u64_at.Reads as u64-at
-use Rattle.octets.proofs.u64_at.Kinds as u64-at-kinds
+use Rattle.octets.proofs.U8Number.at.Reads as u8-at
+use Rattle.octets.proofs.U8Number.at.Kinds as u8-at-kinds
+use Rattle.octets.proofs.U16Number.at.Reads as u16-at
+use Rattle.octets.proofs.U16Number.at.Kinds as u16-at-kinds
+use Rattle.octets.proofs.U32Number.at.Reads as u32-at
+use Rattle.octets.proofs.U32Number.at.Kinds as u32-at-kinds
+use Rattle.octets.proofs.letters_at.Reads as letters-at
+use Rattle.octets.proofs.letters_at.Kinds as letters-at-kinds
+use Rattle.octets.proofs.U64Number.at.Reads as u64-at
+use Rattle.octets.proofs.U64Number.at.Kinds as u64-at-kinds
 use Rattle.octets.proofs.sum.Reads as sum
 use Rattle.octets.proofs.sum.Kinds as sum-kinds
 use Rattle.octets.proofs.sum_after.Reads as sum-after
@@ -65,16 +65,16 @@ pub u32_at_rules_out : RulesOut (Kept _ u32-at-kinds.ps u32-at-kinds.r u32-at.Po
 unfolding numeral
 u32_at_rules_out = ruled numbers (λ (i : List ℕ × ℕ). be 4 i.1 i.0) (λ c p. p) _ refl
 
-abbrev pub u40_at_wrong : List (Row (List ℕ × ℕ) ℕ)
-u40_at_wrong =
+abbrev pub letters_at_wrong : List (Row (List ℕ × ℕ) ℕ)
+letters_at_wrong =
     (bytes, 1) never 0x123456789A  -- the bytes in front, wherever they are asked for
     ∷ (bytes, 1) never 0x3456789A  -- the last letter left out
     ∷ (bytes, 1) only 0x3456789ABC
     ∷ []
 
-pub u40_at_rules_out : RulesOut (Kept _ u40-at-kinds.ps u40-at-kinds.r u40-at.Post) (λ c. (c.args.0.now, c.args.1.0)) (λ c. c.result) u40_at_wrong
+pub letters_at_rules_out : RulesOut (Kept _ letters-at-kinds.ps letters-at-kinds.r letters-at.Post) (λ c. (c.args.0.now, c.args.1.0)) (λ c. c.result) letters_at_wrong
 unfolding numeral
-u40_at_rules_out = ruled numbers (λ (i : List ℕ × ℕ). be 5 i.1 i.0) (λ c p. p) _ refl
+letters_at_rules_out = ruled numbers (λ (i : List ℕ × ℕ). be 5 i.1 i.0) (λ c p. p) _ refl
 
 abbrev pub u64_at_wrong : List (Row (List ℕ × ℕ) ℕ)
 u64_at_wrong =

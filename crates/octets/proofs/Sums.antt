@@ -1,10 +1,7 @@
 -- Laws of the sums.
-use Rattle.std.specs.Prelude.{◌≡◌, ℕ, suc, ◌+◌, ◌-◌, ◌%◌, ◌^◌, ◌<◌, ◌≤◌, min, List, [], ◌∷◌, ◌++◌, length, take, drop, replicate, slice_index, slice_range}
-use Rattle.std.proofs.Common.{sym, ap, ◌∙◌, append_assoc, ⊎_elim, add-one, zero-add, add_assoc, arith, length-drop, drop_of_length-le, take-suc, drop-cons, get_or-drop, length-take-le, take-add, drop-drop}
-use Rattle.std.proofs.Math.Nat.{add-mod}
+use Rattle.std.specs.Prelude.{◌≡◌, ℕ, suc, ◌+◌, ◌-◌, ◌%◌, ◌<◌, ◌≤◌, List, [], ◌∷◌, ◌++◌, length, take, drop, replicate, slice_index, slice_range}
+use Rattle.std.proofs.Common.{sym, ap, ◌∙◌, append_assoc, add-one, arith, length-drop, drop-cons, length-take-le, take-add, drop-drop}
 use Rattle.std.proofs.lemmas.List.{length-replicate}
-use Rattle.std.proofs.Math.Seq.{take-nil}
-use Rattle.terms.specs.Cases.{less}
 use Rattle.octets.specs.Octets.{sum_of, sum8, sum_after, laid}
 use Rattle.octets.specs.Overlays.{take_laid, mid_laid, drop_laid}
 use Rattle.octets.specs.Sums.{sum_of_append}

@@ -1,10 +1,10 @@
 -- A number's bytes turned round, by halves; and numbers laid by halves.
-use Rattle.std.specs.Prelude.{◌≡◌, ℕ, zero, suc, ◌+◌, ◌*◌, ◌/◌, ◌%◌, ◌^◌, ◌<◌, ◌≤◌, List, [], ◌∷◌, ◌++◌, length, set, refl}
-use Rattle.std.proofs.Common.{sym, ap, ◌∙◌, append_assoc, append-nil, add-suc, add-zero, zero-add, mul-one, mul_assoc, pow-suc, arith, lit<, length-set}
+use Rattle.std.specs.Prelude.{◌≡◌, ℕ, zero, suc, ◌+◌, ◌*◌, ◌/◌, ◌%◌, ◌^◌, ◌<◌, ◌≤◌, List, [], ◌∷◌, ◌++◌, length}
+use Rattle.std.proofs.Common.{sym, ap, ◌∙◌, append_assoc, append-nil, add-suc, add-zero, zero-add, mul-one, mul_assoc, pow-suc, arith}
 use Rattle.std.proofs.Math.Nat.{pow-zero}
 use Rattle.octets.specs.Octets.{digits_of, bytes_of, laid}
 use Rattle.octets.specs.Numerals.{length_digits}
-use Rattle.octets.specs.Overlays.{laid_append, laid_one, length_laid}
+use Rattle.octets.specs.Overlays.{laid_append}
 
 unfoldable pub turn2 : ℕ → ℕ
 turn2 v = v % 256 * 256 + v / 256

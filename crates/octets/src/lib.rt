@@ -3,19 +3,12 @@
 // written and the answer is 8.
 #![tactic(auto)]
 
-ghost use Rattle.std.specs.Prelude.{◌≡◌, ◌+◌, ◌-◌, ◌*◌, ◌/◌, ◌%◌, ◌^◌, ◌<◌, ◌≤◌, min, [], ◌∷◌, length, take, drop, replicate, nat_le, slice_index};
+ghost use Rattle.std.specs.Prelude.{ℕ, ◌≡◌, ◌+◌, ◌-◌, ◌*◌, ◌/◌, ◌%◌, ◌^◌, ◌<◌, ◌≤◌, min, [], ◌∷◌, length, take, drop, replicate, nat_le, slice_index};
 ghost use Rattle.octets.specs.Octets.{be, bytes_of, laid, sum8, sum_after};
 ghost use Rattle.octets.specs.Turns.{turn2, turn4, turn8};
 ghost use Rattle.octets.specs.Papers.{written_paper, room_for, laid_if_room};
 
 use terms::Refusal;
-
-// What a function that writes into a lent buffer returns: how many bytes it wrote, or why none.
-#[derive(Clone, Copy)]
-pub enum Written {
-    Bytes(usize),
-    Refused(Refusal),
-}
 
 fn wide(x: u8) -> u64
     ensures { (result ≡ x) × (result < 256) }
@@ -115,35 +108,76 @@ fn in8(s: &[u8], at: usize) -> u64
     wide32(in4(s, at)) * 4294967296 + wide32(in4(s, at + 4))
 }
 
-// The number in the one byte of s at a place; 0 past the end.
-pub fn u8_at(s: &[u8], at: usize) -> u8
-    ensures { result ≡ be 1 at s.now }
-{
-    if at < s.len() { s[at] } else { 0 }
+// A number that stands in bytes, high byte first.
+pub trait Number {
+    ghost width: { ℕ };
+
+    ghost value: { Self → ℕ };
+
+    // The number in the bytes of s from a place on; bytes past the end count as 0.
+    fn at(s: &[u8], at: usize) -> Self
+        ensures { value result ≡ be width at s.now };
 }
 
-// The number in two bytes from a place on, high byte first; bytes past the end count as 0.
-pub fn u16_at(s: &[u8], at: usize) -> u16
-    ensures { result ≡ be 2 at s.now }
-{
-    if has_room(s.len(), at, 2) {
-        return in2(s, at);
+impl Number for u8 {
+    ghost width = { 1 };
+
+    ghost value = { λ n. n };
+
+    fn at(s: &[u8], at: usize) -> u8
+        ensures { result ≡ be 1 at s.now }
+    {
+        if at < s.len() { s[at] } else { 0 }
     }
-    number_at(s, at, 2) as u16
 }
 
-// The same in four bytes.
-pub fn u32_at(s: &[u8], at: usize) -> u32
-    ensures { result ≡ be 4 at s.now }
-{
-    if has_room(s.len(), at, 4) {
-        return in4(s, at);
+impl Number for u16 {
+    ghost width = { 2 };
+
+    ghost value = { λ n. n };
+
+    fn at(s: &[u8], at: usize) -> u16
+        ensures { result ≡ be 2 at s.now }
+    {
+        if has_room(s.len(), at, 2) {
+            return in2(s, at);
+        }
+        number_at(s, at, 2) as u16
     }
-    number_at(s, at, 4) as u32
 }
 
-// The same in five bytes: the letters of an MDStreamID as one number.
-pub fn u40_at(s: &[u8], at: usize) -> u64
+impl Number for u32 {
+    ghost width = { 4 };
+
+    ghost value = { λ n. n };
+
+    fn at(s: &[u8], at: usize) -> u32
+        ensures { result ≡ be 4 at s.now }
+    {
+        if has_room(s.len(), at, 4) {
+            return in4(s, at);
+        }
+        number_at(s, at, 4) as u32
+    }
+}
+
+impl Number for u64 {
+    ghost width = { 8 };
+
+    ghost value = { λ n. n };
+
+    fn at(s: &[u8], at: usize) -> u64
+        ensures { result ≡ be 8 at s.now }
+    {
+        if has_room(s.len(), at, 8) {
+            return in8(s, at);
+        }
+        number_at(s, at, 8)
+    }
+}
+
+// The letters of an MDStreamID, five bytes, as one number; bytes past the end count as 0.
+pub fn letters_at(s: &[u8], at: usize) -> u64
     ensures { result ≡ be 5 at s.now }
 {
     if has_room(s.len(), at, 5) {
@@ -152,18 +186,8 @@ pub fn u40_at(s: &[u8], at: usize) -> u64
     number_at(s, at, 5)
 }
 
-// The same in eight bytes.
-pub fn u64_at(s: &[u8], at: usize) -> u64
-    ensures { result ≡ be 8 at s.now }
-{
-    if has_room(s.len(), at, 8) {
-        return in8(s, at);
-    }
-    number_at(s, at, 8)
-}
-
 // Whether a buffer of len bytes has n bytes from at on.
-fn has_room(len: usize, at: usize, n: usize) -> bool
+pub fn has_room(len: usize, at: usize, n: usize) -> bool
     ensures { result ≡ nat_le (at + n) len }
 {
     if len < n {
@@ -281,14 +305,14 @@ fn store(d: &mut [u8], at: usize, n: usize, v: u64)
 }
 
 // Writes the n lowest bytes of v over d from at on, high byte first.
-pub fn put(d: &mut [u8], at: usize, n: usize, v: u64) -> Written
+pub fn put(d: &mut [u8], at: usize, n: usize, v: u64) -> Result<usize, Refusal>
     ensures { (written_paper result ≡ room_for at n (length d.old)) × (d.new ≡ laid_if_room at (bytes_of n v) d.old) }
 {
     if !has_room(d.len(), at, n) {
-        return Written::Refused(Refusal::Room);
+        return Err(Refusal::Room);
     }
     store(d, at, n, v);
-    Written::Bytes(n)
+    Ok(n)
 }
 
 // Stores all of src from at on.
@@ -304,14 +328,14 @@ fn copy(d: &mut [u8], at: usize, src: &[u8])
 }
 
 // Writes all of src over d from at on.
-pub fn lay(d: &mut [u8], at: usize, src: &[u8]) -> Written
+pub fn lay(d: &mut [u8], at: usize, src: &[u8]) -> Result<usize, Refusal>
     ensures { (written_paper result ≡ room_for at (length src.now) (length d.old)) × (d.new ≡ laid_if_room at src.now d.old) }
 {
     if !has_room(d.len(), at, src.len()) {
-        return Written::Refused(Refusal::Room);
+        return Err(Refusal::Room);
     }
     copy(d, at, src);
-    Written::Bytes(src.len())
+    Ok(src.len())
 }
 
 // Fills a part with one byte.

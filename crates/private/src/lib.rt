@@ -6,8 +6,9 @@ ghost use Rattle.terms.specs.Paper.{pick};
 ghost use Rattle.private.specs.Private.{spaces, tail_of, span_at};
 ghost use Rattle.private.specs.Parts.{parts_spans, suited_spans, told_paper, span_answer};
 
+use octets::Number;
 use rules::{Kind, Layout};
-use terms::{Refusal, Verdict};
+use terms::Refusal;
 
 // A private part of a body: where it starts, how many bytes it has, and the byte that replaces
 // each of them.
@@ -71,7 +72,7 @@ fn comp_ids(n: usize) -> Parts
 fn layout_in(body: &[u8]) -> Layout
     ensures { result ≡ tail_of body.now }
 {
-    let named = rules::layout_of(octets::u40_at(body, 11), octets::u8_at(body, 28));
+    let named = rules::layout_of(octets::letters_at(body, 11), u8::at(body, 28));
     if rules::suits_tail(named, body.len()) {
         return named;
     }
@@ -151,7 +152,7 @@ pub fn private_span(msg_type: u32, body: &[u8], i: usize) -> Told
 {
     let kind = rules::kind_of(msg_type);
     match rules::measure(kind, body.len()) {
-        Verdict::Refused(why) => Told::Refused(why),
-        Verdict::Fine => Told::Part(span_at(parts_in(kind, body), i)),
+        Err(why) => Told::Refused(why),
+        Ok(()) => Told::Part(span_at(parts_in(kind, body), i)),
     }
 }

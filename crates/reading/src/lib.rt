@@ -5,13 +5,13 @@ ghost use Rattle.std.specs.Prelude.{◌≡◌, drop};
 ghost use Rattle.reading.specs.Seen.{blank, seen_of};
 
 use frame::Read;
-use terms::{ChannelNumber, Refusal, SessionNumber, TickNumber, Verdict};
+use terms::{ChannelNumber, Refusal, SessionNumber, TickNumber};
 
 // All that a reading tells the layers above, and nothing private. A refused reading shows why, and
 // else four spaces and zeros. size is the frame's length, 0 where none was read.
 #[derive(Clone, Copy)]
 pub struct Seen {
-    pub answer: Verdict,
+    pub answer: Result<(), Refusal>,
     pub msg_type: u32,
     pub seq: SessionNumber,
     pub channel: ChannelNumber,
@@ -26,7 +26,7 @@ pub fn blank(why: Refusal) -> Seen
     ensures { result ≡ blank why }
 {
     Seen {
-        answer: Verdict::Refused(why),
+        answer: Err(why),
         msg_type: 0x20202020,
         seq: SessionNumber::new(0),
         channel: ChannelNumber::new(0),
@@ -57,7 +57,7 @@ pub fn see(bytes: &[u8], at: usize) -> Seen
             let length = body_len as u32;
             let size = 28 + body_len;
             Seen {
-                answer: Verdict::Fine,
+                answer: Ok(()),
                 msg_type,
                 seq,
                 channel,

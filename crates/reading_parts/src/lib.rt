@@ -10,9 +10,10 @@ ghost use Rattle.frame_spec.specs.Frame.{body_length, body};
 ghost use Rattle.reading.specs.Seen.{seen_of, seen_number};
 ghost use Rattle.reading_parts.specs.Parts.{wanted_by, Gathers, Long, is_m102};
 
+use octets::Number;
 use reading::Seen;
 use rules::Kind;
-use terms::{Refusal, SessionNumber, Verdict};
+use terms::{Refusal, SessionNumber};
 
 // The lower of two numbers.
 fn lower(a: usize, b: usize) -> usize
@@ -46,7 +47,7 @@ fn waits(seen: Seen) -> bool
     ensures { result ≡ (seen_number seen == 1) }
 {
     let verdict = seen.answer;
-    verdict.number() == 1
+    terms::number_of(verdict) == 1
 }
 
 // Whether two parts of these lengths lack bytes of the frame that a part begins: of its header, or
@@ -68,7 +69,7 @@ fn wanted_by(begun: &[u8]) -> usize
     if begun.len() < 24 {
         return 24;
     }
-    28 + octets::u32_at(begun, 20) as usize
+    28 + u32::at(begun, 20) as usize
 }
 
 // The sum of the first n bytes of both parts, in one byte that rolls over.
@@ -86,7 +87,7 @@ fn stored_at(first: &[u8], second: &[u8], at: usize) -> u32
 {
     let mut four: [u8; 4] = [0; 4];
     gather_from(first, second, at, &mut four);
-    octets::u32_at(&four, 0)
+    u32::at(&four, 0)
 }
 
 // Whether the entry of w bytes at a place keeps its widths. It is lent where it stands, unless it
@@ -132,8 +133,8 @@ fn m102_ok(front: &[u8], first: &[u8], second: &[u8], len: usize) -> bool
     requires { Long front.now (first.now ++ second.now) × (len ≡ body_length (first.now ++ second.now)) }
     ensures { result ≡ m102_ok (body (first.now ++ second.now)) }
 {
-    let n = octets::u16_at(front, 95) as usize;
-    let w = rules::entry_size(octets::u40_at(front, 34));
+    let n = u16::at(front, 95) as usize;
+    let w = rules::entry_size(octets::letters_at(front, 34));
     if len != 73 + n * w {
         return false;
     }
@@ -176,7 +177,7 @@ fn see_long(front: &[u8], first: &[u8], second: &[u8]) -> Seen
     requires { Long front.now (first.now ++ second.now) }
     ensures { result ≡ seen_of (first.now ++ second.now) }
 {
-    let len = octets::u32_at(front, 20);
+    let len = u32::at(front, 20);
     let n = len as usize;
     let end = 24 + n;
     let stored = stored_at(first, second, end);
@@ -184,20 +185,20 @@ fn see_long(front: &[u8], first: &[u8], second: &[u8]) -> Seen
     if stored != v as u32 {
         return reading::blank(Refusal::Sum);
     }
-    if !calendar::is_real(octets::u64_at(front, 4)) {
+    if !calendar::is_real(u64::at(front, 4)) {
         return reading::blank(Refusal::Time);
     }
-    let msg_type = octets::u32_at(front, 0);
+    let msg_type = u32::at(front, 0);
     let kind = rules::kind_of(msg_type);
     if !fields_ok(kind, front, first, second, n) {
         return reading::blank(Refusal::Field);
     }
-    let seq = SessionNumber::new(octets::u64_at(front, 12));
+    let seq = SessionNumber::new(u64::at(front, 12));
     let view = frame_view::view_of(kind, &front[24..]);
     let channel = view.channel;
     let tick = view.tick;
     Seen {
-        answer: Verdict::Fine,
+        answer: Ok(()),
         msg_type,
         seq,
         channel,

@@ -8,7 +8,7 @@ ghost use Rattle.octets.specs.Papers.{written_paper, room_for, laid_if_room};
 ghost use Rattle.record.specs.Record.{record_of, record_at};
 ghost use Rattle.record.specs.Stored.{Stored};
 
-use octets::Written;
+use octets::Number;
 use terms::{ChannelNumber, SessionNumber, TickNumber};
 
 // One reading, as support sees it. msg_type is four spaces where the reading was refused.
@@ -44,7 +44,7 @@ fn store(d: &mut [u8], r: Record)
 }
 
 // Writes the record's 64 bytes over out from at on.
-pub fn put(out: &mut [u8], at: usize, r: Record) -> Written
+pub fn put(out: &mut [u8], at: usize, r: Record) -> Result<usize, Refusal>
     ensures { (written_paper result ≡ room_for at 64 (length out.old)) × (out.new ≡ laid_if_room at (record_of r) out.old) }
 {
     let mut d: [u8; 64] = [0; 64];
@@ -57,15 +57,15 @@ fn front(s: &[u8]) -> Record
     ensures { result ≡ record_at 0 s.now }
 {
     Record {
-        place: octets::u64_at(s, 0),
-        msg_type: octets::u32_at(s, 8),
-        answer: octets::u32_at(s, 12),
-        seq: SessionNumber::new(octets::u64_at(s, 16)),
-        tick: TickNumber::new(octets::u64_at(s, 24)),
-        channel: ChannelNumber::new(octets::u16_at(s, 32)),
-        body_len: octets::u32_at(s, 36),
-        floor: TickNumber::new(octets::u64_at(s, 40)),
-        top: TickNumber::new(octets::u64_at(s, 48)),
+        place: u64::at(s, 0),
+        msg_type: u32::at(s, 8),
+        answer: u32::at(s, 12),
+        seq: SessionNumber::new(u64::at(s, 16)),
+        tick: TickNumber::new(u64::at(s, 24)),
+        channel: ChannelNumber::new(u16::at(s, 32)),
+        body_len: u32::at(s, 36),
+        floor: TickNumber::new(u64::at(s, 40)),
+        top: TickNumber::new(u64::at(s, 48)),
     }
 }
 

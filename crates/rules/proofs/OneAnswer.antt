@@ -3,8 +3,8 @@ use mathlib.Core.Path.{sym, ◌∙◌}
 use Rattle.terms.specs.OneAnswer.{OneAnswer}
 use Rattle.rules.specs.Table.{kind_one}
 use Rattle.terms.proofs.Verdicts.{verdict_one}
-use Rattle.rules.proofs.kind_of.Reads as kind-of
-use Rattle.rules.proofs.kind_of.Kinds as kind-of-kinds
+use Rattle.rules.proofs.KindFromU32.from.Reads as kind-of
+use Rattle.rules.proofs.KindFromU32.from.Kinds as kind-of-kinds
 use Rattle.rules.proofs.is_known.Reads as is_Known
 use Rattle.rules.proofs.is_known.Kinds as is-known-kinds
 use Rattle.rules.proofs.measure.Reads as measure

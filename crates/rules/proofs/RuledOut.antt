@@ -13,8 +13,8 @@ use Rattle.rules.specs.declared.Layout.TheVariants.{Order, Trade, Other}
 use Rattle.rules.specs.Fields.{layout_of, suits_tail, s001_ok, p001_ok, p002_ok, tail_ok, m201_ok, m102_values_ok, m102_fixed_ok, entry_size, entry_ok, entries_ok, m102_ok, fields_ok, judge_of}
 use Rattle.rules.specs.Table.{kind_paper, kind_of, type_of, known, suits, measure_of}
 use Rattle.terms.specs.Verdicts.{verdict_number}
-use Rattle.rules.proofs.kind_of.Reads as kind-of
-use Rattle.rules.proofs.kind_of.Kinds as kind-of-kinds
+use Rattle.rules.proofs.KindFromU32.from.Reads as kind-of
+use Rattle.rules.proofs.KindFromU32.from.Kinds as kind-of-kinds
 use Rattle.rules.proofs.is_known.Reads as is_Known
 use Rattle.rules.proofs.is_known.Kinds as is-known-kinds
 use Rattle.rules.proofs.measure.Reads as measure

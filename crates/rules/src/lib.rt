@@ -8,10 +8,11 @@ ghost use Rattle.terms.specs.Verdicts.{verdict_number};
 ghost use Rattle.rules.specs.Fields.{layout_of, suits_tail, s001_ok, s002_ok, p001_ok, p002_ok, tail_ok, m201_ok, pair_ok, m102_values_ok, m102_fixed_ok, entry_size, entry_ok, entries_ok, m102_ok, fields_ok, judge_of};
 ghost use Rattle.rules.specs.Sizes.{Entries};
 
-use terms::{Refusal, Verdict};
+use octets::Number;
+use terms::Refusal;
 
 // The types of the table, under their MsgType, and one case for every other MsgType.
-#[derive(Clone, Copy)]
+#[derive(Clone, Copy, Debug, PartialEq, Eq)]
 pub enum Kind {
     S001,
     S002,
@@ -25,7 +26,7 @@ pub enum Kind {
 }
 
 // How the extension of an M201 is laid out: as an order, as a trade, or as no table tells.
-#[derive(Clone, Copy)]
+#[derive(Clone, Copy, Debug, PartialEq, Eq)]
 pub enum Layout {
     Order,
     Trade,
@@ -34,22 +35,24 @@ pub enum Layout {
 
 // The type whose four letters a number holds, high byte first. The third letter of each is 0: in
 // noise that one test mostly tells.
-pub fn kind_of(t: u32) -> Kind
-    ensures { kind_paper result ≡ type_of t }
-{
-    if t / 256 % 256 != 0x30 {
-        return Kind::Unknown;
-    }
-    match t {
-        0x53303031 => Kind::S001,
-        0x53303032 => Kind::S002,
-        0x53303033 => Kind::S003,
-        0x50303031 => Kind::P001,
-        0x50303032 => Kind::P002,
-        0x4D313031 => Kind::M101,
-        0x4D313032 => Kind::M102,
-        0x4D323031 => Kind::M201,
-        _ => Kind::Unknown,
+impl From<u32> for Kind {
+    ghost from_gives = { λ letters kind. kind_paper kind ≡ type_of letters };
+
+    fn from(letters: u32) -> Kind {
+        if letters / 256 % 256 != 0x30 {
+            return Kind::Unknown;
+        }
+        match letters {
+            0x53303031 => Kind::S001,
+            0x53303032 => Kind::S002,
+            0x53303033 => Kind::S003,
+            0x50303031 => Kind::P001,
+            0x50303032 => Kind::P002,
+            0x4D313031 => Kind::M101,
+            0x4D313032 => Kind::M102,
+            0x4D323031 => Kind::M201,
+            _ => Kind::Unknown,
+        }
     }
 }
 
@@ -57,17 +60,7 @@ pub fn kind_of(t: u32) -> Kind
 pub fn is_known(kind: Kind) -> bool
     ensures { result ≡ known kind }
 {
-    match kind {
-        Kind::S001 => true,
-        Kind::S002 => true,
-        Kind::S003 => true,
-        Kind::P001 => true,
-        Kind::P002 => true,
-        Kind::M101 => true,
-        Kind::M102 => true,
-        Kind::M201 => true,
-        Kind::Unknown => false,
-    }
+    kind != Kind::Unknown
 }
 
 // Whether a body of n bytes suits the type.
@@ -88,19 +81,19 @@ fn suits_length(kind: Kind, n: usize) -> bool
 }
 
 // The checks 2, 3 and 4, in this order, of a body of n bytes.
-pub fn measure(kind: Kind, n: usize) -> Verdict
+pub fn measure(kind: Kind, n: usize) -> Result<(), Refusal>
     ensures { verdict_number result ≡ measure_of kind n }
 {
     if !is_known(kind) {
-        return Verdict::Refused(Refusal::MsgType);
+        return Err(Refusal::MsgType);
     }
     if 8164 < n {
-        return Verdict::Refused(Refusal::Long);
+        return Err(Refusal::Long);
     }
     if !suits_length(kind, n) {
-        return Verdict::Refused(Refusal::Length);
+        return Err(Refusal::Length);
     }
-    Verdict::Fine
+    Ok(())
 }
 
 // The layout of an M201's extension, by its stream, the five letters as a number, and its ExecType:
@@ -132,24 +125,24 @@ pub fn suits_tail(layout: Layout, n: usize) -> bool
 fn s001_ok(b: &[u8]) -> bool
     ensures { result ≡ s001_ok b.now }
 {
-    let heart_bt_int = octets::u16_at(b, 64);
+    let heart_bt_int = u16::at(b, 64);
     0 < heart_bt_int
 }
 
 fn s002_ok(b: &[u8]) -> bool
     ensures { result ≡ s002_ok b.now }
 {
-    let session_status = octets::u32_at(b, 0);
+    let session_status = u32::at(b, 0);
     session_status <= 9999
 }
 
 fn p001_ok(b: &[u8]) -> bool
     ensures { result ≡ p001_ok b.now }
 {
-    let security_type = octets::u8_at(b, 0);
-    let channel_no = octets::u16_at(b, 1);
-    let appl_last_seq_num = octets::u64_at(b, 3);
-    let end_of_channel = octets::u8_at(b, 11);
+    let security_type = u8::at(b, 0);
+    let channel_no = u16::at(b, 1);
+    let appl_last_seq_num = u64::at(b, 3);
+    let end_of_channel = u8::at(b, 11);
     (security_type == 13)
         & (channel_no < 10000)
         & (appl_last_seq_num < 1000000000000000000)
@@ -170,11 +163,11 @@ fn p001_kept(b: &[u8]) -> bool
 fn p002_ok(b: &[u8]) -> bool
     ensures { result ≡ p002_ok b.now }
 {
-    let channel_no = octets::u16_at(b, 0);
-    let resend_type = octets::u8_at(b, 2);
-    let first = octets::u64_at(b, 3);
-    let last = octets::u64_at(b, 11);
-    let status = octets::u8_at(b, 19);
+    let channel_no = u16::at(b, 0);
+    let resend_type = u8::at(b, 2);
+    let first = u64::at(b, 3);
+    let last = u64::at(b, 11);
+    let status = u8::at(b, 19);
     (channel_no < 10000)
         & (resend_type == 1)
         & (0 < first)
@@ -197,20 +190,20 @@ fn p002_kept(b: &[u8]) -> bool
 fn tail_ok(b: &[u8]) -> bool
     ensures { result ≡ tail_ok b.now }
 {
-    let layout = layout_of(octets::u40_at(b, 11), octets::u8_at(b, 28));
+    let layout = layout_of(octets::letters_at(b, 11), u8::at(b, 28));
     suits_tail(layout, b.len())
 }
 
 fn m201_ok(b: &[u8]) -> bool
     ensures { result ≡ m201_ok b.now }
 {
-    let security_type = octets::u8_at(b, 0);
-    let channel_no = octets::u16_at(b, 1);
-    let appl_seq_num = octets::u64_at(b, 3);
-    let transact_time = octets::u32_at(b, 24);
-    let exec_type = octets::u8_at(b, 28);
-    let price = octets::u64_at(b, 29);
-    let order_qty = octets::u64_at(b, 37);
+    let security_type = u8::at(b, 0);
+    let channel_no = u16::at(b, 1);
+    let appl_seq_num = u64::at(b, 3);
+    let transact_time = u32::at(b, 24);
+    let exec_type = u8::at(b, 28);
+    let price = u64::at(b, 29);
+    let order_qty = u64::at(b, 37);
     let tail = tail_ok(b);
     (security_type == 13)
         & (channel_no < 10000)
@@ -248,13 +241,13 @@ fn pair_ok(t: u8, s: u64) -> bool
 fn m102_values_ok(b: &[u8]) -> bool
     ensures { result ≡ m102_values_ok b.now }
 {
-    let trad_ses_mode = octets::u8_at(b, 1);
-    let trade_date = octets::u32_at(b, 2);
-    let last_update_time = octets::u32_at(b, 6);
-    let pre_close_px = octets::u64_at(b, 31);
-    let total_volume_traded = octets::u64_at(b, 39);
-    let num_trades = octets::u64_at(b, 47);
-    let total_value_traded = octets::u64_at(b, 55);
+    let trad_ses_mode = u8::at(b, 1);
+    let trade_date = u32::at(b, 2);
+    let last_update_time = u32::at(b, 6);
+    let pre_close_px = u64::at(b, 31);
+    let total_volume_traded = u64::at(b, 39);
+    let num_trades = u64::at(b, 47);
+    let total_value_traded = u64::at(b, 55);
     (1 <= trad_ses_mode)
         & (trad_ses_mode <= 3)
         & (trade_date < 100000000)
@@ -271,7 +264,7 @@ fn m102_values_ok(b: &[u8]) -> bool
 pub fn m102_fixed_ok(b: &[u8]) -> bool
     ensures { result ≡ m102_fixed_ok b.now }
 {
-    let pair = pair_ok(octets::u8_at(b, 0), octets::u40_at(b, 10));
+    let pair = pair_ok(u8::at(b, 0), octets::letters_at(b, 10));
     let values = m102_values_ok(b);
     pair & values
 }
@@ -288,9 +281,9 @@ pub fn entry_size(s: u64) -> usize
 pub fn entry_ok(e: &[u8], w: usize) -> bool
     ensures { result ≡ entry_ok w 0 e.now }
 {
-    let price = octets::u64_at(e, 2);
-    let size = octets::u64_at(e, 10);
-    let position = octets::u8_at(e, 18);
+    let price = u64::at(e, 2);
+    let size = u64::at(e, 10);
+    let position = u8::at(e, 18);
     (price < 10000000000000) & ((w == 10) | ((size < 1000000000000) & (position < 100)))
 }
 
@@ -322,8 +315,8 @@ fn m102_ok(b: &[u8]) -> bool
     if b.len() < 73 {
         return false;
     }
-    let stream = octets::u40_at(b, 10);
-    let n = octets::u16_at(b, 71) as usize;
+    let stream = octets::letters_at(b, 10);
+    let n = u16::at(b, 71) as usize;
     let w = entry_size(stream);
     if b.len() != 73 + n * w {
         return false;
@@ -355,14 +348,14 @@ pub fn fields_ok(kind: Kind, b: &[u8]) -> bool
 }
 
 // The checks after the checksum, in this order: 7, the time; 6, the field rules.
-pub fn judge(kind: Kind, sending_time: u64, body: &[u8]) -> Verdict
+pub fn judge(kind: Kind, sending_time: u64, body: &[u8]) -> Result<(), Refusal>
     ensures { verdict_number result ≡ judge_of kind sending_time body.now }
 {
     if !calendar::is_real(sending_time) {
-        return Verdict::Refused(Refusal::Time);
+        return Err(Refusal::Time);
     }
     if !fields_ok(kind, body) {
-        return Verdict::Refused(Refusal::Field);
+        return Err(Refusal::Field);
     }
-    Verdict::Fine
+    Ok(())
 }

@@ -13,7 +13,7 @@ ghost use Rattle.rules.specs.Table.{suits, kind_of};
 ghost use Rattle.frame_spec.specs.Frame.{msg_type, body_length, read_of};
 
 use frame::Read;
-use octets::Written;
+use octets::Number;
 use private::{Parts, Span};
 use rules::Kind;
 
@@ -85,11 +85,11 @@ fn repaint(buf: &mut [u8], kind: Kind, n: usize, v: u8)
 // refusal of reading is passed on, and the buffer keeps its bytes; so do the bytes after the frame.
 // Reading has found CheckSum right, so the new one is worked out of its last byte: after reading
 // only that byte and the private ones are loaded, and only these are stored.
-pub fn scrub(buf: &mut [u8]) -> Written
+pub fn scrub(buf: &mut [u8]) -> Result<usize, Refusal>
     ensures { (written_paper result ≡ scrub_answer buf.old) × (buf.new ≡ scrubbed buf.old) }
 {
     match frame::read_at(buf, 0) {
-        Read::Refused(why) => Written::Refused(why),
+        Read::Refused(why) => Err(why),
         Read::Frame {
             msg_type,
             sending_time: _,
@@ -97,9 +97,9 @@ pub fn scrub(buf: &mut [u8]) -> Written
             body_len,
         } => {
             let kind = rules::kind_of(msg_type);
-            let v = octets::u8_at(buf, 27 + body_len);
+            let v = u8::at(buf, 27 + body_len);
             repaint(buf, kind, body_len, v);
-            Written::Bytes(28 + body_len)
+            Ok(28 + body_len)
         }
     }
 }
@@ -115,19 +115,19 @@ fn repaint_part(out: &mut [u8], a: usize, e: usize, kind: Kind, n: usize, v: u8)
 
 // Writes the frame that was read at a place of bytes, with that type and body length, over out from
 // `to` on, scrubbed; or returns 8.
-fn lay_scrubbed(bytes: &[u8], at: usize, out: &mut [u8], to: usize, kind: Kind, n: usize) -> Written
+fn lay_scrubbed(bytes: &[u8], at: usize, out: &mut [u8], to: usize, kind: Kind, n: usize) -> Result<usize, Refusal>
     requires { ((read_of (drop at bytes.now)).number ≡ 0) × ((kind ≡ kind_of (msg_type (drop at bytes.now))) × (n ≡ body_length (drop at bytes.now))) }
     ensures { (written_paper result ≡ into_answer (drop at bytes.now) to (length out.old))
         × (out.new ≡ into_leaves (drop at bytes.now) to out.old) }
 {
     let end = at + 28 + n;
     match octets::lay(out, to, &bytes[at..end]) {
-        Written::Refused(why) => Written::Refused(why),
-        Written::Bytes(size) => {
-            let v = octets::u8_at(bytes, end - 1);
+        Err(why) => Err(why),
+        Ok(size) => {
+            let v = u8::at(bytes, end - 1);
             let behind = to + size;
             repaint_part(out, to, behind, kind, n, v);
-            Written::Bytes(size)
+            Ok(size)
         }
     }
 }
@@ -135,12 +135,12 @@ fn lay_scrubbed(bytes: &[u8], at: usize, out: &mut [u8], to: usize, kind: Kind, 
 // Reads the frame at a place and writes it over out from `to` on, scrubbed; returns how many bytes
 // it has. A refusal of reading is passed on, and 8 is given where out has no room for it; then out
 // keeps its bytes. So do its bytes beside the frame.
-pub fn scrub_into(bytes: &[u8], at: usize, out: &mut [u8], to: usize) -> Written
+pub fn scrub_into(bytes: &[u8], at: usize, out: &mut [u8], to: usize) -> Result<usize, Refusal>
     ensures { (written_paper result ≡ into_answer (drop at bytes.now) to (length out.old))
         × (out.new ≡ into_leaves (drop at bytes.now) to out.old) }
 {
     match frame::read_at(bytes, at) {
-        Read::Refused(why) => Written::Refused(why),
+        Read::Refused(why) => Err(why),
         Read::Frame {
             msg_type,
             sending_time: _,

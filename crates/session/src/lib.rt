@@ -14,8 +14,9 @@ ghost use Rattle.session.specs.Taken.{is_other, takes, taken_line};
 ghost use Rattle.session.specs.Arrivals.{by_kind, heart_bt_int, event_in, length_in};
 
 use frame::Read;
+use octets::Number;
 use rules::Kind as Row;
-use terms::{Refusal, SessionNumber, Verdict};
+use terms::{Refusal, SessionNumber};
 
 #[derive(Clone, Copy)]
 pub enum State {
@@ -82,7 +83,7 @@ pub struct Session {
 #[derive(Clone, Copy)]
 pub struct Turn {
     pub next: Session,
-    pub answer: Verdict,
+    pub answer: Result<(), Refusal>,
     pub kind: Kind,
     // The number of what is to be sent; 0 beside nothing.
     pub number: SessionNumber,
@@ -359,15 +360,15 @@ fn interval_after(event: Event, was: u64) -> u64
 }
 
 impl Cell {
-    fn verdict(self) -> Verdict
+    fn verdict(self) -> Result<(), Refusal>
         ensures { verdict_number result ≡ number_in (table_cell self) }
     {
         match self {
-            Cell::Refuse(why) => Verdict::Refused(why),
-            Cell::Does(_, _) => Verdict::Fine,
-            Cell::Beats => Verdict::Fine,
-            Cell::Watches => Verdict::Fine,
-            Cell::Dies => Verdict::Fine,
+            Cell::Refuse(why) => Err(why),
+            Cell::Does(_, _) => Ok(()),
+            Cell::Beats => Ok(()),
+            Cell::Watches => Ok(()),
+            Cell::Dies => Ok(()),
         }
     }
 
@@ -409,10 +410,10 @@ impl Cell {
 }
 
 // Whether this is 30.
-fn is_early(verdict: Verdict) -> bool
+fn is_early(verdict: Result<(), Refusal>) -> bool
     ensures { result ≡ eqb (verdict_number verdict) 30 }
 {
-    verdict.number() == 30
+    terms::number_of(verdict) == 30
 }
 
 impl Session {
@@ -508,18 +509,18 @@ impl Session {
     }
 
     // 30, 31, 32, 33 in this order. Reading's own number stands in the cell, and is none of them.
-    fn verdict(self, clock: u64, event: Event, cell: Cell) -> Verdict
+    fn verdict(self, clock: u64, event: Event, cell: Cell) -> Result<(), Refusal>
         ensures { verdict_number result ≡ own_number (line_of self) clock (event_of event) (table_cell cell) }
     {
         let own = cell.verdict();
         if is_early(own) {
-            return Verdict::Refused(Refusal::Early);
+            return Err(Refusal::Early);
         }
         if self.misnumbered(event) {
-            return Verdict::Refused(Refusal::Sequence);
+            return Err(Refusal::Sequence);
         }
         if self.ended(clock, event, cell.kind()) {
-            return Verdict::Refused(Refusal::Over);
+            return Err(Refusal::Over);
         }
         own
     }
@@ -566,7 +567,7 @@ impl Session {
     {
         Turn {
             next: self,
-            answer: Verdict::Refused(why),
+            answer: Err(why),
             kind: Kind::Nothing,
             number: SessionNumber::new(0),
             dead: false,
@@ -585,7 +586,7 @@ impl Session {
         let next = self.done(clock, event, cell);
         Turn {
             next,
-            answer: Verdict::Fine,
+            answer: Ok(()),
             kind,
             number,
             dead,
@@ -623,7 +624,7 @@ impl Session {
         };
         Turn {
             next,
-            answer: Verdict::Fine,
+            answer: Ok(()),
             kind: Kind::Nothing,
             number: SessionNumber::new(0),
             dead: false,
@@ -644,13 +645,13 @@ impl Session {
         let cell = self.cell(clock, event);
         let verdict = self.verdict(clock, event, cell);
         match verdict {
-            Verdict::Fine => self.moved(clock, event, cell),
-            Verdict::Refused(why) => self.refuse(why),
+            Ok(()) => self.moved(clock, event, cell),
+            Err(why) => self.refuse(why),
         }
     }
 
     // What sending would be answered now; nothing is sent, and nothing moves.
-    pub fn may_send(self, now: u64) -> Verdict
+    pub fn may_send(self, now: u64) -> Result<(), Refusal>
         ensures { verdict_number result ≡ (answer_to (line_of self) now Ask).number }
     {
         let turn = self.turn(now, Event::Ask);
@@ -662,7 +663,7 @@ impl Session {
 fn fault_of(why: Refusal) -> Fault
     ensures { fault_of result ≡ fault_numbered (number_of why) }
 {
-    let n = why.number();
+    let n = u32::from(why);
     if n == 1 {
         return Fault::More;
     }
@@ -690,7 +691,7 @@ fn by_kind(kind: Row, number: SessionNumber, bytes: &[u8]) -> Event
 {
     match kind {
         Row::S001 => {
-            let heart = octets::u16_at(bytes, 24 + 64);
+            let heart = u16::at(bytes, 24 + 64);
             Event::Logon { number, heart }
         }
         Row::S002 => Event::Logout(number),

@@ -14,7 +14,6 @@ ghost use Rattle.octets.specs.Octets.{laid};
 ghost use Rattle.digits.specs.Digits.{width_of};
 ghost use Rattle.terms.specs.Checks.{or_else};
 
-use digits::Decimal;
 
 // Why a frame or a message is refused. The numbers are those of document 02.
 #[derive(Clone, Copy)]
@@ -116,8 +115,8 @@ pub fn field_at(fields: &[u8], place: usize) -> Field
         return Field::NoField;
     }
     match digits::decimal_at(fields, place, mark - place) {
-        Decimal::NoNumber => Field::NoField,
-        Decimal::Number(tag) => Field::At {
+        None => Field::NoField,
+        Some(tag) => Field::At {
             tag,
             value: mark + 1,
             len: end - mark - 1,
@@ -348,8 +347,8 @@ fn length_at(bytes: &[u8], at: usize) -> Head
         return Head::Refused(StepRefusal::Length);
     }
     match digits::decimal_at(bytes, from, k) {
-        Decimal::NoNumber => Head::Refused(StepRefusal::Length),
-        Decimal::Number(n) => measured(bytes, at, 14 + k, n),
+        None => Head::Refused(StepRefusal::Length),
+        Some(n) => measured(bytes, at, 14 + k, n),
     }
 }
 

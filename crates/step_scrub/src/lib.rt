@@ -10,7 +10,6 @@ ghost use Rattle.step_frame.specs.Papers.{step_written_paper};
 ghost use Rattle.step_scrub.specs.Moved.{sum_moved};
 ghost use Rattle.step_scrub.specs.Scrubbed.{is_private, painted, all_fields, step_scrub_of, step_scrub_left};
 
-use digits::Decimal;
 use step_frame::{Field, Read, StepWritten};
 
 // Whether the value of a tag is private.
@@ -75,8 +74,8 @@ fn old_sum(buf: &[u8], n: usize) -> u8
     ensures { result ≡ sum8 (take n buf.now) }
 {
     match digits::digits_at(buf, n + 3, 3) {
-        Decimal::Number(x) => x as u8,
-        Decimal::NoNumber => 0,
+        Some(x) => x as u8,
+        None => 0,
     }
 }
 

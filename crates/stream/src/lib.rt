@@ -17,7 +17,7 @@ ghost use Rattle.stream.specs.Pushed.{PushedIs};
 use ledger::{Answer, Ledger};
 use reading::Seen;
 use stream_spec::Tally;
-use terms::{Refusal, Verdict};
+use terms::Refusal;
 
 // What stands between two calls but for the bytes that wait: those stand at the front of a store of
 // 8,191 bytes, which is lent to each call. The fields are those of a stream.
@@ -33,7 +33,7 @@ pub struct Standing {
 // How many records a call gave, 0 beside a refusal; and how the stream stands after it.
 #[derive(Clone, Copy)]
 pub struct Answered {
-    pub answer: Verdict,
+    pub answer: Result<(), Refusal>,
     pub records: usize,
     pub next: Standing,
 }
@@ -73,7 +73,7 @@ fn stride(seen: Seen) -> usize
     ensures { result ≡ stride_of seen }
 {
     let verdict = seen.answer;
-    if verdict.number() == 0 { seen.size } else { 1 }
+    if terms::number_of(verdict) == 0 { seen.size } else { 1 }
 }
 
 // One reading more, and the ledger after it.
@@ -127,7 +127,7 @@ fn run(
     while p < end {
         let seen = see_at(a, b, p);
         let verdict = seen.answer;
-        let answer = verdict.number();
+        let answer = terms::number_of(verdict);
         if waits(closing, answer) {
             break;
         }
@@ -349,23 +349,23 @@ fn sound(st: Standing, kept: &[u8]) -> bool
     }
     let seen = reading::see(&kept[..n], 0);
     let verdict = seen.answer;
-    verdict.number() == 1
+    terms::number_of(verdict) == 1
 }
 
 // What goes before the room of a call that brings so many bytes: 13, 19, 29, or nothing.
-pub fn may_take(st: Standing, kept: &[u8; 8191], more: usize) -> Verdict
+pub fn may_take(st: Standing, kept: &[u8; 8191], more: usize) -> Result<(), Refusal>
     ensures { verdict_number result ≡ may_take (whole st kept.now) more }
 {
     if !sound(st, kept) {
-        return Verdict::Refused(Refusal::State);
+        return Err(Refusal::State);
     }
     if st.closed {
-        return Verdict::Refused(Refusal::Closed);
+        return Err(Refusal::Closed);
     }
     if !fits(st.place, st.len, more) {
-        return Verdict::Refused(Refusal::Places);
+        return Err(Refusal::Places);
     }
-    Verdict::Fine
+    Ok(())
 }
 
 // A refusal: the stream as it was.
@@ -373,7 +373,7 @@ fn refused(st: Standing, why: Refusal) -> Answered
     ensures { (kept : List ℕ) → fed_of result kept ≡ refused_by (whole st kept) why }
 {
     Answered {
-        answer: Verdict::Refused(why),
+        answer: Err(why),
         records: 0,
         next: st,
     }
@@ -424,7 +424,7 @@ fn call(st: Standing, kept: &mut [u8], cut: &[u8], closing: bool, records: &mut 
     let done = drawn(st, kept, cut, closing, records);
     let next = done.next;
     Answered {
-        answer: Verdict::Fine,
+        answer: Ok(()),
         records: done.count,
         next,
     }

@@ -19,15 +19,15 @@ ghost use Rattle.stream_clean_spec.specs.Calls.{washed_for, answer_for, next_for
 ghost use Rattle.stream_clean.specs.Taken.{TakenIs, stride_by};
 ghost use Rattle.stream_clean.specs.Cleaned.{washed_of};
 
-use octets::Written;
+use octets::Number;
 use stream::Standing;
 use stream_clean_spec::Sums;
-use terms::{Refusal, Verdict};
+use terms::Refusal;
 
 // What a call wrote, all 0 beside a refusal; and how the stream stands after it.
 #[derive(Clone, Copy)]
 pub struct Cleaned {
-    pub answer: Verdict,
+    pub answer: Result<(), Refusal>,
     pub sums: Sums,
     pub next: Standing,
 }
@@ -62,16 +62,16 @@ fn take_here(w: &[u8], p: usize, out: &mut [u8], n: usize) -> Taken
     ensures { TakenIs (drop p w.now) n out.old out.new result }
 {
     match scrub::scrub_into(w, p, out, n) {
-        Written::Bytes(size) => Taken {
+        Ok(size) => Taken {
             answer: 0,
             size,
-            unjudged: unjudged(octets::u32_at(w, p)),
+            unjudged: unjudged(u32::at(w, p)),
         },
-        Written::Refused(_) => {
+        Err(_) => {
             let seen = reading::see(w, p);
             let verdict = seen.answer;
             Taken {
-                answer: verdict.number(),
+                answer: terms::number_of(verdict),
                 size: seen.size,
                 unjudged: unjudged(seen.msg_type),
             }
@@ -130,7 +130,7 @@ fn take_across(a: &[u8], b: &[u8], out: &mut [u8], n: usize) -> Taken
     let verdict = seen.answer;
     lay_across(a, b, seen.size, out, n);
     Taken {
-        answer: verdict.number(),
+        answer: terms::number_of(verdict),
         size: seen.size,
         unjudged: unjudged(seen.msg_type),
     }
@@ -261,7 +261,7 @@ fn refused(st: Standing, why: Refusal) -> Cleaned
         unjudged: 0,
     };
     Cleaned {
-        answer: Verdict::Refused(why),
+        answer: Err(why),
         sums,
         next: st,
     }
@@ -291,7 +291,7 @@ fn drawn(st: Standing, kept: &mut [u8], cut: &[u8], closing: bool, out: &mut [u8
         tally,
     };
     Cleaned {
-        answer: Verdict::Fine,
+        answer: Ok(()),
         sums,
         next,
     }
@@ -304,8 +304,8 @@ fn call(st: Standing, kept: &mut [u8; 8191], cut: &[u8], closing: bool, out: &mu
         × (out.new ≡ leaves_for (whole st kept.old) closing cut.now out.old)) }
 {
     match stream::may_take(st, kept, cut.len()) {
-        Verdict::Refused(why) => refused(st, why),
-        Verdict::Fine => drawn(st, kept, cut, closing, out),
+        Err(why) => refused(st, why),
+        Ok(()) => drawn(st, kept, cut, closing, out),
     }
 }
 

@@ -3,7 +3,7 @@
 #![tactic(auto)]
 
 use stream_spec::Stream;
-use terms::Verdict;
+use terms::Refusal;
 
 // What was written: how many bytes, and how many frames they are; how many of these the search
 // found after damage; and how many have a body that no rule judges (M101).
@@ -19,7 +19,7 @@ pub struct Sums {
 // the very one that was passed in beside a refusal.
 #[derive(Clone, Copy)]
 pub struct Washed {
-    pub answer: Verdict,
+    pub answer: Result<(), Refusal>,
     pub sums: Sums,
     pub stream: Stream,
 }

@@ -6,7 +6,7 @@ ghost use Rattle.std.specs.Prelude.{◌≡◌};
 ghost use Rattle.stream_spec.specs.State.{opened};
 
 use ledger::Ledger;
-use terms::{ChannelNumber, Verdict};
+use terms::{ChannelNumber, Refusal};
 
 // How many frames and refused readings there were so far, and the ledger after them.
 #[derive(Clone, Copy)]
@@ -35,7 +35,7 @@ pub struct Stream {
 // was passed in beside a refusal.
 #[derive(Clone, Copy)]
 pub struct Fed {
-    pub answer: Verdict,
+    pub answer: Result<(), Refusal>,
     pub records: usize,
     pub stream: Stream,
 }

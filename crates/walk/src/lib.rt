@@ -11,7 +11,7 @@ ghost use Rattle.walk.specs.Papers.{walk_paper};
 ghost use Rattle.walk.specs.Passes.{carried_of, passed_of};
 
 use ledger::{Answer, Ledger, Pending};
-use terms::{ChannelNumber, Refusal, TickNumber, Verdict};
+use terms::{ChannelNumber, Refusal, TickNumber};
 use tick_map::Map;
 
 // What the walk returns: 0, or 8 where the buffer can't take all records; how many records there
@@ -35,10 +35,10 @@ struct Passed {
 }
 
 // 1 for a reading that answered 0, else 0.
-fn accepted(verdict: Verdict) -> usize
+fn accepted(verdict: Result<(), Refusal>) -> usize
     ensures { result ≡ accepts (verdict_number verdict) }
 {
-    if verdict.number() == 0 { 1 } else { 0 }
+    if terms::number_of(verdict) == 0 { 1 } else { 0 }
 }
 
 // The walk's ledger, of channel 100 and with nothing pending: no reading asks for a resend.

@@ -46,7 +46,7 @@ fn ticked(ledger: Ledger, channel: ChannelNumber, tick: TickNumber) -> Offered
             ledger: next,
         },
         TickAnswer::Refused(why) => Offered {
-            answer: why.number(),
+            answer: u32::from(why),
             ledger: next,
         },
     }
@@ -65,7 +65,7 @@ fn announced(ledger: Ledger, channel: ChannelNumber, last: TickNumber) -> Offere
             ledger: next,
         },
         Answer::Refused(why) => Offered {
-            answer: why.number(),
+            answer: u32::from(why),
             ledger: next,
         },
     }

@@ -6,8 +6,8 @@ use Rattle.broken.proofs.entry_broken.Goals as goal
 
 pub returns-then-w-eq10 : goal.returns-then-w-eq10
 unfolding lowest_from
-returns-then-w-eq10 c = rw (c.unless_in.ensures, c.all_hold.ensures, c.u64_at-price.ensures, eq-eqb _ _ c.if-w-eq10.true)
+returns-then-w-eq10 c = rw (c.unless_in.ensures, c.all_hold.ensures, c.at-price.ensures, eq-eqb _ _ c.if-w-eq10.true)
 
 pub returns : goal.returns
 unfolding lowest_from
-returns c = rw (c.unless_in-2.ensures, c.unless_in-from15.ensures, c.unless_in-from16.ensures, c.all_hold-2.ensures, c.u8_at-position.ensures, c.u64_at-size.ensures, c.u64_at-price.ensures, ne_eqb _ _ c.if-w-eq10.false)
+returns c = rw (c.unless_in-2.ensures, c.unless_in-from15.ensures, c.unless_in-from16.ensures, c.all_hold-2.ensures, c.at-position.ensures, c.at-size.ensures, c.at-price.ensures, ne_eqb _ _ c.if-w-eq10.false)

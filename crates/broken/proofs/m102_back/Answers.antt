@@ -13,8 +13,8 @@ returns c =
       c.unless-from9.ensures,
       c.unless-from10.ensures,
       c.m102_counted-from12.ensures,
-      c.u64_at-total_value_traded.ensures,
-      c.u64_at-num_trades.ensures,
-      c.u64_at-total_volume_traded.ensures,
-      c.u64_at-pre_close_px.ensures,
+      c.at-total_value_traded.ensures,
+      c.at-num_trades.ensures,
+      c.at-total_volume_traded.ensures,
+      c.at-pre_close_px.ensures,
     )

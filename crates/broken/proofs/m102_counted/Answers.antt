@@ -14,17 +14,17 @@ use borrow.Author.Rules.{rules}
 use Rattle.broken.proofs.m102_counted.Goals as goal
 use Rattle.broken.proofs.m102_counted.Goals.{After-entry_size-w}
 
-small : (c : goal.After-entry_size-w) → c.u16_at-n.result * c.entry_size-w.result ≤ 65535 * 19
-small c = entries_small c.u16_at-n.result c.entry_size-w.result (omega arith) (omega (arith, size_small c.u40_at.result, c.entry_size-w.ensures))
+small : (c : goal.After-entry_size-w) → c.at-n.result * c.entry_size-w.result ≤ 65535 * 19
+small c = entries_small c.at-n.result c.entry_size-w.result (omega arith) (omega (arith, size_small c.letters_at.result, c.entry_size-w.ensures))
 
 abbrev text : goal.After-entry_size-w → List ℕ
 text c = c.args.b.now
 
 width : (c : goal.After-entry_size-w) → c.entry_size-w.result ≡ entry_size (be 5 10 (text c))
-width c = c.entry_size-w.ensures ∙ ap entry_size c.u40_at.ensures
+width c = c.entry_size-w.ensures ∙ ap entry_size c.letters_at.ensures
 
-whole : (c : goal.After-entry_size-w) → 73 + c.u16_at-n.result * c.entry_size-w.result ≡ 73 + be 2 71 (text c) * entry_size (be 5 10 (text c))
-whole c = same_whole _ _ _ _ c.u16_at-n.ensures (width c)
+whole : (c : goal.After-entry_size-w) → 73 + c.at-n.result * c.entry_size-w.result ≡ 73 + be 2 71 (text c) * entry_size (be 5 10 (text c))
+whole c = same_whole _ _ _ _ c.at-n.ensures (width c)
 
 -- NoMDEntries
 abbrev count : List ℕ → Field
@@ -46,5 +46,5 @@ pub returns : goal.returns
 returns c =
     let e = c in
     c.entries_broken.ensures
-    ∙ ap₂ (λ (n w : ℕ). lowest_from (entries_fields n w (text (goal.at.returns c).After-entry_size-w)) none) e.u16_at-n.ensures (width (goal.at.returns c).After-entry_size-w)
+    ∙ ap₂ (λ (n w : ℕ). lowest_from (entries_fields n w (text (goal.at.returns c).After-entry_size-w)) none) e.at-n.ensures (width (goal.at.returns c).After-entry_size-w)
     ∙ sym (passed (count (text (goal.at.returns c).After-entry_size-w)) (entries_of (text (goal.at.returns c).After-entry_size-w)) (eq-eqb _ _ (c.if-b-n.false ∙ whole (goal.at.returns c).After-entry_size-w)))

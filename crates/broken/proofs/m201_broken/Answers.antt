@@ -12,7 +12,7 @@ returns c =
       c.unless-from1.ensures,
       c.unless-from2.ensures,
       c.m201_back.ensures,
-      c.u64_at-tick.ensures,
-      c.u16_at-channel_no.ensures,
-      c.u8_at-security_type.ensures,
+      c.at-tick.ensures,
+      c.at-channel_no.ensures,
+      c.at-security_type.ensures,
     )

@@ -13,8 +13,8 @@ returns c =
       c.unless-from2.ensures,
       c.unless-from3.ensures,
       c.all_hold.ensures,
-      c.u8_at-end_of_channel.ensures,
-      c.u64_at-appl_last_seq_num.ensures,
-      c.u16_at-channel_no.ensures,
-      c.u8_at-security_type.ensures,
+      c.at-end_of_channel.ensures,
+      c.at-appl_last_seq_num.ensures,
+      c.at-channel_no.ensures,
+      c.at-security_type.ensures,
     )

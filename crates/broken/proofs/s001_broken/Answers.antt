@@ -10,5 +10,5 @@ returns c =
     rw (
       c.unless.ensures,
       c.all_hold.ensures,
-      c.u16_at-heart_bt_int.ensures,
+      c.at-heart_bt_int.ensures,
     )

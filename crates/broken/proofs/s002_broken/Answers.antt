@@ -10,5 +10,5 @@ returns c =
     rw (
       c.unless.ensures,
       c.all_hold.ensures,
-      c.u32_at-session_status.ensures,
+      c.at-session_status.ensures,
     )

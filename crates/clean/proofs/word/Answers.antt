@@ -5,4 +5,4 @@ use borrow.Author.Rules.{rules}
 use Rattle.clean.proofs.word.Goals as goal
 
 pub returns : goal.returns
-returns c = c.u64_at.ensures ∙ word_is _ _ _ refl
+returns c = c.at.ensures ∙ word_is _ _ _ refl

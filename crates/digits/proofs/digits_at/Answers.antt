@@ -1,11 +1,9 @@
 -- `digits_at`: where the bytes can say a number, `said` does the work. Assumes nothing.
-use borrow.Author.Rules.{rules}
-use borrow.Author.Tests.{not-true, not-false}
 use mathlib.Core.Path.{◌≡◌, sym, ◌∙◌}
 use mathlib.Core.Bool.{true}
 use lib.ListN.{length}
 use Rattle.digits.specs.Digits.{readable}
-use Rattle.digits.specs.Texts.{readable_is, digits_there, digits_lack}
+use Rattle.digits.specs.Texts.{digits_there, digits_lack}
 use Rattle.digits.proofs.digits_at.Goals as goal
 use Rattle.digits.proofs.digits_at.Goals.{Else-not-can_say}
 

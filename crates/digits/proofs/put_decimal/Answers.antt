@@ -3,8 +3,7 @@
 use mathlib.Core.Path.{◌≡◌}
 use native.Mathlib.Omega.{arith}
 use Rattle.digits.specs.Digits.{width_of}
-use Rattle.digits.specs.Widths.{Counted, counted_first, counted_last, counted_two, counted_three, counted_four}
-use borrow.Author.Rules.{rules}
+use Rattle.digits.specs.Widths.{counted_first, counted_last, counted_two, counted_three, counted_four}
 use Rattle.digits.proofs.put_decimal.Goals as goal
 
 pub returns-then-v-lt10 : goal.returns-then-v-lt10

@@ -2,13 +2,11 @@
 -- `store_digits` does the work. Assumes nothing.
 use Rattle.digits.specs.Laws.{length_decimal}
 use Rattle.octets.specs.Papers.{room_there, room_lacks, laid_there, laid_kept}
-use borrow.Author.Tests.{leb-true, not-true, not-false}
 use lib.ListN.{length}
 use lib.Dec.{leb}
 use Prim.Native.Nat.{◌+◌}
 use mathlib.Core.Bool.{true}
 use mathlib.Core.Path.{◌≡◌, sym, ◌∙◌}
-use borrow.Author.Rules.{rules}
 use Rattle.digits.proofs.put_digits.Goals as goal
 use Rattle.digits.proofs.put_digits.Goals.{Else-not-has_room}
 

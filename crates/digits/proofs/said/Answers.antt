@@ -1,11 +1,10 @@
 use borrow.Author.Rules.{rules}
-use borrow.Author.Tests.{not-true, not-false}
 use native.Mathlib.Omega.{arith}
 use native.Mathlib.Nat.{le_antisymm}
-use Prim.Native.Nat.{ℕ, ◌-◌, ◌≤◌, ◌+◌, ◌<◌, ◌^◌}
+use Prim.Native.Nat.{ℕ, ◌+◌, ◌<◌, ◌^◌}
 use mathlib.Core.Path.{◌≡◌, refl, sym, ap, ◌∙◌}
 use mathlib.Core.Bool.{true}
-use lib.ListN.{take, drop, get_or}
+use lib.ListN.{get_or}
 use Rattle.octets.specs.Octets.{numeral}
 use Rattle.digits.specs.Digits.{all_digits, is_digit, said_by, number}
 use Rattle.digits.specs.Laws.{all_on, said_on, said_room, said_stops, digit_bounds}

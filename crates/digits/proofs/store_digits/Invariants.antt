@@ -1,14 +1,10 @@
 -- `store_digits`, as `store`: what is left of the number, laid over what stands there now, gives
 -- what is to be. The measure is the digits left. Assumes nothing.
-use borrow.Author.Rules.{rules}
-use native.Mathlib.Omega.{arith}
 use Prim.Native.Nat.{◌≤◌}
 use mathlib.Core.Path.{◌≡◌}
 use lib.ListN.{length}
 use Rattle.octets.specs.Octets.{laid}
-use Rattle.octets.specs.Overlays.{laid_step, laid_none}
 use Rattle.digits.specs.Digits.{decimal_of}
-use Rattle.digits.specs.Laws.{decimal_last, decimal_none, length_decimal}
 use Rattle.digits.proofs.store_digits.Given as goal
 
 abbrev pub invariant-loop-k : goal.invariant-loop-k

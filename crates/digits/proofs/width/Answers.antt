@@ -1,6 +1,5 @@
 use native.Mathlib.Omega.{arith}
-use Rattle.digits.specs.Digits.{width_of}
-use Rattle.digits.specs.Widths.{Counted, counted_first, counted_last, counted_two, counted_three, counted_four, counted_on}
+use Rattle.digits.specs.Widths.{counted_last, counted_two, counted_three, counted_four, counted_on}
 use Rattle.digits.proofs.width.Goals as goal
 
 pub loop-x-preserved : goal.loop-x-preserved

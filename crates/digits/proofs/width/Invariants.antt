@@ -1,8 +1,7 @@
 -- `width`. The invariant: n - 1 digits are taken off, x is what is left of v, and the digits of x
 -- make up the count. The measure is x. Assumes nothing.
-use native.Mathlib.Omega.{arith}
 use Rattle.digits.specs.Digits.{width_of}
-use Rattle.digits.specs.Widths.{Counted, counted_first, counted_last, counted_two, counted_three, counted_four, counted_on}
+use Rattle.digits.specs.Widths.{Counted}
 use Rattle.digits.proofs.width.Given as goal
 
 abbrev pub invariant-loop-x : goal.invariant-loop-x

@@ -6,7 +6,7 @@ use borrow.Author.Rules.{rules}
 use Rattle.entries.proofs.entry_at.Goals as goal
 
 pub returns-then-w-eq10 : goal.returns-then-w-eq10
-returns-then-w-eq10 c = rw (c.u16_at-kind.ensures, c.u64_at-price.ensures) (sym (entry_short _ _ (size_short _ _ c.requires.0 c.if-w-eq10.true)))
+returns-then-w-eq10 c = rw (c.at-kind.ensures, c.at-price.ensures) (sym (entry_short _ _ (size_short _ _ c.requires.0 c.if-w-eq10.true)))
 
 pub returns : goal.returns
-returns c = rw (c.u16_at-kind.ensures, c.u64_at-price.ensures, c.u64_at-size.ensures, c.u8_at-position.ensures) (sym (entry_long _ _ (size_long _ _ c.requires.0 c.if-w-eq10.false)))
+returns c = rw (c.at-kind.ensures, c.at-price.ensures, c.at-size.ensures, c.at-position.ensures) (sym (entry_long _ _ (size_long _ _ c.requires.0 c.if-w-eq10.false)))

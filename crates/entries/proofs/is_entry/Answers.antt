@@ -19,4 +19,4 @@ pub nonzero_div-result : goal.nonzero_div-result
 nonzero_div-result c = omega (arith, size_pos (be 5 10 c.args.body.now))
 
 pub returns : goal.returns
-returns c = divided_stands _ _ _ _ c.requires c.u16_at-n.ensures (omega arith) (omega arith)
+returns c = divided_stands _ _ _ _ c.requires c.at-n.ensures (omega arith) (omega arith)

@@ -18,7 +18,7 @@ there : (c : goal.Else-not-is_entry) → stands c.args.body.now c.args.place ≡
 there c = sym c.is_entry.ensures ∙ c.if-not-is_entry.false
 
 size : (c : goal.Else-not-is_entry) → c.entry_size-w.result ≡ size_in c.args.body.now
-size c = c.entry_size-w.ensures ∙ ap entry_size c.u40_at.ensures
+size c = c.entry_size-w.ensures ∙ ap entry_size c.letters_at.ensures
 
 whole : (c : goal.Else-not-is_entry) → c.args.place + c.entry_size-w.result ≤ length c.args.body.now
 whole c = rw (size c) (stands_whole _ _ (there c))

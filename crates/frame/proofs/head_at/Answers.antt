@@ -22,13 +22,13 @@ long : (c : goal.After-is_known) → 24 ≤ length (text c)
 long c = simp length-drop (omega arith)
 
 kind : (c : goal.After-is_known) → c.kind_of-kind.result ≡ kind_of (msg_type (text c))
-kind c = kind_is _ _ c.kind_of-kind.ensures ∙ ap kind_of (c.u32_at.ensures ∙ be_here c.args.at c.args.bytes.now 4)
+kind c = kind_is _ _ c.kind_of-kind.ensures ∙ ap kind_of (c.at.ensures ∙ be_here c.args.at c.args.bytes.now 4)
 
 flag : (c : goal.After-is_known) → c.is_known.result ≡ known (kind_of (msg_type (text c)))
 flag c = c.is_known.ensures ∙ ap known (kind c)
 
-len_is : (c : goal.After-u32_at-n) → c.u32_at-n.result ≡ body_length (text (goal.at.After-u32_at-n c).After-is_known)
-len_is c = c.u32_at-n.ensures ∙ be_at c.args.at c.args.bytes.now 4 20
+len_is : (c : goal.After-u32_at-n) → c.at-n.result ≡ body_length (text (goal.at.After-u32_at-n c).After-is_known)
+len_is c = c.at-n.ensures ∙ be_at c.args.at c.args.bytes.now 4 20
 
 told_is : (c : goal.After-measure) → verdict_number c.measure.result ≡ measure (text (goal.at.After-measure c).After-is_known)
 told_is c = c.measure.ensures ∙ measure_same _ _ _ _ (kind (goal.at.After-measure c).After-is_known) (len_is (goal.at.After-measure c).After-u32_at-n)
@@ -37,10 +37,10 @@ fine : (c : goal.In-Fine) → measure (text (goal.at.In-Fine c).After-is_known) 
 fine c = sym (told_is (goal.at.In-Fine c).After-measure) ∙ ap verdict_number c.in-Fine.is
 
 -- what is left of the bytes is what lies behind the place
-cut : (c : goal.After-u32_at-n) → length c.args.bytes.now - c.args.at < 28 + c.u32_at-n.result → length (text (goal.at.After-u32_at-n c).After-is_known) < 28 + body_length (text (goal.at.After-u32_at-n c).After-is_known)
+cut : (c : goal.After-u32_at-n) → length c.args.bytes.now - c.args.at < 28 + c.at-n.result → length (text (goal.at.After-u32_at-n c).After-is_known) < 28 + body_length (text (goal.at.After-u32_at-n c).After-is_known)
 cut c h = rw (length-drop, ← len_is c) h
 
-there : (c : goal.After-u32_at-n) → 28 + c.u32_at-n.result ≤ length c.args.bytes.now - c.args.at → 28 + body_length (text (goal.at.After-u32_at-n c).After-is_known) ≤ length (text (goal.at.After-u32_at-n c).After-is_known)
+there : (c : goal.After-u32_at-n) → 28 + c.at-n.result ≤ length c.args.bytes.now - c.args.at → 28 + body_length (text (goal.at.After-u32_at-n c).After-is_known) ≤ length (text (goal.at.After-u32_at-n c).After-is_known)
 there c h = rw (length-drop, ← len_is c) h
 
 pub returns-then-bytes-at : goal.returns-then-bytes-at
@@ -57,7 +57,7 @@ returns-then-u8_at-ne48 c =
     let a = s.args.at in
     let b = s.args.bytes.now in
     let no_type : known (kind_of (msg_type (drop a b))) ≡ false =
-    ap known (ap kind_of (sym (be_here a b 4)) ∙ kind_none (be 4 a b) (λ e. c.if-u8_at-ne48.true (c.u8_at.ensures ∙ sym (third a b (g (a + 2)).fits (g (a + 3)).fits) ∙ e))) in
+    ap known (ap kind_of (sym (be_here a b 4)) ∙ kind_none (be 4 a b) (λ e. c.if-u8_at-ne48.true (c.at.ensures ∙ sym (third a b (g (a + 2)).fits (g (a + 3)).fits) ∙ e))) in
     read_measured _ 2 (simp length-drop (omega arith)) (measure_type _ _ no_type) (λ e. omega arith)
 
 pub returns-then-not-is_known : goal.returns-then-not-is_known

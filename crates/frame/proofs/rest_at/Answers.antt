@@ -27,8 +27,8 @@ inside c = inside_at c.args.at c.args.bytes.now c.args.n c.requires.0.1 (whole c
 sum : (c : goal.Start) → c.args.v ≡ sum8 (plain (text c))
 sum c = c.requires.1 ∙ plain_sum c.args.at c.args.bytes.now c.args.n c.requires.0.1
 
-stored : (c : goal.After-u32_at-stored) → c.u32_at-stored.result ≡ check_sum (text (goal.at.After-u32_at-stored c).Start)
-stored c = let s = c in c.u32_at-stored.ensures ∙ stored_at s.args.at s.args.bytes.now s.args.n s.requires.0.1
+stored : (c : goal.After-u32_at-stored) → c.at-stored.result ≡ check_sum (text (goal.at.After-u32_at-stored c).Start)
+stored c = let s = c in c.at-stored.ensures ∙ stored_at s.args.at s.args.bytes.now s.args.n s.requires.0.1
 
 right : (c : goal.Else-stored-v) → check_sum (text (goal.at.Else-stored-v c).Start) ≡ sum8 (plain (text (goal.at.Else-stored-v c).Start))
 right c = sym (stored (goal.at.Else-stored-v c).After-u32_at-stored) ∙ c.if-stored-v.false ∙ sum (goal.at.Else-stored-v c).Start
@@ -37,14 +37,14 @@ told_is : (c : goal.After-judge) → verdict_number c.judge.result ≡ judgement
 told_is c =
     let s = c in
     c.judge.ensures
-    ∙ judge_same _ _ _ _ _ _ s.requires.0.0 (c.u64_at-sent.ensures ∙ be_at s.args.at s.args.bytes.now 8 4)
+    ∙ judge_same _ _ _ _ _ _ s.requires.0.0 (c.at-sent.ensures ∙ be_at s.args.at s.args.bytes.now 8 4)
     (part_body s.args.at s.args.bytes.now s.args.n s.requires.0.1)
 
-sent : (c : goal.After-u64_at-sent) → c.u64_at-sent.result ≡ sending_time (text (goal.at.After-u64_at-sent c).Start)
-sent c = c.u64_at-sent.ensures ∙ be_at c.args.at c.args.bytes.now 8 4
+sent : (c : goal.After-u64_at-sent) → c.at-sent.result ≡ sending_time (text (goal.at.After-u64_at-sent c).Start)
+sent c = c.at-sent.ensures ∙ be_at c.args.at c.args.bytes.now 8 4
 
-from_place : (c : goal.After-u32_at) → c.u32_at.result ≡ msg_type (text (goal.at.After-u32_at c).Start)
-from_place c = let s = c in c.u32_at.ensures ∙ be_here s.args.at s.args.bytes.now 4
+from_place : (c : goal.After-u32_at) → c.at.result ≡ msg_type (text (goal.at.After-u32_at c).Start)
+from_place c = let s = c in c.at.ensures ∙ be_here s.args.at s.args.bytes.now 4
 
 frame_is : (s : List ℕ) (t time q n : ℕ) → t ≡ msg_type s → time ≡ sending_time s → q ≡ msg_seq_num s → n ≡ body_length s → answer 0 (t ∷ time ∷ q ∷ n ∷ []) ≡ accepted s
 frame_is s t time q n a b c d = rw (a, b, c, d)
@@ -59,7 +59,7 @@ pub returns-in-Fine : goal.returns-in-Fine
 returns-in-Fine c =
     let s = c in
     frame_is _ _ _ _ _ (from_place (goal.at.returns-in-Fine c).After-u32_at) (sent (goal.at.returns-in-Fine c).After-u64_at-sent)
-    (ap (λ (x : SessionNumber). x.0) c.new.ensures ∙ c.u64_at.ensures ∙ be_at s.args.at s.args.bytes.now 8 12)
+    (ap (λ (x : SessionNumber). x.0) c.new.ensures ∙ c.at.ensures ∙ be_at s.args.at s.args.bytes.now 8 12)
     s.requires.0.1
     ∙ sym
     (read_frame _ (whole (goal.at.returns-in-Fine c).Start) (right (goal.at.returns-in-Fine c).Else-stored-v)

@@ -39,7 +39,7 @@ fine : (c : goal.In-Fine) → measure_of M201 (length (text (goal.at.In-Fine c).
 fine c = sym c.measure.ensures ∙ ap verdict_number c.in-Fine.is
 
 named : (c : goal.After-layout_of-layout) → c.layout_of-layout.result ≡ named_in (text (goal.at.After-layout_of-layout c).After-measure)
-named c = c.layout_of-layout.ensures ∙ ap₂ layout_of c.u40_at.ensures c.u8_at.ensures
+named c = c.layout_of-layout.ensures ∙ ap₂ layout_of c.letters_at.ensures c.at.ensures
 
 suits : (c : goal.After-suits_tail) → c.suits_tail.result ≡ tail_ok (text (goal.at.After-suits_tail c).After-measure)
 unfolding tail_ok

@@ -16,7 +16,7 @@ use Rattle.market_values.proofs.judge_lines.Goals.{After-line_long-n, After-type
 
 -- the type, and that two bytes stand there
 typed : (y : goal.After-type_of-t) → let i = y in y.type_of-t.result ≡ type_of (be 2 i.loop-p.p i.args.s.now)
-typed y = y.type_of-t.ensures ∙ ap type_of y.u16_at.ensures
+typed y = y.type_of-t.ensures ∙ ap type_of y.at.ensures
 
 whole : (e : goal.Else-s-p-lt2) → e.loop-p.p + 2 ≤ length e.args.s.now
 whole e = omega arith
@@ -24,16 +24,16 @@ whole e = omega arith
 -- what the line's values answer
 told : (v : goal.After-values_fit) → let p = v.loop-p.p in let s = v.args.s.now in verdict_paper v.values_fit.result ≡ taken_fault (layout_of (type_of (be 2 p s))) (p + 2) s
 told v =
-    v.values_fit.ensures ∙ ap (λ (cs : List Column). taken_fault cs (v.loop-p.p + 2) v.args.s.now) (v.rows_of-r.ensures.0 ∙ ap layout_of (v.type_of-t.ensures ∙ ap type_of v.u16_at.ensures))
+    v.values_fit.ensures ∙ ap (λ (cs : List Column). taken_fault cs (v.loop-p.p + 2) v.args.s.now) (v.rows_of-r.ensures.0 ∙ ap layout_of (v.type_of-t.ensures ∙ ap type_of v.at.ensures))
 
 other : (e : goal.Else-t-eq0) → type_of (be 2 e.loop-p.p e.args.s.now) ≡ 0 → ⊥
-other e q = e.if-t-eq0.false (e.type_of-t.ensures ∙ ap type_of e.u16_at.ensures ∙ q)
+other e q = e.if-t-eq0.false (e.type_of-t.ensures ∙ ap type_of e.at.ensures ∙ q)
 
 after : (c : goal.After-line_long-n) → let l = c.loop-p in let s = c.args.s.now in l.p + 2 ≤ length s → (type_of (be 2 l.p s) ≡ 0 → ⊥) → verdict_paper c.values_fit.result ≡ taken_fault (layout_of (type_of (be 2 l.p s))) (l.p + 2) s → JudgeLeft s c.in-Fine.q (l.k + 1) (l.n + c.line_long-n.result)
 after c w o t =
     let l = c.loop-p in
     let s = c.args.s.now in
-    rw (c.line_long-n.ensures.0, c.type_of-t.ensures ∙ ap type_of c.u16_at.ensures)
+    rw (c.line_long-n.ensures.0, c.type_of-t.ensures ∙ ap type_of c.at.ensures)
     (judge_next s l.p l.k l.n l.invariant (search rules) w o c.in-Fine.q (sym t ∙ ap verdict_paper c.in-Fine.is))
 
 farther : (c : goal.After-line_long-n) → let l = c.loop-p in let s = c.args.s.now in l.p + 2 ≤ length s → (type_of (be 2 l.p s) ≡ 0 → ⊥) → verdict_paper c.values_fit.result ≡ taken_fault (layout_of (type_of (be 2 l.p s))) (l.p + 2) s → (l.p < c.in-Fine.q) × (c.in-Fine.q ≤ length s)

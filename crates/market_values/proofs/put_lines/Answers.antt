@@ -18,19 +18,19 @@ use Rattle.market_values.proofs.put_lines.Goals.{After-line_size-p, After-put_li
 
 -- the rows are those of the type that stands there
 rows : (y : goal.After-rows_of-r) → let i = y in columns y.rows_of-r.result.first y.rows_of-r.result.last ≡ layout_of (type_of (be 2 i.loop-p.p i.args.s.now))
-rows y = y.rows_of-r.ensures.0 ∙ ap layout_of (y.type_of-t.ensures ∙ ap type_of y.u16_at.ensures)
+rows y = y.rows_of-r.ensures.0 ∙ ap layout_of (y.type_of-t.ensures ∙ ap type_of y.at.ensures)
 
 line : (g : goal.After-put_line) → let l = g.loop-p in let s = g.args.s.now in g.put_line.new.out ≡ laid l.a (line_text (layout_of (type_of (be 2 l.p s))) (taken_line (layout_of (type_of (be 2 l.p s))) (drop (l.p + 2) s))) l.out
 line g =
     let l = g.loop-p in
     let s = g.args.s.now in
-    g.put_line.ensures ∙ ap (λ (cs : List Column). laid l.a (line_text cs (taken_line cs (drop (l.p + 2) s))) l.out) (g.rows_of-r.ensures.0 ∙ ap layout_of (g.type_of-t.ensures ∙ ap type_of g.u16_at.ensures))
+    g.put_line.ensures ∙ ap (λ (cs : List Column). laid l.a (line_text cs (taken_line cs (drop (l.p + 2) s))) l.out) (g.rows_of-r.ensures.0 ∙ ap layout_of (g.type_of-t.ensures ∙ ap type_of g.at.ensures))
 
 after : (c : goal.After-line_size-p) → let l = c.loop-p in let a = c.args in c.put_line.new.out ≡ laid l.a (line_text (layout_of (type_of (be 2 l.p a.s.now))) (taken_line (layout_of (type_of (be 2 l.p a.s.now))) (drop (l.p + 2) a.s.now))) l.out →
     PutLeft a.s.now (l.p + c.line_size-p.result) (l.a + c.line_long-a.result) c.put_line.new.out (laid 82 (lines_text (values_given a.s.now).lines) a.out.now)
 after c k =
     let l = c.loop-p in
-    rw (c.line_size-p.ensures.0, c.line_long-a.ensures.0, c.type_of-t.ensures ∙ ap type_of c.u16_at.ensures) (put_next _ l.p l.a l.out _ l.invariant.1 (search rules) c.put_line.new.out k)
+    rw (c.line_size-p.ensures.0, c.line_long-a.ensures.0, c.type_of-t.ensures ∙ ap type_of c.at.ensures) (put_next _ l.p l.a l.out _ l.invariant.1 (search rules) c.put_line.new.out k)
 
 room : (i : goal.In-loop-p) → let l = i.loop-p in l.a + length_of (layout_of (type_of (be 2 l.p i.args.s.now))) ≤ length l.out
 room i = let l = i.loop-p in put_room i.args.s.now l.p l.a l.out _ l.invariant.1 (search rules)

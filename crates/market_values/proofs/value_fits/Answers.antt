@@ -9,7 +9,7 @@ pub returns-then-kind-le1 : goal.returns-then-kind-le1
 returns-then-kind-le1 c = let a = c.args in sym (step_fixed a.i a.p a.s.now _ _ _ _ c.column-f.ensures.0 c.if-kind-le1.true)
 
 pub returns-then-kind-eq2 : goal.returns-then-kind-eq2
-returns-then-kind-eq2 c = let a = c.args in c.number_fits.ensures ∙ rw c.u64_at.ensures (sym (step_number a.i a.p a.s.now _ _ _ _ c.column-f.ensures.0 c.if-kind-eq2.true))
+returns-then-kind-eq2 c = let a = c.args in c.number_fits.ensures ∙ rw c.at.ensures (sym (step_number a.i a.p a.s.now _ _ _ _ c.column-f.ensures.0 c.if-kind-eq2.true))
 
 pub returns-then-kind-eq3 : goal.returns-then-kind-eq3
 returns-then-kind-eq3 c = let a = c.args in let k = c.if-kind-eq2.false in c.column_ok.ensures ∙ sym (step_text a.i a.p a.s.now _ _ _ _ c.column-f.ensures.0 (omega (arith, step_size_w a.i a.p a.s.now _ _ _ _ c.column-f.ensures.0 (omega (arith, c.if-kind-le1.false)), c.requires)) c.if-kind-eq3.true)

@@ -1,6 +1,5 @@
-use Rattle.std.proofs.Common.{◌≡◌, ◌-◌, ◌≤◌, length, take, sym, refl, ◌∙◌, arith, rules}
-use Rattle.octets.specs.Octets.{laid}
-use Rattle.octets.specs.Overlays.{laid_nil, laid_more, laid_all}
+use Rattle.std.proofs.Common.{sym, refl, arith, rules}
+use Rattle.octets.specs.Overlays.{laid_nil, laid_more}
 use Rattle.octets.proofs.copy.Goals as goal
 
 pub loop-i-init : goal.loop-i-init

@@ -1,8 +1,7 @@
 -- `copy`. The invariant: the first i bytes of src are laid. The measure is what is left of src.
 -- Assumes nothing.
-use Rattle.std.proofs.Common.{◌≡◌, ◌-◌, ◌≤◌, length, take, sym, refl, ◌∙◌, arith, rules}
+use Rattle.std.proofs.Common.{◌≡◌, ◌-◌, ◌≤◌, length, take}
 use Rattle.octets.specs.Octets.{laid}
-use Rattle.octets.specs.Overlays.{laid_nil, laid_more, laid_all}
 use Rattle.octets.proofs.copy.Given as goal
 
 abbrev pub invariant-loop-i : goal.invariant-loop-i

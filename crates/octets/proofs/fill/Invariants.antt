@@ -1,8 +1,6 @@
 -- `fill`. The loop's invariant: i is at most the length, and the part is i times b and then what it
 -- was. The measure is what is left of the length. Assumes nothing.
-use Rattle.std.proofs.Common.{◌≡◌, ◌-◌, ◌≤◌, ◌++◌, length, drop, replicate, refl, ◌∙◌, append-nil, arith, length-set}
-use borrow.Author.Fill.{fill_more}
-use lib.Seq.{drop-length}
+use Rattle.std.proofs.Common.{◌≡◌, ◌-◌, ◌≤◌, ◌++◌, length, drop, replicate}
 use Rattle.octets.proofs.fill.Given as goal
 
 abbrev pub invariant-loop-i : goal.invariant-loop-i

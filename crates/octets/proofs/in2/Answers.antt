@@ -1,5 +1,5 @@
 -- `in2`: the two bytes turned round. Assumes nothing.
-use Rattle.std.proofs.Common.{◌≡◌, sym, ◌∙◌, rules}
+use Rattle.std.proofs.Common.{sym, ◌∙◌}
 use Rattle.octets.specs.Halves.{two_bytes, turned}
 use Rattle.octets.proofs.in2.Goals as goal
 

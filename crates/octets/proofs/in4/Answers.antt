@@ -1,5 +1,5 @@
 -- `in4`: its two halves. Assumes nothing.
-use Rattle.std.proofs.Common.{arith, rules}
+use Rattle.std.proofs.Common.{arith}
 use Rattle.octets.specs.Halves.{four_bytes}
 use Rattle.octets.proofs.in4.Goals as goal
 

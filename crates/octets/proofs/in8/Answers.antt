@@ -1,5 +1,5 @@
 -- `in8`: its two halves. Assumes nothing.
-use Rattle.std.proofs.Common.{arith, rules}
+use Rattle.std.proofs.Common.{arith}
 use Rattle.octets.specs.Halves.{eight_bytes}
 use Rattle.octets.proofs.in8.Goals as goal
 

@@ -1,8 +1,7 @@
 -- `lay`: without room the answer is 8 and the buffer keeps its bytes; else `copy` does the work.
 -- Assumes nothing.
 use Rattle.octets.specs.Papers.{room_there, room_lacks, laid_there, laid_kept}
-use Rattle.std.proofs.Common.{◌≡◌, ◌+◌, true, leb, length, sym, refl, ◌∙◌, rules, leb-true}
-use borrow.Author.Tests.{not-true, not-false}
+use Rattle.std.proofs.Common.{◌≡◌, ◌+◌, true, leb, length, sym, refl, ◌∙◌}
 use Rattle.octets.proofs.lay.Goals as goal
 use Rattle.octets.proofs.lay.Goals.{Else-not-has_room}
 

@@ -1,5 +1,5 @@
 -- `lay1`: one byte stored. Assumes nothing.
-use Rattle.std.proofs.Common.{◌≡◌, sym, ap, ◌∙◌, arith, rules}
+use Rattle.std.proofs.Common.{sym, arith}
 use Rattle.octets.specs.Overlays.{laid_one}
 use Rattle.octets.proofs.lay1.Goals as goal
 

@@ -1,5 +1,5 @@
 -- `lay2`: its two halves, one behind the other. Assumes nothing.
-use Rattle.std.proofs.Common.{◌≡◌, sym, ap, ◌∙◌, arith, rules}
+use Rattle.std.proofs.Common.{arith}
 use Rattle.octets.specs.Turns.{two_then}
 use Rattle.octets.proofs.lay2.Goals as goal
 use Rattle.octets.proofs.lay2.Goals.{After-lay1-2}

@@ -1,5 +1,5 @@
 -- `lay4`: its two halves, one behind the other. Assumes nothing.
-use Rattle.std.proofs.Common.{◌≡◌, sym, ap, ◌∙◌, arith, rules}
+use Rattle.std.proofs.Common.{arith}
 use Rattle.octets.specs.Turns.{four_then}
 use Rattle.octets.proofs.lay4.Goals as goal
 use Rattle.octets.proofs.lay4.Goals.{After-lay2-2}

@@ -1,5 +1,5 @@
 -- `lay8`: its two halves, one behind the other. Assumes nothing.
-use Rattle.std.proofs.Common.{◌≡◌, sym, ap, ◌∙◌, arith, rules}
+use Rattle.std.proofs.Common.{arith}
 use Rattle.octets.specs.Turns.{eight_then}
 use Rattle.octets.proofs.lay8.Goals as goal
 use Rattle.octets.proofs.lay8.Goals.{After-lay4-2}

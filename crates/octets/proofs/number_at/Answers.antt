@@ -1,5 +1,5 @@
-use Rattle.std.proofs.Common.{◌≡◌, ◌-◌, ◌^◌, ◌<◌, ◌≤◌, le_antisymm, arith, rules}
-use Rattle.octets.specs.Octets.{numeral, be}
+use Rattle.std.proofs.Common.{arith, rules}
+use Rattle.octets.specs.Octets.{numeral}
 use Rattle.octets.specs.Numerals.{numeral_more, room_more, pow_room}
 use Rattle.octets.proofs.number_at.Goals as goal
 

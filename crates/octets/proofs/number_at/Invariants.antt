@@ -1,8 +1,7 @@
 -- `number_at`. The invariant: v is the number in the i bytes passed, and fits as many bytes. The
 -- measure is what is left of n. Assumes nothing.
-use Rattle.std.proofs.Common.{◌≡◌, ◌-◌, ◌^◌, ◌<◌, ◌≤◌, le_antisymm, arith, rules}
-use Rattle.octets.specs.Octets.{numeral, be}
-use Rattle.octets.specs.Numerals.{numeral_more, room_more, pow_room}
+use Rattle.std.proofs.Common.{◌≡◌, ◌-◌, ◌^◌, ◌<◌, ◌≤◌}
+use Rattle.octets.specs.Octets.{be}
 use Rattle.octets.proofs.number_at.Given as goal
 
 abbrev pub invariant-loop-i : goal.invariant-loop-i

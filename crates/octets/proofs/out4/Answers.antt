@@ -1,6 +1,6 @@
 -- `out4`: the number turned round and stored low byte first, which is the number high byte first.
 -- Assumes nothing.
-use Rattle.std.proofs.Common.{◌≡◌, sym, ap, ◌∙◌, arith, rules}
+use Rattle.std.proofs.Common.{arith}
 use Rattle.octets.specs.Turns.{turn4, laid_turned, turn4_again}
 use Rattle.octets.proofs.out4.Goals as goal
 

@@ -1,6 +1,6 @@
 -- `out8`: the number turned round and stored low byte first, which is the number high byte first.
 -- Assumes nothing.
-use Rattle.std.proofs.Common.{◌≡◌, sym, ap, ◌∙◌, arith, rules}
+use Rattle.std.proofs.Common.{arith}
 use Rattle.octets.specs.Turns.{turn8, laid_turned, turn8_again}
 use Rattle.octets.proofs.out8.Goals as goal
 

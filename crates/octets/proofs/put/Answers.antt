@@ -2,8 +2,7 @@
 -- Assumes nothing.
 use Rattle.octets.specs.Numerals.{length_digits}
 use Rattle.octets.specs.Papers.{room_there, room_lacks, laid_there, laid_kept}
-use Rattle.std.proofs.Common.{◌≡◌, ◌+◌, true, leb, length, sym, ◌∙◌, rules, leb-true}
-use borrow.Author.Tests.{not-true, not-false}
+use Rattle.std.proofs.Common.{◌≡◌, ◌+◌, true, leb, length, sym, ◌∙◌}
 use Rattle.octets.proofs.put.Goals as goal
 use Rattle.octets.proofs.put.Goals.{Else-not-has_room}
 

@@ -1,6 +1,6 @@
 -- `store`: by the width; a number of four bytes or two is laid by its low part. Assumes nothing.
-use Rattle.std.proofs.Common.{refl, arith, rules}
-use Rattle.octets.specs.Turns.{wide_laid, low_laid_4, low_laid_2}
+use Rattle.std.proofs.Common.{refl, arith}
+use Rattle.octets.specs.Turns.{low_laid_4, low_laid_2}
 use Rattle.octets.proofs.store.Goals as goal
 
 pub returns-then-n-eq4 : goal.returns-then-n-eq4

@@ -1,5 +1,4 @@
-use Rattle.std.proofs.Common.{◌≡◌, ◌≤◌, length, arith, rules}
-use Rattle.octets.specs.Octets.{bytes_of, laid}
+use Rattle.std.proofs.Common.{arith, rules}
 use Rattle.octets.specs.Numerals.{digits_last, digits_none, length_digits}
 use Rattle.octets.specs.Overlays.{laid_step, laid_none}
 use Rattle.octets.proofs.store_each.Goals as goal

@@ -1,9 +1,7 @@
 -- `store_each`. The invariant: what is left of the number, laid over what stands there now, gives
 -- what is to be. The measure is the bytes left. Assumes nothing.
-use Rattle.std.proofs.Common.{◌≡◌, ◌≤◌, length, arith, rules}
+use Rattle.std.proofs.Common.{◌≡◌, ◌≤◌, length}
 use Rattle.octets.specs.Octets.{bytes_of, laid}
-use Rattle.octets.specs.Numerals.{digits_last, digits_none, length_digits}
-use Rattle.octets.specs.Overlays.{laid_step, laid_none}
 use Rattle.octets.proofs.store_each.Given as goal
 
 abbrev pub invariant-loop-k : goal.invariant-loop-k

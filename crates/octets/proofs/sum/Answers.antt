@@ -1,6 +1,5 @@
-use Rattle.std.proofs.Common.{◌≡◌, ◌-◌, ◌≤◌, max, take, drop, ap, ◌∙◌, arith, rules}
+use Rattle.std.proofs.Common.{◌∙◌, arith}
 use native.Mathlib.Nat.{sub_self}
-use Rattle.octets.specs.Overlays.{end_take}
 use Rattle.octets.specs.Sums.{sum8_on}
 use Rattle.octets.specs.Octets.{sum8, sum_of}
 use Rattle.octets.proofs.sum.Goals as goal

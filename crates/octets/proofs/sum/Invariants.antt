@@ -1,10 +1,7 @@
 -- `sum`. The invariant: v is the sum of the bytes from at up to i, and i has not passed the end.
 -- The measure is what is left. Assumes nothing.
-use Rattle.std.proofs.Common.{◌≡◌, ◌-◌, ◌≤◌, max, take, drop, ap, ◌∙◌, arith, rules}
-use native.Mathlib.Nat.{sub_self}
-use Rattle.octets.specs.Overlays.{end_take}
-use Rattle.octets.specs.Sums.{sum8_on}
-use Rattle.octets.specs.Octets.{sum8, sum_of}
+use Rattle.std.proofs.Common.{◌≡◌, ◌-◌, ◌≤◌, max, take, drop}
+use Rattle.octets.specs.Octets.{sum8}
 use Rattle.octets.proofs.sum.Given as goal
 
 abbrev pub invariant-loop-i : goal.invariant-loop-i

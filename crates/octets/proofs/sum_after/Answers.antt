@@ -1,5 +1,4 @@
-use Rattle.std.proofs.Common.{◌≡◌, ◌+◌, ◌-◌, ◌%◌, ◌≤◌, take, drop, sym, refl, ◌∙◌, arith, rules}
-use Rattle.octets.specs.Octets.{sum_after}
+use Rattle.std.proofs.Common.{◌+◌, ◌%◌, sym, ◌∙◌, arith}
 use Rattle.octets.specs.Sums.{left_none, one_off}
 use Rattle.octets.proofs.Sums.{left_on}
 use Rattle.octets.proofs.sum_after.Goals as goal

@@ -1,9 +1,7 @@
 -- `sum_after`. The invariant: what is left to take off, from the two sums joined, gives the sum
 -- that is promised from v. The measure is what is left. Assumes nothing.
-use Rattle.std.proofs.Common.{◌≡◌, ◌+◌, ◌-◌, ◌%◌, ◌≤◌, take, drop, sym, refl, ◌∙◌, arith, rules}
+use Rattle.std.proofs.Common.{◌≡◌, ◌+◌, ◌-◌, ◌%◌, ◌≤◌, take, drop}
 use Rattle.octets.specs.Octets.{sum_after}
-use Rattle.octets.specs.Sums.{left_none, one_off}
-use Rattle.octets.proofs.Sums.{left_on}
 use Rattle.octets.proofs.sum_after.Given as goal
 
 abbrev pub invariant-loop-i : goal.invariant-loop-i

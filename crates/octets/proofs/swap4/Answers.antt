@@ -1,5 +1,5 @@
 -- `swap4`: its halves turned round and exchanged. Assumes nothing.
-use Rattle.std.proofs.Common.{◌≡◌, sym, ap, ◌∙◌, arith, rules}
+use Rattle.std.proofs.Common.{rules}
 use Rattle.octets.specs.Turns.{turn2, turn4}
 use Rattle.octets.proofs.swap4.Goals as goal
 

@@ -1,5 +1,5 @@
 -- `swap8`: its halves turned round and exchanged. Assumes nothing.
-use Rattle.std.proofs.Common.{◌≡◌, sym, ap, ◌∙◌, arith, rules}
+use Rattle.std.proofs.Common.{rules}
 use Rattle.octets.specs.Turns.{turn8}
 use Rattle.octets.proofs.swap8.Goals as goal
 

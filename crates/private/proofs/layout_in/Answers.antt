@@ -14,7 +14,7 @@ abbrev text : goal.After-layout_of-named → List ℕ
 text c = c.args.body.now
 
 named : (c : goal.After-layout_of-named) → c.layout_of-named.result ≡ named_in (text c)
-named c = c.layout_of-named.ensures ∙ ap₂ layout_of c.u40_at.ensures c.u8_at.ensures
+named c = c.layout_of-named.ensures ∙ ap₂ layout_of c.letters_at.ensures c.at.ensures
 
 suits : (c : goal.After-suits_tail) → c.suits_tail.result ≡ tail_ok (text (goal.at.After-suits_tail c).After-layout_of-named)
 unfolding tail_ok

@@ -14,17 +14,17 @@ use Rattle.reading_parts.proofs.m102_ok.Goals.{After-entry_size-w, After-m102_fi
 abbrev both : goal.Start → List ℕ
 both s = s.args.first.now ++ s.args.second.now
 
-small : (c : goal.After-entry_size-w) → c.u16_at-n.result * c.entry_size-w.result ≤ 65535 * 19
-small c = entries_small c.u16_at-n.result c.entry_size-w.result (omega arith) (omega (arith, size_small c.u40_at.result, c.entry_size-w.ensures))
+small : (c : goal.After-entry_size-w) → c.at-n.result * c.entry_size-w.result ≤ 65535 * 19
+small c = entries_small c.at-n.result c.entry_size-w.result (omega arith) (omega (arith, size_small c.letters_at.result, c.entry_size-w.ensures))
 
 -- the count, the width and the whole length, as the definition has them
-count : (c : goal.After-entry_size-w) → c.u16_at-n.result ≡ be 2 71 (body (both (goal.at.After-entry_size-w c).Start))
-count c = c.u16_at-n.ensures ∙ in_body _ _ c.requires.0 2 71 (omega arith)
+count : (c : goal.After-entry_size-w) → c.at-n.result ≡ be 2 71 (body (both (goal.at.After-entry_size-w c).Start))
+count c = c.at-n.ensures ∙ in_body _ _ c.requires.0 2 71 (omega arith)
 
 width : (c : goal.After-entry_size-w) → c.entry_size-w.result ≡ entry_size (be 5 10 (body (both (goal.at.After-entry_size-w c).Start)))
-width c = c.entry_size-w.ensures ∙ ap entry_size (c.u40_at.ensures ∙ in_body _ _ c.requires.0 5 10 (omega arith))
+width c = c.entry_size-w.ensures ∙ ap entry_size (c.letters_at.ensures ∙ in_body _ _ c.requires.0 5 10 (omega arith))
 
-whole : (c : goal.After-entry_size-w) → 73 + c.u16_at-n.result * c.entry_size-w.result ≡ 73 + be 2 71 (body (both (goal.at.After-entry_size-w c).Start)) * entry_size (be 5 10 (body (both (goal.at.After-entry_size-w c).Start)))
+whole : (c : goal.After-entry_size-w) → 73 + c.at-n.result * c.entry_size-w.result ≡ 73 + be 2 71 (body (both (goal.at.After-entry_size-w c).Start)) * entry_size (be 5 10 (body (both (goal.at.After-entry_size-w c).Start)))
 whole c = same_whole _ _ _ _ (count c) (width c)
 
 long : (s : goal.Start) → s.args.len ≡ length (body (both s))
@@ -62,5 +62,5 @@ returns c =
     let k = c in
     let s = k in
     c.entries_ok.ensures
-    ∙ ap (λ (x : ℕ). entries_ok k.u16_at-n.result k.entry_size-w.result (take x (drop 24 (both (goal.at.returns c).Start)))) s.requires.1
+    ∙ ap (λ (x : ℕ). entries_ok k.at-n.result k.entry_size-w.result (take x (drop 24 (both (goal.at.returns c).Start)))) s.requires.1
     ∙ m102_entries _ _ _ (sym (fixed (goal.at.returns c).After-m102_fixed_ok) ∙ c.if-not-m102_fixed_ok.false) (eq-eqb _ _ (sym (long (goal.at.returns c).Start) ∙ c.if-len-n.false ∙ whole (goal.at.returns c).After-entry_size-w)) (count (goal.at.returns c).After-entry_size-w) (width (goal.at.returns c).After-entry_size-w)

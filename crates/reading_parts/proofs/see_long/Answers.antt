@@ -15,20 +15,20 @@ use Rattle.reading_parts.proofs.see_long.Goals.{After-fields_ok, After-is_real, 
 abbrev both : goal.Start → List ℕ
 both s = s.args.first.now ++ s.args.second.now
 
-len_is : (c : goal.After-u32_at-len) → c.u32_at-len.result ≡ body_length (both (goal.at.After-u32_at-len c).Start)
-len_is c = c.u32_at-len.ensures ∙ in_front _ _ c.requires 4 20 (omega arith)
+len_is : (c : goal.After-u32_at-len) → c.at-len.result ≡ body_length (both (goal.at.After-u32_at-len c).Start)
+len_is c = c.at-len.ensures ∙ in_front _ _ c.requires 4 20 (omega arith)
 
-there : (c : goal.After-u32_at-len) → 24 + c.u32_at-len.result + 4 ≤ length (both (goal.at.After-u32_at-len c).Start)
+there : (c : goal.After-u32_at-len) → 24 + c.at-len.result + 4 ≤ length (both (goal.at.After-u32_at-len c).Start)
 there c = omega (arith, len_is c, c.requires.whole.there)
 
 right : (c : goal.Else-stored-v) → check_sum (both (goal.at.Else-stored-v c).Start) ≡ sum8 (plain (both (goal.at.Else-stored-v c).Start))
 right c = summed _ c.requires.whole _ _ _ (len_is (goal.at.Else-stored-v c).After-u32_at-len) c.stored_at-stored.ensures c.sum_of-v.ensures c.if-stored-v.false
 
 real : (c : goal.After-is_real) → c.is_real.result ≡ real_time (sending_time (both (goal.at.After-is_real c).Start))
-real c = c.is_real.ensures ∙ ap real_time (c.u64_at.ensures ∙ in_front _ _ c.requires 8 4 (omega arith))
+real c = c.is_real.ensures ∙ ap real_time (c.at.ensures ∙ in_front _ _ c.requires 8 4 (omega arith))
 
-type_is : (c : goal.After-u32_at-msg_type) → c.u32_at-msg_type.result ≡ msg_type (both (goal.at.After-u32_at-msg_type c).Start)
-type_is c = c.u32_at-msg_type.ensures ∙ in_front _ _ c.requires 4 0 (omega arith)
+type_is : (c : goal.After-u32_at-msg_type) → c.at-msg_type.result ≡ msg_type (both (goal.at.After-u32_at-msg_type c).Start)
+type_is c = c.at-msg_type.ensures ∙ in_front _ _ c.requires 4 0 (omega arith)
 
 kind : (c : goal.After-kind_of-kind) → c.kind_of-kind.result ≡ kind_of (msg_type (both (goal.at.After-kind_of-kind c).Start))
 kind c = kind_is _ _ c.kind_of-kind.ensures ∙ ap kind_of (type_is (goal.at.After-kind_of-kind c).After-u32_at-msg_type)
@@ -63,7 +63,7 @@ returns c =
     let s = k in
     let n = c in
     seen_fine _ s.requires.whole (right (goal.at.returns c).Else-stored-v) _ _ _ _ c.view_of-view.result (type_is (goal.at.returns c).After-u32_at-msg_type)
-    (ap (λ (x : SessionNumber). x.0) n.new-seq.ensures ∙ n.u64_at-2.ensures ∙ in_front _ _ s.requires 8 12 (omega arith))
+    (ap (λ (x : SessionNumber). x.0) n.new-seq.ensures ∙ n.at-2.ensures ∙ in_front _ _ s.requires 8 12 (omega arith))
     (len_is (goal.at.returns c).After-u32_at-len)
     (kind (goal.at.returns c).After-kind_of-kind)
     (c.view_of-view.ensures ∙ view_lent _ _ s.requires _)

@@ -7,4 +7,4 @@ pub returns-then-begun-lt24 : goal.returns-then-begun-lt24
 returns-then-begun-lt24 c = sym (wanted_header _ c.if-begun-lt24.true)
 
 pub returns : goal.returns
-returns c = ap (λ (x : ℕ). 28 + x) c.u32_at.ensures ∙ sym (wanted_frame _ c.if-begun-lt24.false)
+returns c = ap (λ (x : ℕ). 28 + x) c.at.ensures ∙ sym (wanted_frame _ c.if-begun-lt24.false)

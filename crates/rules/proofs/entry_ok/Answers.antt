@@ -6,4 +6,4 @@ use Rattle.rules.proofs.entry_ok.Goals as goal
 
 pub returns : goal.returns
 unfolding entry_ok
-returns c = rw (c.u64_at-price.ensures, c.u64_at-size.ensures, c.u8_at-position.ensures)
+returns c = rw (c.at-price.ensures, c.at-size.ensures, c.at-position.ensures)

@@ -4,4 +4,4 @@ use borrow.Author.Rules.{rules}
 use Rattle.rules.proofs.m102_fixed_ok.Goals as goal
 
 pub returns : goal.returns
-returns c = same_both _ _ _ _ _ _ _ c.pair_ok-pair.ensures c.u8_at.ensures c.u40_at.ensures c.m102_values_ok-values.ensures
+returns c = same_both _ _ _ _ _ _ _ c.pair_ok-pair.ensures c.at.ensures c.letters_at.ensures c.m102_values_ok-values.ensures

@@ -15,29 +15,29 @@ use borrow.Author.Rules.{rules}
 use Rattle.rules.proofs.m102_ok.Goals as goal
 use Rattle.rules.proofs.m102_ok.Goals.{After-entry_size-w, Else-not-m102_fixed_ok, Else-w-eq10}
 
-small : (c : goal.After-entry_size-w) → c.u16_at-n.result * c.entry_size-w.result ≤ 65535 * 19
-small c = entries_small c.u16_at-n.result c.entry_size-w.result (omega arith) (omega (arith, size_small c.u40_at-stream.result, c.entry_size-w.ensures))
+small : (c : goal.After-entry_size-w) → c.at-n.result * c.entry_size-w.result ≤ 65535 * 19
+small c = entries_small c.at-n.result c.entry_size-w.result (omega arith) (omega (arith, size_small c.letters_at-stream.result, c.entry_size-w.ensures))
 
 -- the width, the count and the whole length, as the definition has them
 width : (c : goal.After-entry_size-w) → c.entry_size-w.result ≡ entry_size (be 5 10 c.args.b.now)
-width c = c.entry_size-w.ensures ∙ ap entry_size c.u40_at-stream.ensures
+width c = c.entry_size-w.ensures ∙ ap entry_size c.letters_at-stream.ensures
 
-whole : (c : goal.After-entry_size-w) → 73 + c.u16_at-n.result * c.entry_size-w.result ≡ 73 + be 2 71 c.args.b.now * entry_size (be 5 10 c.args.b.now)
-whole c = same_whole _ _ _ _ c.u16_at-n.ensures (width c)
+whole : (c : goal.After-entry_size-w) → 73 + c.at-n.result * c.entry_size-w.result ≡ 73 + be 2 71 c.args.b.now * entry_size (be 5 10 c.args.b.now)
+whole c = same_whole _ _ _ _ c.at-n.ensures (width c)
 
 -- behind all tests
 passed : (c : goal.Else-not-m102_fixed_ok) → eqb (length c.args.b.now) (73 + be 2 71 c.args.b.now * entry_size (be 5 10 c.args.b.now)) ≡ true
 passed c = eq-eqb _ _ (c.if-b-n.false ∙ whole (record { before = c.before.before.before.before; type_inv = record { b = c.shared_slice_known-1.given } }))
 
 -- where an entry has w bytes they fill the body
-filled : (c : goal.Else-not-m102_fixed_ok) (w : ℕ) → c.entry_size-w.result ≡ w → length c.args.b.now ≡ 73 + c.u16_at-n.result * w
-filled c w e = c.if-b-n.false ∙ ap (λ (x : ℕ). 73 + c.u16_at-n.result * x) e
+filled : (c : goal.Else-not-m102_fixed_ok) (w : ℕ) → c.entry_size-w.result ≡ w → length c.args.b.now ≡ 73 + c.at-n.result * w
+filled c w e = c.if-b-n.false ∙ ap (λ (x : ℕ). 73 + c.at-n.result * x) e
 
 -- and they alone decide
-decides : (c : goal.Else-not-m102_fixed_ok) (w : ℕ) → c.entry_size-w.result ≡ w → entries_ok c.u16_at-n.result w c.args.b.now ≡ m102_ok c.args.b.now
+decides : (c : goal.Else-not-m102_fixed_ok) (w : ℕ) → c.entry_size-w.result ≡ w → entries_ok c.at-n.result w c.args.b.now ≡ m102_ok c.args.b.now
 decides c w e =
     let k = c in
-    m102_entries _ _ w (sym c.m102_fixed_ok.ensures ∙ c.if-not-m102_fixed_ok.false) (passed c) k.u16_at-n.ensures (sym e ∙ width (record { before = c.before.before.before.before; type_inv = record { b = c.shared_slice_known-1.given } }))
+    m102_entries _ _ w (sym c.m102_fixed_ok.ensures ∙ c.if-not-m102_fixed_ok.false) (passed c) k.at-n.ensures (sym e ∙ width (record { before = c.before.before.before.before; type_inv = record { b = c.shared_slice_known-1.given } }))
 
 nineteen : (c : goal.Else-w-eq10) → c.entry_size-w.result ≡ 19
 nineteen c = let k = c in wide_other _ (rw k.entry_size-w.ensures (size_wide _)) c.if-w-eq10.false

@@ -6,4 +6,4 @@ use Rattle.rules.proofs.m102_values_ok.Goals as goal
 
 pub returns : goal.returns
 unfolding m102_values_ok
-returns c = rw (c.u8_at-trad_ses_mode.ensures, c.u32_at-trade_date.ensures, c.u32_at-last_update_time.ensures, c.u64_at-pre_close_px.ensures, c.u64_at-total_volume_traded.ensures, c.u64_at-num_trades.ensures, c.u64_at-total_value_traded.ensures)
+returns c = rw (c.at-trad_ses_mode.ensures, c.at-trade_date.ensures, c.at-last_update_time.ensures, c.at-pre_close_px.ensures, c.at-total_volume_traded.ensures, c.at-num_trades.ensures, c.at-total_value_traded.ensures)

@@ -8,12 +8,12 @@ pub returns : goal.returns
 unfolding m201_ok
 returns c =
     rw (
-      c.u8_at-security_type.ensures,
-      c.u16_at-channel_no.ensures,
-      c.u64_at-appl_seq_num.ensures,
-      c.u32_at-transact_time.ensures,
-      c.u8_at-exec_type.ensures,
-      c.u64_at-price.ensures,
-      c.u64_at-order_qty.ensures,
+      c.at-security_type.ensures,
+      c.at-channel_no.ensures,
+      c.at-appl_seq_num.ensures,
+      c.at-transact_time.ensures,
+      c.at-exec_type.ensures,
+      c.at-price.ensures,
+      c.at-order_qty.ensures,
       c.tail_ok-tail.ensures,
     )

@@ -6,4 +6,4 @@ use Rattle.rules.proofs.p001_ok.Goals as goal
 
 pub returns : goal.returns
 unfolding p001_ok
-returns c = rw (c.u8_at-security_type.ensures, c.u16_at-channel_no.ensures, c.u64_at-appl_last_seq_num.ensures, c.u8_at-end_of_channel.ensures)
+returns c = rw (c.at-security_type.ensures, c.at-channel_no.ensures, c.at-appl_last_seq_num.ensures, c.at-end_of_channel.ensures)

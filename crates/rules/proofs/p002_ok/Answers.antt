@@ -6,4 +6,4 @@ use Rattle.rules.proofs.p002_ok.Goals as goal
 
 pub returns : goal.returns
 unfolding p002_ok
-returns c = rw (c.u16_at-channel_no.ensures, c.u8_at-resend_type.ensures, c.u64_at-first.ensures, c.u64_at-last.ensures, c.u8_at-status.ensures)
+returns c = rw (c.at-channel_no.ensures, c.at-resend_type.ensures, c.at-first.ensures, c.at-last.ensures, c.at-status.ensures)

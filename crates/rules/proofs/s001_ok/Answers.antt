@@ -6,4 +6,4 @@ use Rattle.rules.proofs.s001_ok.Goals as goal
 
 pub returns : goal.returns
 unfolding s001_ok
-returns c = rw c.u16_at-heart_bt_int.ensures
+returns c = rw c.at-heart_bt_int.ensures

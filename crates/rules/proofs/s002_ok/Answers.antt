@@ -6,4 +6,4 @@ use Rattle.rules.proofs.s002_ok.Goals as goal
 
 pub returns : goal.returns
 unfolding s002_ok
-returns c = rw c.u32_at-session_status.ensures
+returns c = rw c.at-session_status.ensures

@@ -8,4 +8,4 @@ use Rattle.rules.proofs.tail_ok.Goals as goal
 
 pub returns : goal.returns
 unfolding tail_ok
-returns c = rw (c.suits_tail.ensures, c.layout_of-layout.ensures, c.u40_at.ensures, c.u8_at.ensures)
+returns c = rw (c.suits_tail.ensures, c.layout_of-layout.ensures, c.letters_at.ensures, c.at.ensures)

@@ -62,7 +62,7 @@ repaint_part-requires c =
           (
             lays.suits_there s.args.bytes.now s.args.at s.args.kind s.args.n s.requires.0 s.requires.1.0 s.requires.1.1,
             (
-              c.u8_at-v.ensures ∙ lays.last_is s.args.bytes.now s.args.at s.args.kind s.args.n s.requires.0 s.requires.1.0 s.requires.1.1 ∙ ap (λ (x : List ℕ). sum8 (take (24 + a.n) x)) (sym there),
+              c.at-v.ensures ∙ lays.last_is s.args.bytes.now s.args.at s.args.kind s.args.n s.requires.0 s.requires.1.0 s.requires.1.1 ∙ ap (λ (x : List ℕ). sum8 (take (24 + a.n) x)) (sym there),
               ap (λ (x : List ℕ). take 3 (drop (24 + a.n) x)) there ∙ lays.small_is s.args.bytes.now s.args.at s.args.kind s.args.n s.requires.0 s.requires.1.0 s.requires.1.1,
             ),
           ),

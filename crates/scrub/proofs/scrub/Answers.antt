@@ -59,7 +59,7 @@ repaint-requires c =
       there (goal.at.repaint-requires c).After-kind_of-kind,
       (
         read_suits _ (done (goal.at.repaint-requires c).In-Frame) _ _ (kind (goal.at.repaint-requires c).After-kind_of-kind) (is-len (goal.at.repaint-requires c).In-Frame),
-        (c.u8_at-v.ensures ∙ read_sum _ (done (goal.at.repaint-requires c).In-Frame) _ _ (kind (goal.at.repaint-requires c).After-kind_of-kind) (is-len (goal.at.repaint-requires c).In-Frame), read_small _ (done (goal.at.repaint-requires c).In-Frame) _ _ (kind (goal.at.repaint-requires c).After-kind_of-kind) (is-len (goal.at.repaint-requires c).In-Frame)),
+        (c.at-v.ensures ∙ read_sum _ (done (goal.at.repaint-requires c).In-Frame) _ _ (kind (goal.at.repaint-requires c).After-kind_of-kind) (is-len (goal.at.repaint-requires c).In-Frame), read_small _ (done (goal.at.repaint-requires c).In-Frame) _ _ (kind (goal.at.repaint-requires c).After-kind_of-kind) (is-len (goal.at.repaint-requires c).In-Frame)),
       ),
     )
 

@@ -12,7 +12,7 @@ use Rattle.stream_clean.proofs.take_here.Goals as goal
 pub returns-in-Bytes : goal.returns-in-Bytes
 returns-in-Bytes c =
     let z = c in (
-      laid_taken _ _ _ _ (sym (ap written_paper c.in-Bytes.is) ∙ z.scrub_into.ensures.0) _ (c.unjudged.ensures ∙ ap unjudged_by (c.u32_at.ensures ∙ be_here _ _ 4)),
+      laid_taken _ _ _ _ (sym (ap written_paper c.in-Bytes.is) ∙ z.scrub_into.ensures.0) _ (c.unjudged.ensures ∙ ap unjudged_by (c.at.ensures ∙ be_here _ _ 4)),
       z.scrub_into.ensures.1 ∙ into_seen _ _ _,
     )
 

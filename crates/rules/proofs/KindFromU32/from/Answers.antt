@@ -3,11 +3,11 @@
 use mathlib.Core.Path.{sym, ap}
 use Rattle.rules.specs.Table.{type_of, kind_of, kind_paper, kind_none}
 use borrow.Author.Tests.{ne_eqb}
-use Rattle.rules.proofs.kind_of.Goals as goal
+use Rattle.rules.proofs.KindFromU32.from.Goals as goal
 
-pub returns-then-t-ne48 : goal.returns-then-t-ne48
+pub returns-then-letters-ne48 : goal.returns-then-letters-ne48
 unfolding type_of
-returns-then-t-ne48 c = sym (ap kind_paper (kind_none c.args.t c.if-t-ne48.true))
+returns-then-letters-ne48 c = sym (ap kind_paper (kind_none c.args.letters c.if-letters-ne48.true))
 
 pub returns-in-1395666993 : goal.returns-in-1395666993
 unfolding type_of kind_of

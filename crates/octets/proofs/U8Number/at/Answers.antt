@@ -2,7 +2,7 @@
 use Rattle.std.proofs.Common.{arith, rules}
 use Rattle.octets.specs.Halves.{one_byte}
 use Rattle.octets.specs.Numerals.{past}
-use Rattle.octets.proofs.u8_at.Goals as goal
+use Rattle.octets.proofs.U8Number.at.Goals as goal
 
 pub returns-then-at-s : goal.returns-then-at-s
 returns-then-at-s c = rw (one_byte _ _) (search rules)
