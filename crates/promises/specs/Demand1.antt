@@ -27,8 +27,8 @@ terms_answers =
     let TickNumber-value-one-answer = terms.TickNumber-value-one-answer in
     let ChannelNumber-new-one-answer = terms.ChannelNumber-new-one-answer in
     let ChannelNumber-value-one-answer = terms.ChannelNumber-value-one-answer in
-    let Refusal-number-one-answer = terms.Refusal-number-one-answer in
-    let Verdict-number-one-answer = terms.Verdict-number-one-answer in
+    let U32FromRefusal_from_one_answer = terms.U32FromRefusal_from_one_answer in
+    let number_of_one_answer = terms.number_of_one_answer in
     named
 
 -- record

@@ -1,17 +1,11 @@
 -- Demand 1 of frames, as Demand1.antt of `promises` has it.
-use Rattle.std.specs.Prelude.{ℕ, zero, suc, refl, List}
-use Rattle.terms.specs.declared.Refusal.TheVariants.{Place}
-use Rattle.octets.specs.declared.Written.{Written}
-use Rattle.octets.specs.declared.Written.TheVariants as written
+use Rattle.std.specs.Prelude.{ℕ, zero, suc, refl, List, Option, Some, None, Result, Ok, Err}
+use Rattle.terms.specs.declared.Refusal.{Refusal}
 use Rattle.octets.specs.Papers.{written_paper}
 use Rattle.frame_spec.specs.Given.{Reads}
-use Rattle.frame.specs.declared.Read.{Read}
-use Rattle.frame.specs.declared.Read.TheVariants as read
-use Rattle.frame.specs.declared.Found.{Found}
-use Rattle.frame.specs.declared.Found.TheVariants as found
+use Rattle.frame.specs.declared.Header.{Header}
 use Rattle.frame.specs.Papers.{read_paper, found_paper}
-use Rattle.entries.specs.declared.Answer.{Answer as EntryAnswer}
-use Rattle.entries.specs.declared.Answer.TheVariants as entry
+use Rattle.entries.specs.declared.Entry.{Entry}
 use Rattle.entries.specs.declared.Entry.TheVariants as an
 use Rattle.entries.specs.Papers.{answer_paper}
 use Rattle.octets.proofs.OneAnswer as octets
@@ -158,23 +152,23 @@ broken_answers =
 
 -- "AND REFUSES WHAT IT CAN'T USE WITH A NUMBER FROM DOCUMENT 01"
 
-pub read_numbered : (x : Read) → Numbered (read_paper x).number
-read_numbered (read.Frame t time q n) = done refl
-read_numbered (read.Refused w) = refused (refusal_in_table w)
+pub read_numbered : (x : Result Header Refusal) → Numbered (read_paper x).number
+read_numbered (Ok h) = done refl
+read_numbered (Err w) = refused (refusal_in_table w)
 
-pub written_numbered : (x : Written) → Numbered (written_paper x).number
-written_numbered (written.Bytes n) = done refl
-written_numbered (written.Refused w) = refused (refusal_in_table w)
+pub written_numbered : (x : Result ℕ Refusal) → Numbered (written_paper x).number
+written_numbered (Ok n) = done refl
+written_numbered (Err w) = refused (refusal_in_table w)
 
-pub found_numbered : (x : Found) → Numbered (found_paper x).number
-found_numbered (found.At p) = done refl
-found_numbered found.Nothing = done refl
-found_numbered found.Beyond = refused (refusal_in_table Place)
+pub found_numbered : (x : Result (Option ℕ) Refusal) → Numbered (found_paper x).number
+found_numbered (Ok (Some p)) = done refl
+found_numbered (Ok None) = done refl
+found_numbered (Err w) = refused (refusal_in_table w)
 
-pub entry_numbered : (x : EntryAnswer) → Numbered (answer_paper x).number
-entry_numbered (entry.Done (an.Short kind price)) = done refl
-entry_numbered (entry.Done (an.Long kind price size position)) = done refl
-entry_numbered (entry.Refused w) = refused (refusal_in_table w)
+pub entry_numbered : (x : Result Entry Refusal) → Numbered (answer_paper x).number
+entry_numbered (Ok (an.Short kind price)) = done refl
+entry_numbered (Ok (an.Long kind price size position)) = done refl
+entry_numbered (Err w) = refused (refusal_in_table w)
 
 -- what reading answers
 pub reads_numbered : (n : ℕ) (s : List ℕ) → Reads n s → Numbered n

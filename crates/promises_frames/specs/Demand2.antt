@@ -1,16 +1,15 @@
 -- Demand 2, sentence by sentence, of whatever the functions may answer by their promises. A list of
 -- bytes has numbers below 256 (`Bytes`), and a message's numbers fit their widths (`Widths`): both
 -- hold of every value that the code can pass.
-use Rattle.std.specs.Prelude.{ℕ, ◌+◌, ◌-◌, ◌<◌, ◌≤◌, ◌≡◌, refl, ◌↔◌, List, [], ◌∷◌, length, take, drop, get_or}
+use Rattle.std.specs.Prelude.{ℕ, ◌+◌, ◌-◌, ◌<◌, ◌≤◌, ◌≡◌, refl, ◌↔◌, List, [], ◌∷◌, length, take, drop, get_or, Option, Result, Ok}
 use Rattle.std.proofs.Common.{sym, ap, ◌∙◌, ⊎_elim, arith, get_or-drop}
 use Rattle.terms.specs.Paper.{Paper, answer, one_number}
 use Rattle.terms.specs.declared.SessionNumber.{SessionNumber}
+use Rattle.terms.specs.declared.Refusal.{Refusal}
 use Rattle.octets.specs.Octets.{sum8, Bytes}
-use Rattle.octets.specs.declared.Written.{Written}
 use Rattle.octets.specs.Papers.{written_paper}
 use Rattle.rules.specs.Table.{kind_of}
-use Rattle.frame.specs.declared.Read.{Read}
-use Rattle.frame.specs.declared.Read.TheVariants.{Frame}
+use Rattle.frame.specs.declared.Header.{Header}
 use Rattle.frame_spec.specs.Outcomes.{good, good_reads}
 use Rattle.frame_spec.specs.Frame.{msg_type, sending_time, msg_seq_num, body_length, body, plain, check_sum, read_of, body_read}
 use Rattle.frame_spec.specs.Given.{Reads, Reads0}
@@ -24,10 +23,9 @@ use Rattle.private.specs.Laws.{refused_same}
 use Rattle.private.proofs.Laws.{scrub_number, scrub_length, scrub_keeps, scrub_fills, scrub_reads, scrub_sum, answer_as}
 use Rattle.private.specs.PrivateLaws.{PrivateByte}
 use Rattle.private.proofs.PrivateLaws.{private_is}
-use Rattle.frame.specs.declared.Found.{Found}
 use Rattle.frame.specs.Papers.{found_paper}
 use Rattle.frame_spec.specs.Lowest.{ReadsAt, LowestPlace, search_given_place, search_given_none, search_given_9}
-use Rattle.promises_frames.specs.Calls.{ReadCall, BodyCall, WriteCall, SearchCall, ScrubCall}
+use Rattle.promises_frames.specs.Calls.{header, ReadCall, BodyCall, WriteCall, SearchCall, ScrubCall}
 
 -- the bytes from a place on are bytes
 small_drop : (at : ℕ) (s : List ℕ) → Bytes s → Bytes (drop at s)
@@ -35,11 +33,11 @@ small_drop at s small i = rw (get_or-drop at s i 0) (small (at + i))
 
 -- "A frame reads exactly if it meets IS120 0.62 as document 01 sets it out." And each refusal is
 -- given exactly when its row says.
-pub record ReadsExactly (bytes : List ℕ) (at : ℕ) (x : Read) : Type 0 where
+pub record ReadsExactly (bytes : List ℕ) (at : ℕ) (x : Result Header Refusal) : Type 0 where
   pub meets : ((read_paper x).number ≡ 0) ↔ Reads0 (drop at bytes)
   pub each_number : (n : ℕ) → ((read_paper x).number ≡ n) ↔ Reads n (drop at bytes)
 
-pub reads_exactly : (bytes : List ℕ) (at : ℕ) (x : Read) → ReadCall bytes at x → ReadsExactly bytes at x
+pub reads_exactly : (bytes : List ℕ) (at : ℕ) (x : Result Header Refusal) → ReadCall bytes at x → ReadsExactly bytes at x
 reads_exactly bytes at x r =
     record {
       meets = rw r.paper (read_given_0 (drop at bytes));
@@ -47,12 +45,12 @@ reads_exactly bytes at x r =
     }
 
 -- "Writing what was read gives the same bytes"
-pub record SameBytes (bytes : List ℕ) (at n : ℕ) (x : Written) (left : List ℕ) : Type 0 where
+pub record SameBytes (bytes : List ℕ) (at n : ℕ) (x : Result ℕ Refusal) (left : List ℕ) : Type 0 where
   pub answered : written_paper x ≡ answer 0 ((28 + n) ∷ [])
   pub bytes_same : take (28 + n) left ≡ take (28 + n) (drop at bytes)
 
 -- what the values of a frame that was read are: the message at its place
-module _ (bytes : List ℕ) (at t time : ℕ) (q : SessionNumber) (n : ℕ) (r : ReadCall bytes at (Frame t time q n)) where
+module _ (bytes : List ℕ) (at t time : ℕ) (q : SessionNumber) (n : ℕ) (r : ReadCall bytes at (Ok (header t time q n))) where
   abbrev here : List ℕ
   here = drop at bytes
 
@@ -70,7 +68,7 @@ module _ (bytes : List ℕ) (at t time : ℕ) (q : SessionNumber) (n : ℕ) (r :
       let e : b ≡ body here = p.part ∙ body_of here reads_0 in
       rw (value 0, value 1, value 2, e)
 
-  pub same_bytes : Bytes bytes → (b out left : List ℕ) (x : Written) → BodyCall bytes at b → WriteCall (message t time q.0 b) out x left → 28 + n ≤ length out
+  pub same_bytes : Bytes bytes → (b out left : List ℕ) (x : Result ℕ Refusal) → BodyCall bytes at b → WriteCall (message t time q.0 b) out x left → 28 + n ≤ length out
       → SameBytes bytes at n x left
   same_bytes small b out left x p w room =
       let m = as_read b p in
@@ -82,25 +80,25 @@ module _ (bytes : List ℕ) (at t time : ℕ) (q : SessionNumber) (n : ℕ) (r :
       }
 
 -- "and reading what was written the same message"
-pub record SameMessage (t time : ℕ) (q : SessionNumber) (b : List ℕ) (y : Read) (c : List ℕ) : Type 0 where
-  pub values_same : y ≡ Frame t time q (length b)
+pub record SameMessage (t time : ℕ) (q : SessionNumber) (b : List ℕ) (y : Result Header Refusal) (c : List ℕ) : Type 0 where
+  pub values_same : y ≡ Ok (header t time q (length b))
   pub body_same : c ≡ b
 
-pub same_message : (t time : ℕ) (q : SessionNumber) (b out left : List ℕ) (x : Written) → Widths (message t time q.0 b)
-    → WriteCall (message t time q.0 b) out x left → (written_paper x).number ≡ 0 → (y : Read) (c : List ℕ) → ReadCall left 0 y → BodyCall left 0 c
+pub same_message : (t time : ℕ) (q : SessionNumber) (b out left : List ℕ) (x : Result ℕ Refusal) → Widths (message t time q.0 b)
+    → WriteCall (message t time q.0 b) out x left → (written_paper x).number ≡ 0 → (y : Result Header Refusal) (c : List ℕ) → ReadCall left 0 y → BodyCall left 0 c
     → SameMessage t time q b y c
 same_message t time q b out left x widths w z y c r p =
     let m = message t time q.0 b in
     let done : (write_of m (length out)).number ≡ 0 = sym (one_number w.paper) ∙ z in
     record {
-      values_same = read_one y (Frame t time q (length b)) (r.paper ∙ ap read_of w.buffer ∙ write_then_read m out widths done);
+      values_same = read_one y (Ok (header t time q (length b))) (r.paper ∙ ap read_of w.buffer ∙ write_then_read m out widths done);
       body_same = p.part ∙ ap body_read w.buffer ∙ write_then_body m out widths done;
     }
 
 -- "A scrubbed frame reads, holds the fill in each private field and a checksum set anew, and has
 -- every other byte of the original." PrivateByte has the places outright: 0 to 63 of an S001's
 -- body, 4 to 259 of an S002's, 20 to 51 of a P002's, 45 to the end of an M201's.
-pub record ScrubbedFrame (buf left : List ℕ) (x : Written) : Type 0 where
+pub record ScrubbedFrame (buf left : List ℕ) (x : Result ℕ Refusal) : Type 0 where
   pub answered : written_paper x ≡ answer 0 ((28 + body_length buf) ∷ [])
   pub reads : read_of left ≡ read_of buf
   pub fills : (i : ℕ) → i < body_length buf → PrivateByte (kind_of (msg_type buf)) (body buf) i → get_or left (24 + i) 0 ≡ 0x20
@@ -108,7 +106,7 @@ pub record ScrubbedFrame (buf left : List ℕ) (x : Written) : Type 0 where
   pub others : (i : ℕ) → ((24 ≤ i) → PrivateByte (kind_of (msg_type buf)) (body buf) (i - 24) → ⊥) → ((24 + body_length buf ≤ i) → i < 28 + body_length buf → ⊥) → get_or left i 0 ≡ get_or buf i 0
   pub long : length left ≡ length buf
 
-pub scrubbed_frame : (buf left : List ℕ) (x : Written) → ScrubCall buf x left → (read_of buf).number ≡ 0 → ScrubbedFrame buf left x
+pub scrubbed_frame : (buf left : List ℕ) (x : Result ℕ Refusal) → ScrubCall buf x left → (read_of buf).number ≡ 0 → ScrubbedFrame buf left x
 scrubbed_frame buf left x c z =
     let k = kind_of (msg_type buf) in
     record {
@@ -122,21 +120,21 @@ scrubbed_frame buf left x c z =
     }
 
 -- what does not read is passed on as it stands, with reading's number
-pub record PassedOn (buf left : List ℕ) (x : Written) : Type 0 where
+pub record PassedOn (buf left : List ℕ) (x : Result ℕ Refusal) : Type 0 where
   pub number : (written_paper x).number ≡ (read_of buf).number
   pub same : left ≡ buf
 
-pub passed_on : (buf left : List ℕ) (x : Written) → ScrubCall buf x left → ((read_of buf).number ≡ 0 → ⊥) → PassedOn buf left x
+pub passed_on : (buf left : List ℕ) (x : Result ℕ Refusal) → ScrubCall buf x left → ((read_of buf).number ≡ 0 → ⊥) → PassedOn buf left x
 passed_on buf left x c n = record { number = one_number c.paper ∙ scrub_number buf; same = c.buffer ∙ refused_same buf n }
 
 -- The search rule (document 01, Search): the lowest place from the start on where a frame reads, or
 -- none; 9 for a start beyond the end.
-pub record FindsLowest (bytes : List ℕ) (from : ℕ) (x : Found) : Type 0 where
+pub record FindsLowest (bytes : List ℕ) (from : ℕ) (x : Result (Option ℕ) Refusal) : Type 0 where
   pub place : from ≤ length bytes → (p : ℕ) → (found_paper x ≡ answer 0 (p ∷ [])) ↔ LowestPlace bytes from p
   pub none : from ≤ length bytes → (found_paper x ≡ answer 0 []) ↔ ((j : ℕ) → from ≤ j → ReadsAt bytes j → ⊥)
   pub beyond : ((found_paper x).number ≡ 9) ↔ (length bytes < from)
 
-pub finds_lowest : (bytes : List ℕ) (from : ℕ) (x : Found) → SearchCall bytes from x → FindsLowest bytes from x
+pub finds_lowest : (bytes : List ℕ) (from : ℕ) (x : Result (Option ℕ) Refusal) → SearchCall bytes from x → FindsLowest bytes from x
 finds_lowest bytes from x r =
     record {
       place = λ h p. rw r.paper (search_given_place bytes from p h);

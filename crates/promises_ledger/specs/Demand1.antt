@@ -1,23 +1,17 @@
 -- Demand 1 of the ledger, sentence by sentence, as Demand1.antt of `promises` has it.
-use Rattle.std.specs.Prelude.{ℕ, max, ◌≡◌, refl, true, false}
+use Rattle.std.specs.Prelude.{ℕ, max, ◌≡◌, refl, true, false, ⊤, Result, Ok, Err}
 use Rattle.terms.specs.Counters.{tick_of}
 use Rattle.terms.specs.Paper.{Paper}
 use Rattle.ledger.specs.declared.Ledger.{Ledger}
-use Rattle.ledger.specs.declared.Answer.{Answer}
-use Rattle.ledger.specs.declared.Answer.TheVariants as plain
-use Rattle.ledger.specs.declared.TickAnswer.{TickAnswer}
-use Rattle.ledger.specs.declared.TickAnswer.TheVariants as tick
-use Rattle.ledger.specs.declared.RequestAnswer.{RequestAnswer}
-use Rattle.ledger.specs.declared.RequestAnswer.TheVariants as request
-use Rattle.terms.specs.declared.TickNumber.{TickNumber}
-use Rattle.tick_map.specs.declared.Map.{Map}
-use Rattle.ledger.specs.declared.ReplyAnswer.{ReplyAnswer}
-use Rattle.ledger.specs.declared.ReplyAnswer.TheVariants as reply
+use Rattle.terms.specs.declared.Refusal.{Refusal}
+use Rattle.ledger.specs.declared.Passed.{Passed}
+use Rattle.ledger.specs.declared.Range.{Range}
+use Rattle.ledger.specs.declared.Settled.{Settled}
 use Rattle.ledger_spec.specs.State.{Book}
 use Rattle.ledger_spec.specs.Calls.{Call, Tick, offered, answer_to, next_of}
 use Rattle.ledger_spec.specs.Answers.{OnlyTop}
 use Rattle.ledger_spec.proofs.Answers.{keeps}
-use Rattle.ledger.specs.Papers.{tick_paper, request_paper, reply_paper, paper_of}
+use Rattle.ledger.specs.Papers.{tick_paper, request_paper, reply_paper, count_paper, paper_of}
 use Rattle.ledger.specs.Trace.{Promise}
 use Rattle.ledger_spec.specs.Words.{answered}
 use Rattle.ledger.proofs.Promised.{refused_gives_back, far_raises_top}
@@ -87,22 +81,27 @@ host_ledger_answers =
 
 -- "AND REFUSES WHAT IT CAN'T USE WITH A NUMBER FROM DOCUMENT 01"
 
-pub tick_numbered : (x : TickAnswer) → Numbered (tick_paper x).number
-tick_numbered (tick.Passed first count) = done refl
-tick_numbered (tick.Refused w) = refused (refusal_in_table w)
+pub tick_numbered : (x : Result Passed Refusal) → Numbered (tick_paper x).number
+tick_numbered (Ok p) = done refl
+tick_numbered (Err w) = refused (refusal_in_table w)
 
-pub request_numbered : (x : RequestAnswer) → Numbered (request_paper x).number
-request_numbered (request.Granted first last) = done refl
-request_numbered (request.Refused w) = refused (refusal_in_table w)
+pub request_numbered : (x : Result Range Refusal) → Numbered (request_paper x).number
+request_numbered (Ok r) = done refl
+request_numbered (Err w) = refused (refusal_in_table w)
 
-pub reply_numbered : (x : ReplyAnswer) (first : TickNumber) (given_up passed : Map) → Numbered (reply_paper x first given_up passed).number
-reply_numbered reply.Cleared first given_up passed = done refl
-reply_numbered (reply.Refused w) first given_up passed = refused (refusal_in_table w)
+pub reply_numbered : (x : Result Settled Refusal) → Numbered (reply_paper x).number
+reply_numbered (Ok s) = done refl
+reply_numbered (Err w) = refused (refusal_in_table w)
 
--- opening, announcing, the counts; and the walk, and cleaning
-pub plain_numbered : (x : Answer) → Numbered (paper_of x).number
-plain_numbered plain.Done = done refl
-plain_numbered (plain.Refused w) = refused (refusal_in_table w)
+-- the counts
+pub count_numbered : (x : Result ℕ Refusal) → Numbered (count_paper x).number
+count_numbered (Ok n) = done refl
+count_numbered (Err w) = refused (refusal_in_table w)
+
+-- opening, announcing, a new session; and the walk, and cleaning
+pub plain_numbered : (x : Result ⊤ Refusal) → Numbered (paper_of x).number
+plain_numbered (Ok tt) = done refl
+plain_numbered (Err w) = refused (refusal_in_table w)
 
 -- "A REFUSAL WRITES NOTHING INTO A LENT BUFFER"
 

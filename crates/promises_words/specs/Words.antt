@@ -1,14 +1,12 @@
 -- What the promises are said in, in `promises` and the crates beside it.
-use Rattle.std.specs.Prelude.{ℕ, ◌≡◌, refl, Bool, true, false, ◌&&◌, ◌||◌, List, leb}
+use Rattle.std.specs.Prelude.{ℕ, ◌≡◌, refl, Bool, true, false, ◌&&◌, ◌||◌, List, leb, Result, Ok, Err}
 use contract.Lifetimes.{Lfts}
 use borrow.Fn.Kinds.{ParamKind, ResultKind, Dens, res_t, ended_of, Out}
 use denote.Triple.Clauses.{AtExit}
 use Rattle.terms.specs.Paper.{Paper, pick}
 use Rattle.terms.specs.Refusals.{number_of}
 use Rattle.terms.specs.declared.Refusal.{Refusal}
-use Rattle.terms.specs.declared.Refusal.TheVariants.{More, MsgType, Long, Length, Sum, Field, Time, Room, Place, Range, Repeat, Far, State, Busy, Whole, Unasked, Status, Channel, Closed, Entries, Places, Early, Sequence, Over, Again}
-use Rattle.terms.specs.declared.Verdict.{Verdict}
-use Rattle.terms.specs.declared.Verdict.TheVariants as verdict
+use Rattle.terms.specs.declared.Refusal.TheVariants.{More, MsgType, Long, Length, Sum, Field, Time, Room, Place, Range, Repeat, Far, State, Busy, Whole, Unasked, Status, Channel, Closed, Entries, Full, Open, Captures, Sums, Places, Early, Sequence, Over, Again}
 use Rattle.terms.specs.Verdicts.{verdict_number}
 use Rattle.host_words.specs.Told.{Tells}
 
@@ -48,6 +46,10 @@ refusal_in_table Status = refl
 refusal_in_table Channel = refl
 refusal_in_table Closed = refl
 refusal_in_table Entries = refl
+refusal_in_table Full = refl
+refusal_in_table Open = refl
+refusal_in_table Captures = refl
+refusal_in_table Sums = refl
 refusal_in_table Places = refl
 refusal_in_table Early = refl
 refusal_in_table Sequence = refl
@@ -59,10 +61,10 @@ pub data Numbered : ℕ → Type 0 where
   done : {n : ℕ} → n ≡ 0 → Numbered n
   refused : {n : ℕ} → in_table n ≡ true → Numbered n
 
--- the checks of a message
-pub verdict_numbered : (x : Verdict) → Numbered (verdict_number x)
-verdict_numbered verdict.Fine = done refl
-verdict_numbered (verdict.Refused w) = refused (refusal_in_table w)
+-- an answer, whatever it holds: the checks of a message, and every call that refuses
+pub verdict_numbered : {T : Type 0} (x : Result T Refusal) → Numbered (verdict_number x)
+verdict_numbered (Ok v) = done refl
+verdict_numbered (Err w) = refused (refusal_in_table w)
 
 -- a choice between two numbers, and between two papers
 pub picked : (b : Bool) (m n : ℕ) → Numbered m → Numbered n → Numbered (pick b m n)

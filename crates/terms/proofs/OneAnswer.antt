@@ -39,8 +39,8 @@ ChannelNumber-new-one-answer κs a x y s t p q = p ∙ sym q
 pub ChannelNumber-value-one-answer : OneAnswer _ channel-value-kinds.ps channel-value-kinds.r channel-value.Post
 ChannelNumber-value-one-answer κs a x y s t p q = p ∙ sym q
 
-pub Refusal-number-one-answer : OneAnswer _ number-kinds.ps number-kinds.r number.Post
-Refusal-number-one-answer κs a x y s t p q = p ∙ sym q
+pub U32FromRefusal_from_one_answer : OneAnswer _ number-kinds.ps number-kinds.r number.Post
+U32FromRefusal_from_one_answer κs a x y s t p q = p ∙ sym q
 
 -- whatever the answer holds
 module _ (T : RattleType) (laws : Laws T) (drops : Dict) where

@@ -60,8 +60,8 @@ pub ChannelNumber-value-rules-out : RulesOut (Kept _ channel-value-kinds.ps chan
 ChannelNumber-value-rules-out = ruled numbers (λ n. n) (λ c p. p) _ refl
 
 -- REFUSALS: a refusal, and a number
-abbrev pub Refusal-number-wrong : List (Row Refusal ℕ)
-Refusal-number-wrong =
+abbrev pub U32FromRefusal_from_wrong : List (Row Refusal ℕ)
+U32FromRefusal_from_wrong =
     Sum only 5  -- not counted from 0
     ∷ Field never 5  -- two refusals with one number
     ∷ Time only 7  -- not 6 or 8, which are others'
@@ -78,8 +78,8 @@ Refusal-number-wrong =
     ∷ Again never 32  -- a second logon told as the end
     ∷ []
 
-pub Refusal-number-rules-out : RulesOut (Kept _ number-kinds.ps number-kinds.r number.Post) (λ c. c.args.0) (λ c. c.result) Refusal-number-wrong
-Refusal-number-rules-out = ruled numbers number_of (λ c p. p) _ refl
+pub U32FromRefusal_from_rules_out : RulesOut (Kept _ number-kinds.ps number-kinds.r number.Post) (λ c. c.args.0) (λ c. c.result) U32FromRefusal_from_wrong
+U32FromRefusal_from_rules_out = ruled numbers number_of (λ c p. p) _ refl
 
 -- an answer, whatever it holds, and its number
 module _ (T : RattleType) (laws : Laws T) (drops : Dict) (held : T.Denot) where
