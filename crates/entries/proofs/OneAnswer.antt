@@ -1,7 +1,7 @@
 -- For each public function: two answers that its promise allows are equal. A function that takes or
 -- gives a reader has no `Post` of the checker's: it promises one relation of specs/ and nothing
 -- else, and the theorem is over that relation. Assumes nothing.
-use Rattle.std.proofs.Common.{◌≡◌, ℕ, List, sym, ap, ◌∙◌, Result, Ok, Err, IfOk, Bor}
+use Rattle.std.proofs.Common.{◌≡◌, ℕ, List, sym, ap, ◌∙◌, Result, Ok, Err, IfOk, Option, Some, None, Bor, refl}
 use Rattle.terms.specs.OneAnswer.{OneAnswer}
 use Rattle.terms.specs.declared.Refusal.{Refusal}
 use Rattle.terms.specs.Verdicts.{verdict_number}
@@ -10,8 +10,7 @@ use Rattle.terms.proofs.Refusals.{refusal_one}
 use Rattle.terms.proofs.Verdicts.{verdict_one}
 use Rattle.entries.specs.declared.Entries.{Entries}
 use Rattle.entries.specs.declared.Entry.{Entry}
-use Rattle.entries.specs.declared.Found.{Found}
-use Rattle.entries.specs.Papers.{answer_one, step_one}
+use Rattle.entries.specs.Papers.{answer_of, answer_one, step_one}
 use Rattle.entries.specs.Reader.{reader, Opens, Steps}
 use Rattle.entries.specs.Walks.{same_reader}
 use Rattle.entries.proofs.open_at.Reads as open_at
@@ -42,3 +41,19 @@ step_one_answer d x y e f p q = (
 
 pub step_from_one_answer : OneAnswer _ step-from-kinds.ps step-from-kinds.r step_from.Post
 step_from_one_answer κs a x y s t p q = step_one _ x y (p.answered ∙ sym q.answered) p.behind q.behind
+
+-- as an iterator
+given : Result Entry Refusal → Option Entry
+given (Ok e) = Some e
+given (Err w) = None
+
+given_again : (x : Option Entry) → given (answer_of x) ≡ x
+unfolding given
+given_again (Some e) = refl
+given_again None = refl
+
+answer_of_one : (x y : Option Entry) → answer_of x ≡ answer_of y → x ≡ y
+answer_of_one x y e = sym (given_again x) ∙ ap given e ∙ given_again y
+
+pub next_one_answer : (d : Entries) (x y : Option Entry) (e f : Entries) → Steps d (answer_of x) e → Steps d (answer_of y) f → (x ≡ y) × (e ≡ f)
+next_one_answer d x y e f p q = let s = step_one_answer d (answer_of x) (answer_of y) e f p q in (answer_of_one x y s.0, s.1)

@@ -2,7 +2,7 @@
 -- and what is then wrong. A function that takes or gives a reader has no `Post` of the checker's:
 -- it promises one relation of specs/ and nothing else, and the table is over that. Assumes nothing.
 use Prim.Native.Nat.{ℕ}
-use mathlib.Core.Path.{◌≡◌, refl, sym, ap, ap₂, ◌∙◌}
+use mathlib.Core.Path.{◌≡◌, refl, sym, ap₂, ◌∙◌}
 use mathlib.Core.List.{List, [], ◌∷◌}
 use denote.Ref.{Bor}
 use lib.ListN.{take}
@@ -12,7 +12,7 @@ use Rattle.terms.specs.RuledOut.{Row, ◌never◌, ◌only◌, Kept, RulesOut, r
 use Rattle.octets.specs.Octets.{numeral, digits_of}
 use Rattle.rules.specs.Bodies.{snapshot_body}
 use Rattle.rules.specs.Fields.{m102_values_ok, entry_size, entry_ok, entries_ok, m102_ok, fields_ok}
-use Rattle.std.specs.Prelude.{eqb, Result, Ok, Err, IfOk}
+use Rattle.std.specs.Prelude.{eqb, Result, Ok, Err, Option}
 use Rattle.terms.specs.declared.Refusal.{Refusal}
 use Rattle.terms.specs.Paper.{pick}
 use Rattle.terms.specs.Refusals.{number_of, refusal_not_0, refusal_pos}
@@ -20,7 +20,7 @@ use Rattle.terms.specs.Verdicts.{verdict_number}
 use Rattle.entries.specs.declared.Entries.{Entries}
 use Rattle.entries.specs.declared.Entry.{Entry}
 use Rattle.entries.specs.declared.Found.{Found}
-use Rattle.entries.specs.Papers.{answer_paper, entry_of}
+use Rattle.entries.specs.Papers.{answer_paper, answer_of, entry_of}
 use Rattle.entries.specs.Reader.{open_of, Opens, placed, stands, entry_at, step_of, place_after, Stops, Steps}
 use Rattle.entries.specs.Outcomes.{stays}
 use Rattle.entries.proofs.open_at.Reads as open_at
@@ -117,3 +117,8 @@ step_from_rules_out =
 pub step_rules_out : RulesOut (λ (c : Entries × (Result Entry Refusal × Entries)). Steps c.0 c.1.0 c.1.1) (λ c. (c.0.body.now, c.0.place)) (λ c. stop (answer_paper c.1.0) c.1.1.place) step_from_wrong
 unfolding numeral digits_of entry_size placed stands entry_at step_of place_after
 step_rules_out = ruled (beside papers numbers) (λ (i : List ℕ × ℕ). stop (step_of i.0 i.1) (place_after i.0 i.1)) (λ c p. ap₂ stop p.answered p.place) _ refl
+
+-- and as an iterator
+pub next_rules_out : RulesOut (λ (c : Entries × (Option Entry × Entries)). Steps c.0 (answer_of c.1.0) c.1.1) (λ c. (c.0.body.now, c.0.place)) (λ c. stop (answer_paper (answer_of c.1.0)) c.1.1.place) step_from_wrong
+unfolding numeral digits_of entry_size placed stands entry_at step_of place_after
+next_rules_out = ruled (beside papers numbers) (λ (i : List ℕ × ℕ). stop (step_of i.0 i.1) (place_after i.0 i.1)) (λ c p. ap₂ stop p.answered p.place) _ refl

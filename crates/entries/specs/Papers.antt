@@ -1,8 +1,9 @@
 -- Entries and the answers of a step in document 01's numbers.
-use Rattle.std.specs.Prelude.{ℕ, ◌≡◌, refl, List, [], ◌∷◌, get_or, Result, Ok, Err, IfOk}
+use Rattle.std.specs.Prelude.{ℕ, ◌≡◌, refl, List, [], ◌∷◌, get_or, Result, Ok, Err, IfOk, Option, Some, None}
 use Rattle.std.proofs.Common.{sym, ap, ◌∙◌}
 use Rattle.terms.specs.Paper.{Paper, answer, refusal}
 use Rattle.terms.specs.declared.Refusal.{Refusal}
+use Rattle.terms.specs.declared.Refusal.TheVariants.{Entries}
 use Rattle.terms.specs.Refusals.{number_of, told}
 use Rattle.terms.proofs.Refusals.{told_refused}
 use Rattle.entries.specs.declared.Entry.{Entry}
@@ -22,6 +23,11 @@ answer_paper (Err w) = refusal (number_of w)
 abbrev pub entry_of : Result Found Refusal → Result Entry Refusal
 entry_of (Ok f) = Ok f.entry
 entry_of (Err w) = Err w
+
+-- what the reader gives as an iterator: an entry, or nothing in place of 20
+abbrev pub answer_of : Option Entry → Result Entry Refusal
+answer_of (Some e) = Ok e
+answer_of None = Err Entries
 
 -- the entry with these values: a third one makes it long
 longer : ℕ → ℕ → List ℕ → Entry

@@ -2,14 +2,13 @@
 -- the one at 73 + k sizes, and every later step answers 20. By induction over the steps still to
 -- come; the invariant is that after k steps the place is 73 + k sizes.
 use Prim.Native.Nat.{ℕ, zero, suc, ◌+◌, ◌*◌, ◌<◌, ◌≤◌}
-use Rattle.std.specs.Prelude.{◌≡◌, refl, true, false, List, [], ◌∷◌, ◌++◌, map, length, get_or, replicate, Result, Ok, Err}
+use Rattle.std.specs.Prelude.{◌≡◌, refl, true, false, List, [], ◌∷◌, ◌++◌, map, length, get_or, replicate, Result, Ok}
 use Rattle.std.proofs.Common.{sym, ap, ◌∙◌, suc-mul, zero-mul, add-zero, zero-add, mul-le-mul_right, le_of_suc-le-suc, not-suc-le-zero}
 use native.Mathlib.Omega.{arith}
 use Rattle.std.specs.Borrow.{Bor}
 use Rattle.terms.specs.Paper.{Paper, refusal}
 use Rattle.octets.specs.Octets.{be}
 use Rattle.terms.specs.declared.Refusal.{Refusal}
-use Rattle.terms.specs.Refusals.{refusal_pos}
 use Rattle.terms.specs.Verdicts.{verdict_number}
 use Rattle.rules.specs.Meaning.{size_is, denied}
 use Rattle.entries.specs.declared.Entries.{Entries}
@@ -66,7 +65,7 @@ kth_stands b k l h =
 apart : (k n w : ℕ) → 0 < w → k < n → 73 + n * w ≡ 73 + k * w → ⊥
 apart k n w pos l e = omega (arith, mul-le-mul_right {m = suc k} {n = n} w l, suc-mul k w)
 
-behind : (b : List ℕ) → stands b (73 + be 2 71 b * size_in b) ≡ false
+pub behind : (b : List ℕ) → stands b (73 + be 2 71 b * size_in b) ≡ false
 behind b =
     denied (stands_says b (73 + be 2 71 b * size_in b))
     (λ r.

@@ -2,10 +2,11 @@
 // place. Its functions are thin, over one on a plain slice.
 #![tactic(auto)]
 
-ghost use Rattle.std.specs.Prelude.{◌≡◌, ◌+◌, ◌≤◌, length};
+ghost use Rattle.std.specs.Prelude.{◌≡◌, ◌+◌, ◌-◌, ◌≤◌, length};
+ghost use Rattle.std.specs.Iterator.{at_most};
 ghost use Rattle.terms.specs.Verdicts.{verdict_number};
 ghost use Rattle.entries.specs.Reader.{open_of, stands, entry_at, size_in, Opens, Stops, Steps};
-ghost use Rattle.entries.specs.Papers.{entry_paper};
+ghost use Rattle.entries.specs.Papers.{entry_paper, answer_of};
 
 use octets::Number;
 use rules::Kind;
@@ -121,5 +122,18 @@ impl<'a> Entries<'a> {
         let found = step_from(self.body, self.place)?;
         self.place = found.behind;
         Ok(found.entry)
+    }
+}
+
+// Its entries in turn, up to the first place where none stands.
+impl<'a> Iterator for Entries<'a> {
+    type Item = Entry;
+
+    ghost next_gives = { λ d x e. Steps d (answer_of x) e };
+
+    ghost remaining = { λ d. at_most (length d.body.now - d.place) };
+
+    fn next(&mut self) -> Option<Entry> {
+        self.step().ok()
     }
 }

@@ -1,5 +1,5 @@
 -- `open_at`: each return by its outcome. Assumes nothing.
-use Rattle.std.proofs.Common.{◌≤◌, length, sym, ◌∙◌, rules}
+use Rattle.std.proofs.Common.{◌≤◌, length, sym, ◌∙◌}
 use Rattle.std.proofs.lemmas.Result.{err_from_is_err_and}
 use Rattle.terms.specs.Refusals.{refusal_pos}
 use Rattle.entries.specs.Outcomes.{open_measured, suited_length, open_field, open_fine}

@@ -3,13 +3,11 @@ use Prim.Native.Nat.{ℕ, ◌+◌, ◌≤◌}
 use native.Mathlib.Omega.{arith}
 use mathlib.Core.Bool.{true}
 use lib.ListN.{length}
-use borrow.Author.Tests.{not-true, not-false}
 use Rattle.rules.specs.Fields.{entry_size}
 use Rattle.entries.specs.Reader.{size_in, stands}
 use Rattle.entries.specs.Places.{stands_whole}
 use Rattle.entries.specs.Outcomes.{step_done, step_20, after_done}
 use mathlib.Core.Path.{◌≡◌, sym, ap, ◌∙◌}
-use borrow.Author.Rules.{rules}
 use Rattle.entries.proofs.step_from.Goals as goal
 use Rattle.entries.proofs.step_from.Goals.{Else-not-is_entry}
 

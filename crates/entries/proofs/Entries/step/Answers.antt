@@ -1,5 +1,5 @@
 -- `step`: a refusal is 20, beside which the reader stays. Assumes nothing.
-use Rattle.std.proofs.Common.{◌≡◌, refl, sym, ap, ◌∙◌, rules}
+use Rattle.std.proofs.Common.{refl, sym, ◌∙◌}
 use Rattle.std.proofs.lemmas.Result.{err_from_is_err_and}
 use Rattle.terms.specs.Paper.{one_number}
 use Rattle.terms.specs.Refusals.{refusal_pos}
