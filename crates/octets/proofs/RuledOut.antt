@@ -1,8 +1,9 @@
 -- For each public function: wrong answers that its promise rules out, as tables of what is given
 -- and what is then wrong. Assumes nothing.
-use Rattle.std.proofs.Common.{ℕ, List, [], ◌∷◌, length, take, drop, replicate, refl}
+use Rattle.std.proofs.Common.{ℕ, ◌+◌, Bool, true, false, List, [], ◌∷◌, length, take, drop, replicate, refl}
+use Rattle.std.specs.Prelude.{nat_le}
 use Rattle.terms.specs.Paper.{answer, refusal}
-use Rattle.terms.specs.RuledOut.{Row, ◌never◌, ◌only◌, Kept, RulesOut, ruled, numbers, lists, Left, left, lefts, left_is}
+use Rattle.terms.specs.RuledOut.{Row, ◌never◌, ◌only◌, Kept, RulesOut, ruled, numbers, bools, lists, Left, left, lefts, left_is}
 use Rattle.octets.specs.Octets.{numeral, digits_of, laid, be, bytes_of, sum8, sum_of, sum_after}
 use Rattle.octets.specs.Papers.{written_paper, room_for, laid_if_room}
 use Rattle.octets.proofs.U8Number.at.Reads as u8-at
@@ -15,6 +16,8 @@ use Rattle.octets.proofs.letters_at.Reads as letters-at
 use Rattle.octets.proofs.letters_at.Kinds as letters-at-kinds
 use Rattle.octets.proofs.U64Number.at.Reads as u64-at
 use Rattle.octets.proofs.U64Number.at.Kinds as u64-at-kinds
+use Rattle.octets.proofs.has_room.Reads as has-room
+use Rattle.octets.proofs.has_room.Kinds as has-room-kinds
 use Rattle.octets.proofs.sum.Reads as sum
 use Rattle.octets.proofs.sum.Kinds as sum-kinds
 use Rattle.octets.proofs.sum_after.Reads as sum-after
@@ -127,6 +130,20 @@ fill_wrong =
 
 pub fill_rules_out : RulesOut (Kept _ fill-kinds.ps fill-kinds.r fill.Post) (λ c. (c.args.0.now, c.args.1.0)) (λ c. c.exit.0.now) fill_wrong
 fill_rules_out = ruled lists (λ (i : List ℕ × ℕ). replicate (length i.0) i.1) (λ c p. p) _ refl
+
+-- ROOM: the length of a buffer, a place and a number of bytes
+abbrev pub has_room_wrong : List (Row (ℕ × (ℕ × ℕ)) Bool)
+has_room_wrong =
+    (4, (2, 2)) only true  -- the last two bytes refused
+    ∷ (4, (3, 2)) only false  -- one byte past the end taken
+    ∷ (4, (4, 0)) only true  -- no bytes at the end refused
+    ∷ (4, (5, 0)) only false  -- no bytes beyond it taken
+    ∷ (4, (18446744073709551615, 2)) only false  -- a sum that rolls over
+    ∷ (4, (0, 5)) only false  -- more bytes than there are
+    ∷ []
+
+pub has_room_rules_out : RulesOut (Kept _ has-room-kinds.ps has-room-kinds.r has-room.Post) (λ c. (c.args.0, (c.args.1.0, c.args.1.1.0))) (λ c. c.result) has_room_wrong
+has_room_rules_out = ruled bools (λ (i : ℕ × (ℕ × ℕ)). nat_le (i.1.0 + i.1.1) i.0) (λ c p. p) _ refl
 
 -- BYTES LAID: a buffer of four bytes, a place, and what is laid; the answer, and the buffer then
 abbrev buffer : List ℕ

@@ -5,9 +5,9 @@ use mathlib.Core.Path.{refl, ap}
 use mathlib.Core.List.{List, [], ◌∷◌, ◌++◌}
 use lib.ListN.{length, replicate}
 use Rattle.terms.specs.Letters.{spelled}
-use Rattle.terms.specs.Paper.{Paper, answer, refusal}
+use Rattle.terms.specs.Paper.{answer, refusal}
 use Rattle.terms.specs.Counters.{session_of, tick_of, channel_of}
-use Rattle.terms.specs.RuledOut.{Row, ◌never◌, ◌only◌, Kept, RulesOut, ruled, lists, papers, Left, left, lefts, left_is}
+use Rattle.terms.specs.RuledOut.{Row, ◌never◌, ◌only◌, Kept, RulesOut, ruled, lists, Left, left, lefts, left_is}
 use Rattle.octets.specs.Octets.{numeral, digits_of, bytes_of, laid}
 use Rattle.octets.specs.Papers.{written_paper, room_for, laid_if_room}
 use Rattle.record.specs.declared.Record.{Record}

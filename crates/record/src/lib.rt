@@ -9,7 +9,7 @@ ghost use Rattle.record.specs.Record.{record_of, record_at};
 ghost use Rattle.record.specs.Stored.{Stored};
 
 use octets::Number;
-use terms::{ChannelNumber, SessionNumber, TickNumber};
+use terms::{ChannelNumber, Refusal, SessionNumber, TickNumber};
 
 // One reading, as support sees it. msg_type is four spaces where the reading was refused.
 #[derive(Clone, Copy)]
@@ -25,34 +25,32 @@ pub struct Record {
     pub top: TickNumber,
 }
 
-// Writes a record over the front of d.
-fn store(d: &mut [u8], r: Record)
-    requires { 64 ≤ length d.old }
-    ensures { Stored 0 (record_of r) d.old d.new 64 }
+// The record's 64 bytes. The zero fields are those that nothing is copied to.
+fn bytes_of(r: Record) -> [u8; 64]
+    ensures { result ≡ record_of r }
 {
-    octets::put(d, 0, 8, r.place);
-    octets::put(d, 8, 4, r.msg_type as u64);
-    octets::put(d, 12, 4, r.answer as u64);
-    octets::put(d, 16, 8, r.seq.value());
-    octets::put(d, 24, 8, r.tick.value());
-    octets::put(d, 32, 2, r.channel.value() as u64);
-    octets::put(d, 34, 2, 0);
-    octets::put(d, 36, 4, r.body_len as u64);
-    octets::put(d, 40, 8, r.floor.value());
-    octets::put(d, 48, 8, r.top.value());
-    octets::put(d, 56, 8, 0);
+    let mut d = [0; 64];
+    d[..8].copy_from_slice(&r.place.to_be_bytes());
+    d[8..12].copy_from_slice(&r.msg_type.to_be_bytes());
+    d[12..16].copy_from_slice(&r.answer.to_be_bytes());
+    d[16..24].copy_from_slice(&r.seq.value().to_be_bytes());
+    d[24..32].copy_from_slice(&r.tick.value().to_be_bytes());
+    d[32..34].copy_from_slice(&r.channel.value().to_be_bytes());
+    d[36..40].copy_from_slice(&r.body_len.to_be_bytes());
+    d[40..48].copy_from_slice(&r.floor.value().to_be_bytes());
+    d[48..56].copy_from_slice(&r.top.value().to_be_bytes());
+    d
 }
 
 // Writes the record's 64 bytes over out from at on.
 pub fn put(out: &mut [u8], at: usize, r: Record) -> Result<usize, Refusal>
     ensures { (written_paper result ≡ room_for at 64 (length out.old)) × (out.new ≡ laid_if_room at (record_of r) out.old) }
 {
-    let mut d: [u8; 64] = [0; 64];
-    store(&mut d, r);
-    octets::lay(out, at, &d)
+    octets::lay(out, at, &bytes_of(r))
 }
 
 // The record at the front of s.
+#[tactic(auto, unfolding(crate::specs::Record::record_at))]
 fn front(s: &[u8]) -> Record
     ensures { result ≡ record_at 0 s.now }
 {
@@ -71,12 +69,9 @@ fn front(s: &[u8]) -> Record
 
 // The record in the 64 bytes from at on. It judges nothing; bytes past the end count as 0, and the
 // zero fields are passed over.
+#[tactic(auto, using(crate::specs::RecordLaws::record_rest))]
 pub fn record_at(bytes: &[u8], at: usize) -> Record
     ensures { result ≡ record_at at bytes.now }
 {
-    let n = bytes.len();
-    if n < at {
-        return front(&bytes[n..]);
-    }
-    front(&bytes[at..])
+    front(&bytes[at.min(bytes.len())..])
 }

@@ -15,6 +15,8 @@ use Rattle.rules.proofs.suits_tail.Reads as suits-tail
 use Rattle.rules.proofs.suits_tail.Kinds as suits-tail-kinds
 use Rattle.rules.proofs.fields_ok.Reads as fields-ok
 use Rattle.rules.proofs.fields_ok.Kinds as fields-ok-kinds
+use Rattle.rules.proofs.pair_ok.Reads as pair-ok
+use Rattle.rules.proofs.pair_ok.Kinds as pair-ok-kinds
 use Rattle.rules.proofs.m102_fixed_ok.Reads as m102-fixed-ok
 use Rattle.rules.proofs.m102_fixed_ok.Kinds as m102-fixed-ok-kinds
 use Rattle.rules.proofs.entry_ok.Reads as entry-ok
@@ -47,6 +49,9 @@ fields_ok_one_answer κs a x y s t p q = p ∙ sym q
 
 pub entry_size_one_answer : OneAnswer _ entry-size-kinds.ps entry-size-kinds.r entry-size.Post
 entry_size_one_answer κs a x y s t p q = p ∙ sym q
+
+pub pair_ok_one_answer : OneAnswer _ pair-ok-kinds.ps pair-ok-kinds.r pair-ok.Post
+pair_ok_one_answer κs a x y s t p q = p ∙ sym q
 
 pub m102_fixed_ok_one_answer : OneAnswer _ m102-fixed-ok-kinds.ps m102-fixed-ok-kinds.r m102-fixed-ok.Post
 m102_fixed_ok_one_answer κs a x y s t p q = p ∙ sym q

@@ -10,7 +10,7 @@ use Rattle.rules.specs.declared.Kind.{Kind}
 use Rattle.rules.specs.declared.Kind.TheVariants.{S003, M101, M102, M201, Unknown, S001, P001, P002}
 use Rattle.rules.specs.declared.Layout.{Layout}
 use Rattle.rules.specs.declared.Layout.TheVariants.{Order, Trade, Other}
-use Rattle.rules.specs.Fields.{layout_of, suits_tail, s001_ok, p001_ok, p002_ok, tail_ok, m201_ok, m102_values_ok, m102_fixed_ok, entry_size, entry_ok, entries_ok, m102_ok, fields_ok, judge_of}
+use Rattle.rules.specs.Fields.{layout_of, suits_tail, s001_ok, p001_ok, p002_ok, tail_ok, m201_ok, pair_ok, m102_values_ok, m102_fixed_ok, entry_size, entry_ok, entries_ok, m102_ok, fields_ok, judge_of}
 use Rattle.rules.specs.Table.{kind_paper, kind_of, type_of, known, suits, measure_of}
 use Rattle.terms.specs.Verdicts.{verdict_number}
 use Rattle.rules.proofs.KindFromU32.from.Reads as kind-of
@@ -29,6 +29,8 @@ use Rattle.calendar.specs.Calendar.{leap, days_in, real_parts, real_time}
 use Rattle.rules.specs.Bodies.{channel_body, resend_body, snapshot_body, tick_on}
 use Rattle.rules.proofs.fields_ok.Reads as fields-ok
 use Rattle.rules.proofs.fields_ok.Kinds as fields-ok-kinds
+use Rattle.rules.proofs.pair_ok.Reads as pair-ok
+use Rattle.rules.proofs.pair_ok.Kinds as pair-ok-kinds
 use Rattle.rules.proofs.m102_fixed_ok.Reads as m102-fixed-ok
 use Rattle.rules.proofs.m102_fixed_ok.Kinds as m102-fixed-ok-kinds
 use Rattle.rules.proofs.entry_ok.Reads as entry-ok
@@ -166,6 +168,26 @@ entry_size_wrong =
 pub entry_size_rules_out : RulesOut (Kept _ entry-size-kinds.ps entry-size-kinds.r entry-size.Post) (λ c. c.args.0) (λ c. c.result) entry_size_wrong
 unfolding entry_size
 entry_size_rules_out = ruled numbers entry_size (λ c p. p) _ refl
+
+-- a security type, and a stream's five letters as one number
+abbrev pub pair_ok_wrong : List (Row (ℕ × ℕ) Bool)
+pair_ok_wrong =
+    (1, 0x4D44303031) only true
+    ∷ (1, 0x4D44303034) only true  -- MD004 left out
+    ∷ (1, 0x4D44303030) only false  -- MD000 taken
+    ∷ (1, 0x4D44303035) only false  -- MD005 taken
+    ∷ (2, 0x4D44333031) only true
+    ∷ (3, 0x4D44313031) only true
+    ∷ (3, 0x4D44313032) only true  -- MD102 left out
+    ∷ (12, 0x4D44323031) only true
+    ∷ (13, 0x4D44323130) only true
+    ∷ (14, 0x4D44453031) only true
+    ∷ (1, 0x4D44333031) only false  -- the stream of another type taken
+    ∷ (0, 0x4D44303031) only false  -- any type taken
+    ∷ []
+
+pub pair_ok_rules_out : RulesOut (Kept _ pair-ok-kinds.ps pair-ok-kinds.r pair-ok.Post) (λ c. (c.args.0, c.args.1.0)) (λ c. c.result) pair_ok_wrong
+pair_ok_rules_out = ruled bools (λ (i : ℕ × ℕ). pair_ok i.0 i.1) (λ c p. p) _ refl
 
 -- a body
 abbrev pub m102_fixed_ok_wrong : List (Row (List ℕ) Bool)

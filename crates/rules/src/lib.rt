@@ -227,7 +227,7 @@ fn m201_kept(b: &[u8]) -> bool
 
 // Whether a security type and a stream, its five letters as a number, go together in an M102: 1 and
 // MD001 to MD004, 2 and MD301, 3 and MD101 or MD102, 12 and MD201, 13 and MD210, 14 and MDE01.
-fn pair_ok(t: u8, s: u64) -> bool
+pub fn pair_ok(t: u8, s: u64) -> bool
     ensures { result ≡ pair_ok t s }
 {
     ((t == 1) & (0x4D44303031 <= s) & (s <= 0x4D44303034))
