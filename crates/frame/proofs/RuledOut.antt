@@ -1,6 +1,6 @@
 -- For each public function: wrong answers that its promise rules out, as tables of what is given
 -- and what is then wrong. Assumes nothing.
-use Rattle.std.proofs.Common.{ℕ, List, [], ◌∷◌, ◌++◌, length, take, drop, replicate, refl, Bor}
+use Rattle.std.proofs.Common.{ℕ, List, [], ◌∷◌, ◌++◌, length, take, drop, replicate, refl, Bor, Ok}
 use contract.Lifetimes.{Lfts}
 use base.Fml.{GName}
 use Rattle.terms.specs.Letters.{spelled}
@@ -17,7 +17,6 @@ use Rattle.frame_spec.specs.Write.{Message, message, plain_of, frame_of, write_o
 use Rattle.frame_spec.specs.Search.{first_of, search_of}
 use Rattle.frame_spec.specs.Examples.{start_of_a, frame_a, frame_b, four, ending, A, timed, framed}
 use Rattle.terms.specs.Counters.{session_of}
-use Rattle.frame.specs.declared.Read.TheVariants.{Frame}
 use Rattle.frame.specs.Papers.{read_paper, found_paper}
 use Rattle.frame.proofs.read_at.Reads as read_at
 use Rattle.frame.proofs.read_at.Kinds as read-at-kinds
@@ -113,7 +112,7 @@ unfolding frame_a start_of_a checked read_of numeral sum8 sum_of kind_of suits m
 read_at_allows κs at name =
     let bytes : Bor (List ℕ) = record { ref_ptr = at; now = A } in
     record {
-      call = record { lifetimes = κs; args = (bytes, (0, tt)); result = Frame (spelled "S003") 0x0047FA7908DACB40 (session_of 1) 0; exit = (bytes, (0, tt)) };
+      call = record { lifetimes = κs; args = (bytes, (0, tt)); result = Ok (record { msg_type = spelled "S003"; sending_time = 0x0047FA7908DACB40; seq = session_of 1; body_len = 0 }); exit = (bytes, (0, tt)) };
       given = refl;
       outcome = refl;
       promised = refl;

@@ -1,7 +1,7 @@
 // One BINARY frame: read, written, and the next good one found in a damaged capture.
 #![tactic(auto)]
 
-ghost use Rattle.std.specs.Prelude.{◌≡◌, ◌+◌, ◌≤◌, length, take, drop};
+ghost use Rattle.std.specs.Prelude.{◌≡◌, ◌+◌, ◌≤◌, length, take, drop, Ok};
 ghost use Rattle.octets.specs.Octets.{be, sum8, laid};
 ghost use Rattle.octets.specs.Papers.{written_paper};
 ghost use Rattle.rules.specs.Table.{kind_of};
@@ -14,99 +14,78 @@ use octets::Number;
 use rules::Kind;
 use terms::{Refusal, SessionNumber};
 
-// What reading finds. A refusal carries nothing of the bytes.
-#[derive(Clone, Copy)]
-pub enum Read {
-    Frame {
-        msg_type: u32,
-        sending_time: u64,
-        seq: SessionNumber,
-        body_len: usize,
-    },
-    Refused(Refusal),
+// What an accepted frame's header tells, but for its sum.
+#[derive(Clone, Copy, Debug, PartialEq, Eq)]
+pub struct Header {
+    pub msg_type: u32,
+    pub sending_time: u64,
+    pub seq: SessionNumber,
+    pub body_len: usize,
 }
 
-// What the search finds: a place, none, or that it was to start beyond the end.
+// Of a frame that is there as a whole: its type, and the length of its body.
 #[derive(Clone, Copy)]
-pub enum Found {
-    At(usize),
-    Nothing,
-    Beyond,
-}
-
-// A frame that is there as a whole, with its type and the length of its body; or why not.
-#[derive(Clone, Copy)]
-enum Head {
-    Whole(Kind, usize),
-    Refused(Refusal),
+struct Head {
+    kind: Kind,
+    body_len: usize,
 }
 
 // The checks up to the whole length, of the frame at a place. The type is tested before anything
 // after it is read, and its third letter, 0 in each, before the others: in noise that one byte
 // mostly tells.
-fn head_at(bytes: &[u8], at: usize) -> Head
+fn head_at(bytes: &[u8], at: usize) -> Result<Head, Refusal>
     ensures { HeadSays result (drop at bytes.now) }
 {
     if bytes.len() < at {
-        return Head::Refused(Refusal::More);
+        return Err(Refusal::More);
     }
     let left = bytes.len() - at;
     if left < 24 {
-        return Head::Refused(Refusal::More);
+        return Err(Refusal::More);
     }
     if u8::at(bytes, at + 2) != 0x30 {
-        return Head::Refused(Refusal::MsgType);
+        return Err(Refusal::MsgType);
     }
-    let kind = rules::kind_of(u32::at(bytes, at));
+    let kind = Kind::from(u32::at(bytes, at));
     if !rules::is_known(kind) {
-        return Head::Refused(Refusal::MsgType);
+        return Err(Refusal::MsgType);
     }
-    let n = u32::at(bytes, at + 20) as usize;
-    match rules::measure(kind, n) {
-        Err(why) => Head::Refused(why),
-        Ok(()) => {
-            if left < 28 + n {
-                return Head::Refused(Refusal::More);
-            }
-            Head::Whole(kind, n)
-        }
+    let body_len = u32::at(bytes, at + 20) as usize;
+    rules::measure(kind, body_len)?;
+    if left < 28 + body_len {
+        return Err(Refusal::More);
     }
+    Ok(Head { kind, body_len })
 }
 
 // The checks after them, of a frame whose header and body sum to v.
-fn rest_at(bytes: &[u8], at: usize, kind: Kind, n: usize, v: u8) -> Read
-    requires { HeadSays (Head.Whole kind n) (drop at bytes.now) × (v ≡ sum8 (take (24 + n) (drop at bytes.now))) }
+fn rest_at(bytes: &[u8], at: usize, head: Head, v: u8) -> Result<Header, Refusal>
+    requires { HeadSays (Ok head) (drop at bytes.now) × (v ≡ sum8 (take (24 + head.body_len) (drop at bytes.now))) }
     ensures { read_paper result ≡ read_of (drop at bytes.now) }
 {
     let start = at + 24;
-    let end = start + n;
+    let end = start + head.body_len;
     let stored = u32::at(bytes, end);
     if stored != v as u32 {
-        return Read::Refused(Refusal::Sum);
+        return Err(Refusal::Sum);
     }
-    let sent = u64::at(bytes, at + 4);
-    match rules::judge(kind, sent, &bytes[start..end]) {
-        Err(why) => Read::Refused(why),
-        Ok(()) => Read::Frame {
-            msg_type: u32::at(bytes, at),
-            sending_time: sent,
-            seq: SessionNumber::new(u64::at(bytes, at + 12)),
-            body_len: n,
-        },
-    }
+    let sending_time = u64::at(bytes, at + 4);
+    rules::judge(head.kind, sending_time, &bytes[start..end])?;
+    Ok(Header {
+        msg_type: u32::at(bytes, at),
+        sending_time,
+        seq: SessionNumber::new(u64::at(bytes, at + 12)),
+        body_len: head.body_len,
+    })
 }
 
 // The frame at a place of bytes. A place beyond the end reads as no bytes: 1.
-pub fn read_at(bytes: &[u8], at: usize) -> Read
+pub fn read_at(bytes: &[u8], at: usize) -> Result<Header, Refusal>
     ensures { read_paper result ≡ read_of (drop at bytes.now) }
 {
-    match head_at(bytes, at) {
-        Head::Refused(why) => Read::Refused(why),
-        Head::Whole(kind, n) => {
-            let v = octets::sum(bytes, at, 24 + n);
-            rest_at(bytes, at, kind, n, v)
-        }
-    }
+    let head = head_at(bytes, at)?;
+    let v = octets::sum(bytes, at, 24 + head.body_len);
+    rest_at(bytes, at, head, v)
 }
 
 // The body of the frame at a place, as a part of the caller's bytes; of a frame that does not read,
@@ -115,15 +94,10 @@ pub fn body_at(bytes: &[u8], at: usize) -> &[u8]
     ensures { result.now ≡ body_read (drop at bytes.now) }
 {
     match read_at(bytes, at) {
-        Read::Refused(_) => &bytes[0..0],
-        Read::Frame {
-            msg_type: _,
-            sending_time: _,
-            seq: _,
-            body_len,
-        } => {
+        Err(_) => &bytes[0..0],
+        Ok(header) => {
             let first = at + 24;
-            let behind = first + body_len;
+            let behind = first + header.body_len;
             &bytes[first..behind]
         }
     }
@@ -139,35 +113,30 @@ fn may_write(
 ) -> Result<usize, Refusal>
     ensures { written_paper result ≡ write_of (message msg_type sending_time seq.0 body.now) room }
 {
-    let kind = rules::kind_of(msg_type);
-    let n = body.len();
-    match rules::measure(kind, n) {
-        Err(why) => Err(why),
-        Ok(()) => match rules::judge(kind, sending_time, body) {
-            Err(why) => Err(why),
-            Ok(()) => {
-                if room < 28 + n {
-                    return Err(Refusal::Room);
-                }
-                Ok(28 + n)
-            }
-        },
+    let kind = Kind::from(msg_type);
+    rules::measure(kind, body.len())?;
+    rules::judge(kind, sending_time, body)?;
+    let size = 28 + body.len();
+    if room < size {
+        return Err(Refusal::Room);
     }
+    Ok(size)
 }
 
-// Stores a message's frame at the front of out, which has room for it.
+// Stores a message's frame at the front of out. It has room for all of it, so that nothing here is
+// refused.
 fn store(msg_type: u32, sending_time: u64, seq: SessionNumber, body: &[u8], out: &mut [u8])
     requires { 28 + length body.now ≤ length out.old }
     ensures { out.new ≡ laid 0 (frame_of (message msg_type sending_time seq.0 body.now)) out.old }
 {
     let end = 24 + body.len();
-    octets::put(out, 0, 4, msg_type as u64);
-    octets::put(out, 4, 8, sending_time);
-    octets::put(out, 12, 8, seq.value());
-    octets::put(out, 20, 4, body.len() as u64);
-    octets::lay(out, 24, body);
+    let _ = octets::put(out, 0, 4, msg_type as u64);
+    let _ = octets::put(out, 4, 8, sending_time);
+    let _ = octets::put(out, 12, 8, seq.value());
+    let _ = octets::put(out, 20, 4, body.len() as u64);
+    let _ = octets::lay(out, 24, body);
     let v = octets::sum(out, 0, end);
-    octets::put(out, end, 4, v as u64);
+    let _ = octets::put(out, end, 4, v as u64);
 }
 
 // Writes a message at the front of out, and returns how many bytes its frame has. A refusal
@@ -181,52 +150,40 @@ pub fn write(
 ) -> Result<usize, Refusal>
     ensures { (written_paper result ≡ write_of (message msg_type sending_time seq.0 body.now) (length out.old)) × (out.new ≡ left_of (message msg_type sending_time seq.0 body.now) out.old) }
 {
-    match may_write(msg_type, sending_time, seq, body, out.len()) {
-        Err(why) => Err(why),
-        Ok(n) => {
-            store(msg_type, sending_time, seq, body, out);
-            Ok(n)
-        }
-    }
+    let size = may_write(msg_type, sending_time, seq, body, out.len())?;
+    store(msg_type, sending_time, seq, body, out);
+    Ok(size)
 }
 
 // Whether the checks behind the head pass.
-fn accepts(bytes: &[u8], at: usize, kind: Kind, n: usize, v: u8) -> bool
-    requires { HeadSays (Head.Whole kind n) (drop at bytes.now) × (v ≡ sum8 (take (24 + n) (drop at bytes.now))) }
+fn accepts(bytes: &[u8], at: usize, head: Head, v: u8) -> bool
+    requires { HeadSays (Ok head) (drop at bytes.now) × (v ≡ sum8 (take (24 + head.body_len) (drop at bytes.now))) }
     ensures { result ≡ reads (drop at bytes.now) }
 {
-    match rest_at(bytes, at, kind, n, v) {
-        Read::Frame {
-            msg_type: _,
-            sending_time: _,
-            seq: _,
-            body_len: _,
-        } => true,
-        Read::Refused(_) => false,
-    }
+    rest_at(bytes, at, head, v).is_ok()
 }
 
 // The lowest place at or after `from` where a frame reads: start places outside, the bytes of a
 // frame inside, left by label at the first accepted frame.
-pub fn search(bytes: &[u8], from: usize) -> Found
+pub fn search(bytes: &[u8], from: usize) -> Result<Option<usize>, Refusal>
     ensures { found_paper result ≡ search_of bytes.now from }
 {
     if bytes.len() < from {
-        return Found::Beyond;
+        return Err(Refusal::Place);
     }
     let mut p = from;
-    let mut found = Found::Nothing;
+    let mut found = None;
     'places: while p < bytes.len() {
         let at = p;
         p += 1;
-        if let Head::Whole(kind, n) = head_at(bytes, at) {
-            let end = at + 24 + n;
+        if let Ok(head) = head_at(bytes, at) {
+            let end = at + 24 + head.body_len;
             let mut v: u8 = 0;
             let mut i = at;
             'bytes: loop {
                 if i == end {
-                    if accepts(bytes, at, kind, n, v) {
-                        found = Found::At(at);
+                    if accepts(bytes, at, head, v) {
+                        found = Some(at);
                         break 'places;
                     }
                     continue 'places;
@@ -236,5 +193,5 @@ pub fn search(bytes: &[u8], from: usize) -> Found
             }
         }
     }
-    found
+    Ok(found)
 }

@@ -7,7 +7,7 @@ use Rattle.octets.specs.Octets.{be, sum_of, sum8}
 use Rattle.calendar.specs.Calendar.{RealTime, real_time}
 use Rattle.calendar.proofs.Times.{time_says}
 use Rattle.rules.specs.declared.Kind.{Kind}
-use Rattle.rules.specs.Table.{kind_of, known, suits}
+use Rattle.rules.specs.Table.{kind_of, known}
 use Rattle.rules.specs.Rules.{LengthRule, FieldRules}
 use Rattle.rules.specs.Outcomes.{measure_type, measure_long, measure_length, measure_fine, Measured, m_type, m_long, m_length, m_fine, measured, Judged, j_time, j_field, j_fine}
 use Rattle.rules.proofs.Outcomes.{judge_time, judge_field, judge_fine, judged}

@@ -1,6 +1,6 @@
 -- Each answer of writing from the facts that lead to it, the same by cases, what it leaves, and the
 -- lengths of a frame's parts.
-use Rattle.std.specs.Prelude.{ℕ, ◌+◌, ◌<◌, ◌≤◌, ◌≡◌, refl, List, [], ◌∷◌, ◌++◌}
+use Rattle.std.specs.Prelude.{ℕ, ◌+◌, ◌<◌, ◌≤◌, ◌≡◌, refl, List, [], ◌∷◌, ◌++◌, Result}
 use Rattle.std.proofs.Common.{sym, ◌∙◌, ⊎_elim, arith, length-append, le-leb, eq-eqb, ne_eqb}
 use Rattle.std.proofs.Math.Path.{ap}
 use Rattle.std.proofs.Math.ListN.{length}
@@ -11,7 +11,7 @@ use Rattle.octets.specs.Octets.{laid}
 use Rattle.octets.specs.Numerals.{length_digits}
 use Rattle.octets.specs.Overlays.{laid_next, length_laid}
 use Rattle.terms.specs.Refusals.{refusal_pos}
-use Rattle.octets.specs.declared.Written.{Written}
+use Rattle.terms.specs.declared.Refusal.{Refusal}
 use Rattle.octets.specs.Papers.{written_paper, Refuses, laid_if_room, laid_there}
 use Rattle.rules.specs.Table.{kind_of, measure_of}
 use Rattle.rules.specs.Fields.{judge_of}
@@ -108,6 +108,6 @@ put_next at n a b d e f p l q k h =
     laid_next at a b d e f (p ∙ laid_there at n b e l (le-leb (at + n) (length e) (omega arith))) q k (omega arith)
 
 -- a refusal leaves the buffer as it was
-pub refused_left : (m : Message) (out e : List ℕ) (x : Written) → Refuses x → written_paper x ≡ write_of m (length out) → e ≡ left_of m out → e ≡ out
+pub refused_left : (m : Message) (out e : List ℕ) (x : Result ℕ Refusal) → Refuses x → written_paper x ≡ write_of m (length out) → e ≡ left_of m out → e ≡ out
 refused_left m out e x r p q =
     q ∙ left_kept m out (λ (z : (write_of m (length out)).number ≡ 0). refusal_pos r.0 (one_number (ap written_paper (sym r.1) ∙ p) ∙ z))

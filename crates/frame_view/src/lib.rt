@@ -11,7 +11,7 @@ use rules::Kind;
 use terms::{ChannelNumber, TickNumber};
 
 // What a type does not have is 0.
-#[derive(Clone, Copy)]
+#[derive(Clone, Copy, Debug, PartialEq, Eq)]
 pub struct View {
     pub kind: Kind,
     pub channel: ChannelNumber,
@@ -34,47 +34,40 @@ fn blank(kind: Kind) -> View
     }
 }
 
-// A view with the channel at a place, and the tick number, which stands at 3 in each type
-// that has one.
-fn ticked(kind: Kind, body: &[u8], channel_at: usize) -> View
-    ensures { result ≡ viewed kind (be 2 channel_at body.now) (be 8 3 body.now) 0 0 0 }
+// A tick's channel and number, which stand at the same places in each type that has them.
+fn ticked(kind: Kind, body: &[u8]) -> View
+    ensures { result ≡ viewed kind (be 2 1 body.now) (be 8 3 body.now) 0 0 0 }
 {
     View {
-        kind,
-        channel: ChannelNumber::new(u16::at(body, channel_at)),
+        channel: ChannelNumber::new(u16::at(body, 1)),
         tick: TickNumber::new(u64::at(body, 3)),
-        first: TickNumber::new(0),
-        last: TickNumber::new(0),
-        status: 0,
+        ..blank(kind)
     }
 }
 
+#[tactic(auto, unfolding(crate::specs::View::view_of))]
 fn resend(body: &[u8]) -> View
     ensures { result ≡ view_of Kind.P002 body.now }
 {
+    let first = TickNumber::new(u64::at(body, 3));
     View {
         kind: Kind::P002,
         channel: ChannelNumber::new(u16::at(body, 0)),
-        tick: TickNumber::new(u64::at(body, 3)),
-        first: TickNumber::new(u64::at(body, 3)),
+        tick: first,
+        first,
         last: TickNumber::new(u64::at(body, 11)),
         status: u8::at(body, 19),
     }
 }
 
 // The view of a body of a type. It judges nothing: hand it what `body_at` gave.
+#[tactic(auto, using(crate::proofs::Views::view_tick, crate::proofs::Views::view_blank))]
 pub fn view_of(kind: Kind, body: &[u8]) -> View
     ensures { result ≡ view_of kind body.now }
 {
     match kind {
-        Kind::S001 => blank(kind),
-        Kind::S002 => blank(kind),
-        Kind::S003 => blank(kind),
-        Kind::P001 => ticked(kind, body, 1),
+        Kind::P001 | Kind::M201 => ticked(kind, body),
         Kind::P002 => resend(body),
-        Kind::M101 => blank(kind),
-        Kind::M102 => blank(kind),
-        Kind::M201 => ticked(kind, body, 1),
-        Kind::Unknown => blank(kind),
+        _ => blank(kind),
     }
 }

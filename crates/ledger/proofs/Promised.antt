@@ -20,7 +20,7 @@ use Rattle.ledger.specs.Trace.{Promise, RanBy, Ran, opening, one_more}
 use Rattle.ledger_spec.specs.Words.{answered}
 use Rattle.ledger_spec.specs.Demand3.{Demand3}
 use Rattle.ledger.specs.declared.Ledger.{Ledger}
-use Rattle.ledger.specs.declared.Pending.TheVariants.{Nothing}
+use Rattle.std.specs.Prelude.{None}
 use Rattle.ledger.proofs.Seam.{book_of_lem, topped_of, waiting_of, far_by, same_by, next_of_lem, next_keeps}
 use Rattle.ledger_spec.proofs.Agree.{agrees}
 use Rattle.ledger_spec.proofs.Answers.{renew_answer, renew_next}
@@ -57,7 +57,7 @@ pub request_is_step : (κs : Lfts 0) (a : Dens κs request-kinds.ps) (x : (res_t
 request_is_step κs a x s p = record { paper_is = p.0; next_is = p.1 }
 
 pub reply_is_step : (κs : Lfts 0) (a : Dens κs reply-kinds.ps) (x : (res_t reply-kinds.r κs).Denot) (s : AtExit (ended_of 0 reply-kinds.ps reply-kinds.r) κs)
-    → reply.Post κs a x s → Promise a.0 (Reply a.1.0.0 a.1.1.0.0 a.1.1.1.0) x.next (reply_paper x.answer x.first x.given_up x.passed)
+    → reply.Post κs a x s → Promise a.0 (Reply a.1.0.0 a.1.1.0.0 a.1.1.1.0) x.next (reply_paper x.answer)
 reply_is_step κs a x s p = record { paper_is = p.0; next_is = p.1 }
 
 pub renewed_is_step : (κs : Lfts 0) (a : Dens κs renewed-kinds.ps) (x : (res_t renewed-kinds.r κs).Denot) (s : AtExit (ended_of 0 renewed-kinds.ps renewed-kinds.r) κs)
@@ -65,15 +65,15 @@ pub renewed_is_step : (κs : Lfts 0) (a : Dens κs renewed-kinds.ps) (x : (res_t
 renewed_is_step κs a x s p = record { paper_is = p.0; next_is = p.1 }
 
 pub missing_is_step : (κs : Lfts 0) (a : Dens κs missing-kinds.ps) (x : (res_t missing-kinds.r κs).Denot) (s : AtExit (ended_of 0 missing-kinds.ps missing-kinds.r) κs)
-    → missing.Post κs a x s → Promise a.0 (Ask Missing) x.next (count_paper x.answer x.count)
+    → missing.Post κs a x s → Promise a.0 (Ask Missing) x.next (count_paper x.answer)
 missing_is_step κs a x s p = record { paper_is = p.0; next_is = p.1 }
 
 pub held_is_step : (κs : Lfts 0) (a : Dens κs held-kinds.ps) (x : (res_t held-kinds.r κs).Denot) (s : AtExit (ended_of 0 held-kinds.ps held-kinds.r) κs)
-    → held.Post κs a x s → Promise a.0 (Ask Held) x.next (count_paper x.answer x.count)
+    → held.Post κs a x s → Promise a.0 (Ask Held) x.next (count_paper x.answer)
 held_is_step κs a x s p = record { paper_is = p.0; next_is = p.1 }
 
 pub between_is_step : (κs : Lfts 0) (a : Dens κs missing-between-kinds.ps) (x : (res_t missing-between-kinds.r κs).Denot) (s : AtExit (ended_of 0 missing-between-kinds.ps missing-between-kinds.r) κs)
-    → missing-between.Post κs a x s → Promise a.0 (Ask (Between a.1.0.0 a.1.1.0.0 a.1.1.1.0.0)) x.next (count_paper x.answer x.count)
+    → missing-between.Post κs a x s → Promise a.0 (Ask (Between a.1.0.0 a.1.1.0.0 a.1.1.1.0.0)) x.next (count_paper x.answer)
 between_is_step κs a x s p = record { paper_is = p.0; next_is = p.1 }
 
 -- opening a channel gives the fresh ledger that every row of calls starts from, and 0
@@ -107,7 +107,7 @@ pub new_session : (l next : Ledger) (paper : Paper) → Words l.map.words → Pr
     → (paper ≡ answer 0 []) × (next ≡ cleared l)
 new_session l next paper w p r = (
   p.paper_is ∙ renew_answer (book_of l) r,
-  p.next_is ∙ next_of_lem l w Renew ∙ ap ledger_of (renew_next (book_of l) r) ∙ sym (waiting_of l w Nothing),
+  p.next_is ∙ next_of_lem l w Renew ∙ ap ledger_of (renew_next (book_of l) r) ∙ sym (waiting_of l w None),
 )
 
 -- ---- a whole row of calls

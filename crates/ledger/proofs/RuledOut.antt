@@ -141,7 +141,7 @@ Ledger-reply-wrong =
     ∷ (waits (range 1 6), Reply 100 1 6) only (answer 17 (0 ∷ 0 ∷ 0 ∷ []), seen (waits (range 1 6)))
     ∷ []
 
-pub Ledger-reply-rules-out : RulesOut (Kept _ reply-kinds.ps reply-kinds.r reply.Post) (λ c. (c.args.0, Reply c.args.1.0.0 c.args.1.1.0.0 c.args.1.1.1.0)) (λ c. shown (reply_paper c.result.answer c.result.first c.result.given_up c.result.passed) c.result.next) Ledger-reply-wrong
+pub Ledger-reply-rules-out : RulesOut (Kept _ reply-kinds.ps reply-kinds.r reply.Post) (λ c. (c.args.0, Reply c.args.1.0.0 c.args.1.1.0.0 c.args.1.1.1.0)) (λ c. shown (reply_paper c.result.answer) c.result.next) Ledger-reply-wrong
 unfolding book_of ledger_of next_by rotated map_of value_of number_to own_number checked_of sound_of map_rules range_rules reach leaps gave_up handed replied run done values_of answer_to
 Ledger-reply-rules-out = ruled (beside papers lists) answered (λ c p. both (p.0, p.1)) _ refl
 
@@ -174,7 +174,7 @@ Ledger-missing-wrong =
     ∷ (ledger 0 1 (2 ^ 1) nothing, (Ask Missing)) only (answer 13 (0 ∷ []), seen (ledger 0 1 (2 ^ 1) nothing))  -- a state that holds floor + 1 is no state, and no count stands beside 13
     ∷ []
 
-pub Ledger-missing-rules-out : RulesOut (Kept _ missing-kinds.ps missing-kinds.r missing.Post) (λ c. (c.args.0, (Ask Missing))) (λ c. shown (count_paper c.result.answer c.result.count) c.result.next) Ledger-missing-wrong
+pub Ledger-missing-rules-out : RulesOut (Kept _ missing-kinds.ps missing-kinds.r missing.Post) (λ c. (c.args.0, (Ask Missing))) (λ c. shown (count_paper c.result.answer) c.result.next) Ledger-missing-wrong
 unfolding book_of ledger_of next_by rotated map_of value_of number_to own_number checked_of sound_of map_rules range_rules done missing_count values_of answer_to ones
 Ledger-missing-rules-out = ruled (beside papers lists) answered (λ c p. both p) _ refl
 
@@ -185,7 +185,7 @@ Ledger-held-wrong =
     ∷ (ledger 0 300 (2 ^ 2 + 2 ^ 10) nothing, (Ask Held)) only (answer 0 (2 ∷ []), seen (ledger 0 300 (2 ^ 2 + 2 ^ 10) nothing))
     ∷ []
 
-pub Ledger-held-rules-out : RulesOut (Kept _ held-kinds.ps held-kinds.r held.Post) (λ c. (c.args.0, (Ask Held))) (λ c. shown (count_paper c.result.answer c.result.count) c.result.next) Ledger-held-wrong
+pub Ledger-held-rules-out : RulesOut (Kept _ held-kinds.ps held-kinds.r held.Post) (λ c. (c.args.0, (Ask Held))) (λ c. shown (count_paper c.result.answer) c.result.next) Ledger-held-wrong
 unfolding book_of ledger_of next_by rotated map_of value_of number_to own_number checked_of sound_of map_rules range_rules done held_count values_of answer_to ones
 Ledger-held-rules-out = ruled (beside papers lists) answered (λ c p. both p) _ refl
 
@@ -209,7 +209,7 @@ Ledger-missing-between-wrong =
     ∷ (ledger 254 400 (2 ^ 1) nothing, Ask (Between 100 200 310)) only (answer 0 (55 ∷ []), seen (ledger 254 400 (2 ^ 1) nothing))  -- over the ring's edge: 257 is held at place 1
     ∷ []
 
-pub Ledger-missing-between-rules-out : RulesOut (Kept _ missing-between-kinds.ps missing-between-kinds.r missing-between.Post) (λ c. (c.args.0, Ask (Between c.args.1.0.0 c.args.1.1.0.0 c.args.1.1.1.0.0))) (λ c. shown (count_paper c.result.answer c.result.count) c.result.next) Ledger-missing-between-wrong
+pub Ledger-missing-between-rules-out : RulesOut (Kept _ missing-between-kinds.ps missing-between-kinds.r missing-between.Post) (λ c. (c.args.0, Ask (Between c.args.1.0.0 c.args.1.1.0.0 c.args.1.1.1.0.0))) (λ c. shown (count_paper c.result.answer) c.result.next) Ledger-missing-between-wrong
 unfolding book_of ledger_of next_by rotated map_of value_of number_to own_number checked_of sound_of map_rules range_rules done between_count values_of answer_to ones
 Ledger-missing-between-rules-out = ruled (beside papers lists) answered (λ c p. both p) _ refl
 

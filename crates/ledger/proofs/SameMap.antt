@@ -35,7 +35,8 @@ use Rattle.ledger.specs.Old.{old_book_of, old_ledger_of}
 use Rattle.ledger.specs.Trace.{PromiseBy, Promise, Ran, OldRan, opening, one_more}
 use Rattle.ledger.specs.SameMap.{place_set, within, held_now, held_old, SameHeld, OldRuns}
 use Rattle.ledger.specs.declared.Ledger.{Ledger}
-use Rattle.ledger.specs.declared.Pending.{Pending}
+use Rattle.std.specs.Prelude.{Option}
+use Rattle.ledger.specs.declared.Range.{Range}
 use Rattle.ledger.proofs.Seam.{pending_of_lem, asked_of_lem, book_of_lem, topped_of, place_bit, done_by, next_kept, next_of_lem}
 use Rattle.ledger.proofs.Promised.{ran_by_is_trace}
 
@@ -170,7 +171,7 @@ passed_cleared l next call paper w p a n lo hi =
 pub old_ledger_of_lem : (l : Ledger) → Words l.map.words → old_ledger_of (old_book_of l) ≡ l
 unfolding old_ledger_of old_book_of
 old_ledger_of_lem l w =
-    ap₂ (λ (m : Map) (p : Pending). record { channel = l.channel; floor = l.floor; top = l.top; map = m; pending = p }) (sym (map_of_lem l.map w)) (pending_of_lem l.pending)
+    ap₂ (λ (m : Map) (p : Option Range). record { channel = l.channel; floor = l.floor; top = l.top; map = m; pending = p }) (sym (map_of_lem l.map w)) (pending_of_lem l.pending)
 
 pub old_book_of_lem : (b : Book) → b.bits < 2 ^ 256 → old_book_of (old_ledger_of b) ≡ b
 unfolding old_ledger_of old_book_of

@@ -13,12 +13,15 @@ use lib.Count.{ones}
 use lib.Dec.{eqb, ltb}
 use lib.Pow.{pow-lt, pow_pos, shr_le, ones_sub-lt}
 use Rattle.terms.specs.Paper.{answer, pick}
-use Rattle.terms.specs.Cases.{two, less, same}
+use Rattle.terms.specs.Cases.{two, less, same, clash}
 use Rattle.terms.specs.Counters.{tick_of}
 use Rattle.terms.specs.Refusals.{number_of, refusal_not_0}
 use Rattle.terms.specs.declared.TickNumber.{TickNumber}
 use Rattle.terms.specs.declared.ChannelNumber.{ChannelNumber}
 use Rattle.terms.specs.declared.Refusal.{Refusal}
+use Rattle.terms.specs.declared.Refusal.TheVariants.{Far}
+use Rattle.terms.proofs.Refusals.{refusal_one}
+use mathlib.Core.List.{[], ◌∷◌}
 use Rattle.tick_map.specs.Bits.{Words, bit, is_set, bits_in, map_of, run}
 use Rattle.tick_map.specs.Ring.{rotated, laid, without, only, lacking}
 use Rattle.tick_map.specs.declared.Map.{Map}
@@ -30,22 +33,22 @@ use Rattle.tick_map.proofs.Rotated.{rotated_none, rotated_ext, rotated_zero, rot
 use Rattle.tick_map.proofs.Stretch.{without_lt, without_in, without_out, without_is, without_down, only_lt, only_read}
 use Rattle.ledger_spec.specs.State.{Asked, nothing, range, Book, largest, has, map_rules, sound_of, StateRules}
 use Rattle.ledger.specs.State.{asked_of, pending_of, book_of, ledger_of, topped, next_by, next_in, laid_from}
-use Rattle.ledger_spec.specs.Calls.{Call, Tick, Announce, Request, Reply, Question, Ask, Missing, Held, Between, Renew, tick_number, reply_status, is_pending, starts_at, elsewhere, own_number, checked_of, marked, passes, taken, covered, leaps, gave_up, handed, replied, between_count, waiting, fresh, done, raised, offered, values_of, beside, number_to, answer_to, next_of}
-use Rattle.ledger.specs.Papers.{verdict_number}
+use Rattle.ledger_spec.specs.Calls.{Call, Tick, Announce, Request, Reply, Question, Ask, Missing, Held, Between, Renew, tick_number, reply_status, is_pending, starts_at, elsewhere, own_number, checked_of, marked, passes, taken, covered, leaps, gave_up, handed, replied, between_count, missing_count, held_count, waiting, asked, reach, fresh, done, raised, offered, values_of, beside, number_to, answer_to, next_of}
 use Rattle.ledger.specs.declared.Ledger.{Ledger}
-use Rattle.ledger.specs.declared.Verdict.{Verdict}
-use Rattle.ledger.specs.declared.Pending.{Pending}
-use Rattle.ledger.specs.declared.Pending.TheVariants.{Nothing, Range}
+use Rattle.ledger.specs.declared.Range.{Range}
+use Rattle.std.specs.Prelude.{Option, Some, None}
 use Rattle.ledger_spec.proofs.Masks.{bit_not}
-use Rattle.ledger_spec.proofs.Steps.{covered_lt, covered_in, covered_out, leaps_cover, leaps_short}
-use Rattle.ledger_spec.proofs.Rules.{rules_facts}
+use Rattle.ledger_spec.proofs.Steps.{reach_near, covered_lt, covered_in, covered_out, leaps_cover, leaps_short}
+use Rattle.ledger_spec.proofs.Rules.{has_below, rules_facts, rules_test, held_fits}
+use Rattle.ledger_spec.proofs.Numbers.{checked_facts, tick_done}
+use Rattle.ledger_spec.proofs.Done.{given_0}
 use Rattle.ledger_spec.proofs.Tests.{and_false, and_true, pick_cases}
 
 -- ---- a ledger and its book
 
-pub pending_of_lem : (p : Pending) → pending_of (asked_of p) ≡ p
-pending_of_lem Nothing = refl
-pending_of_lem (Range first last) = refl
+pub pending_of_lem : (p : Option Range) → pending_of (asked_of p) ≡ p
+pending_of_lem None = refl
+pending_of_lem (Some r) = refl
 
 pub asked_of_lem : (p : Asked) → asked_of (pending_of p) ≡ p
 asked_of_lem nothing = refl
@@ -58,7 +61,7 @@ map_kept s m w = map_of_lem m w ∙ ap map_of (sym (laid_rotated s (bits_in m) (
 pub ledger_of_lem : (l : Ledger) → Words l.map.words → ledger_of (book_of l) ≡ l
 unfolding ledger_of book_of
 ledger_of_lem l w =
-    ap₂ (λ (m : Map) (p : Pending). record { channel = l.channel; floor = l.floor; top = l.top; map = m; pending = p }) (sym (map_kept (l.floor.0 + 1) l.map w)) (pending_of_lem l.pending)
+    ap₂ (λ (m : Map) (p : Option Range). record { channel = l.channel; floor = l.floor; top = l.top; map = m; pending = p }) (sym (map_kept (l.floor.0 + 1) l.map w)) (pending_of_lem l.pending)
 
 -- the number of a book's map, laid as the code keeps it
 pub laid_of : (s m : ℕ) → m < 2 ^ 256 → bits_in (map_of (laid s m)) ≡ laid s m
@@ -269,7 +272,7 @@ module _ (s known m : ℕ) (h : m < 2 ^ 256) where
 -- ---- the states that the code makes
 
 pub fresh_of : (c : ChannelNumber) (f t : TickNumber) (m : Map) → f ≡ tick_of 0 → t ≡ tick_of 0 → m ≡ map_of 0
-    → ◌≡◌ {A = Ledger} (record { channel = c; floor = f; top = t; map = m; pending = Nothing }) (ledger_of (fresh c.0))
+    → ◌≡◌ {A = Ledger} (record { channel = c; floor = f; top = t; map = m; pending = None }) (ledger_of (fresh c.0))
 unfolding ledger_of fresh
 fresh_of c f t m p q r = cc (r ∙ ap map_of (sym (rotated_zero 255)))
 
@@ -278,7 +281,7 @@ module _ (l : Ledger) (w : Words l.map.words) where
   unfolding ledger_of book_of raised
   raised_of n = cc (map_kept (l.floor.0 + 1) l.map w, pending_of_lem l.pending)
 
-  pub waiting_of : (p : Pending)
+  pub waiting_of : (p : Option Range)
       → ◌≡◌ {A = Ledger} (record { channel = l.channel; floor = l.floor; top = l.top; map = l.map; pending = p }) (ledger_of (waiting (book_of l) (asked_of p)))
   unfolding ledger_of book_of waiting
   waiting_of p = cc (map_kept (l.floor.0 + 1) l.map w, pending_of_lem p)
@@ -423,10 +426,15 @@ outer_fine b c e =
     (λ (f : sound_of b ≡ false). absurd (apart13 (e ∙ rw f refl)))
     (two (sound_of b))
 
--- a tick of the channel has then its own number
-pub own_fine : (b : Book) (n k : ℕ) → sound_of b ≡ true → k ≡ own_number b (Tick 0 n) → k ≡ number_to b (Tick b.channel n)
-unfolding number_to checked_of own_number
-own_fine b n k t e = e ∙ rw (t, eq-eqb b.channel b.channel refl) refl
+-- a number that is not had lies above the floor
+not_had : (b : Book) (n : ℕ) → has b n ≡ false → b.floor < n
+not_had b n e = ⊎_elim (λ (l : b.floor < n). l) (λ (g : n ≤ b.floor). absurd (clash (has_below b n g) e)) (less b.floor n)
+
+-- where they find nothing, a tick has its own number
+pub own_call : (l : Ledger) (channel m n k : ℕ) → m ≡ n → 0 ≡ checked_of (book_of l) (not (eqb channel (book_of l).channel)) 0 → k ≡ own_number (book_of l) (Tick 0 m)
+    → k ≡ number_to (book_of l) (Tick channel n)
+unfolding number_to own_number
+own_call l channel m n k q e f = f ∙ ap (λ (x : ℕ). own_number (book_of l) (Tick 0 x)) q ∙ checked_fine (book_of l) (not (eqb channel (book_of l).channel)) _ e
 
 -- the own number of a tick, by the code's tests: above the floor received is held, and nothing
 -- beyond floor + 256 is
@@ -492,7 +500,7 @@ ledger_replied : (l : Ledger) (w : ℕ) → ◌≡◌ {A = Ledger} (record {
   floor = tick_of (l.floor.0 + leaps (book_of l) w);
   top = l.top;
   map = map_of (laid (l.floor.0 + leaps (book_of l) w + 1) (covered (book_of l) w / 2 ^ leaps (book_of l) w));
-  pending = Nothing;
+  pending = None;
 }) (ledger_of (replied (book_of l) w))
 unfolding ledger_of book_of replied
 ledger_replied l w = refl
@@ -556,15 +564,15 @@ module _ (l : Ledger) (ws : Words l.map.words) (r : StateRules (book_of l)) (w :
       (λ i q. bit_shr (rotated s m) k i ∙ ap (λ (x : ℕ). bit x (k + i)) (sym bits_is) ∙ sym (covered_out b r w known short (k + i) (omega arith)) ∙ sym (bit_shr (covered b w) k i))
 
   pub replied_of : (k : ℕ) (f : TickNumber) (d : Map) → k ≡ leaps (book_of l) w → f ≡ tick_of (l.floor.0 + k) → d ≡ map_of (without (l.floor.0 + 1) k (bits_in l.map))
-      → ◌≡◌ {A = Ledger} (record { channel = l.channel; floor = f; top = l.top; map = d; pending = Nothing }) (ledger_of (replied (book_of l) w))
+      → ◌≡◌ {A = Ledger} (record { channel = l.channel; floor = f; top = l.top; map = d; pending = None }) (ledger_of (replied (book_of l) w))
   replied_of k f d q x z =
       let le : k ≤ 256 = omega (arith, q, leaps_short b r w known short) in
       let lo : w ≤ k = omega (arith, q, leaps_cover b r w known short) in
       let at : l.floor.0 + 1 + k ≡ l.floor.0 + k + 1 = omega arith in
       let e : d ≡ map_of (laid (l.floor.0 + k + 1) (covered b w / 2 ^ k)) =
       z ∙ ap map_of (without_down (l.floor.0 + 1) k m small le ∙ ap₂ laid at (rest_same k lo)) in
-      ap₂ (λ (g : TickNumber) (n : Map). record { channel = l.channel; floor = g; top = l.top; map = n; pending = Nothing }) x e
-      ∙ ap (λ (j : ℕ). record { channel = l.channel; floor = tick_of (l.floor.0 + j); top = l.top; map = map_of (laid (l.floor.0 + j + 1) (covered b w / 2 ^ j)); pending = Nothing }) q
+      ap₂ (λ (g : TickNumber) (n : Map). record { channel = l.channel; floor = g; top = l.top; map = n; pending = None }) x e
+      ∙ ap (λ (j : ℕ). record { channel = l.channel; floor = tick_of (l.floor.0 + j); top = l.top; map = map_of (laid (l.floor.0 + j + 1) (covered b w / 2 ^ j)); pending = None }) q
       ∙ ledger_replied l w
 
   -- the two sets, read round from floor + 1
@@ -594,12 +602,6 @@ module _ (l : Ledger) (ws : Words l.map.words) (r : StateRules (book_of l)) (w :
 -- ---- an answer by its number
 
 module _ (b : Book) (call : Call) where
-  -- the verdict of the code's checks has the call's number
-  pub judged : (v own : Verdict) → verdict_number v ≡ checked_of b (elsewhere b call) (verdict_number own) → verdict_number own ≡ own_number b call
-      → verdict_number v ≡ number_to b call
-  unfolding number_to
-  judged v own e f = e ∙ ap (checked_of b (elsewhere b call)) f
-
   -- no number of the code's checks: the call is done
   pub done_answer : 0 ≡ number_to b call → answer 0 (values_of b call) ≡ answer_to b call
   unfolding answer_to
@@ -688,6 +690,128 @@ question_not_12 b Held = checked_not_12 b (Ask Held) refl
 question_not_12 b (Between channel a z) =
     checked_not_12 b (Ask (Between channel a z)) (pick_cases (λ k. eqb k 12 ≡ false) (not (tick_number a && tick_number z)) 10 0 (λ e. refl) (λ e. refl))
 
+pub reply_not_12 : (b : Book) (channel first status : ℕ) → eqb (number_to b (Reply channel first status)) 12 ≡ false
+unfolding own_number
+reply_not_12 b channel first status =
+    checked_not_12 b (Reply channel first status)
+    (pick_cases (λ k. eqb k 12 ≡ false) (not (reply_status status)) 17 (pick (not (starts_at b.pending first)) 16 0) (λ e. refl)
+    (λ e. pick_cases (λ k. eqb k 12 ≡ false) (not (starts_at b.pending first)) 16 0 (λ g. refl) (λ g. refl)))
+
+-- ---- each call by its verdict: the answer, and the ledger beside it
+
+module _ (l : Ledger) where
+  -- a refusal that is not 12 gives back the ledger
+  refused_call : (call : Call) (r : Refusal) → number_of r ≡ number_to (book_of l) call → eqb (number_to (book_of l) call) 12 ≡ false
+      → (answer (number_of r) (beside call) ≡ answer_to (book_of l) call) × (l ≡ next_in l call)
+  refused_call call r e f = (refused_answer (book_of l) call r e, same_in l call r e f)
+
+  -- a call that is done
+  done_call : (call : Call) → 0 ≡ number_to (book_of l) call
+      → (answer 0 (values_of (book_of l) call) ≡ answer_to (book_of l) call) × (ledger_of (done (book_of l) call) ≡ next_in l call)
+  done_call call e = (done_answer (book_of l) call e, done_in l call e)
+
+  module _ (channel n : ℕ) where
+    pub tick_taken : 0 ≡ number_to (book_of l) (Tick channel n) → (l.floor.0 < n) × (n ≤ l.floor.0 + 256) × (n ≤ largest) × (sound_of (book_of l) ≡ true)
+    unfolding book_of
+    tick_taken e =
+        let d = tick_done (book_of l) channel n (sym e) in
+        (not_had (book_of l) n d.anew, d.near, d.digits, rules_test (book_of l) d.rules)
+
+    pub tick_done_call : 0 ≡ number_to (book_of l) (Tick channel n)
+        → (answer 0 ((l.floor.0 + 1) ∷ passes (book_of l) n ∷ []) ≡ answer_to (book_of l) (Tick channel n)) × (ledger_of (taken (book_of l) n) ≡ next_in l (Tick channel n))
+    unfolding values_of done book_of
+    tick_done_call e = done_call (Tick channel n) e
+
+    pub tick_far_call : (r : Refusal) → r ≡ Far → number_of r ≡ number_to (book_of l) (Tick channel n)
+        → (answer (number_of r) [] ≡ answer_to (book_of l) (Tick channel n)) × (topped l (max l.top.0 n) ≡ next_in l (Tick channel n))
+    tick_far_call r q e = (refused_answer (book_of l) (Tick channel n) r e, sym (far_by book_of ledger_of l (Tick channel n) (sym e ∙ ap number_of q)))
+
+    pub tick_refused_call : (r : Refusal) → (r ≡ Far → ⊥) → number_of r ≡ number_to (book_of l) (Tick channel n)
+        → (answer (number_of r) [] ≡ answer_to (book_of l) (Tick channel n)) × (l ≡ next_in l (Tick channel n))
+    tick_refused_call r q e = refused_call (Tick channel n) r e (ap (λ (k : ℕ). eqb k 12) (sym e) ∙ ne_eqb _ 12 (λ z. q (refusal_one r Far z)))
+
+    pub announce_done_call : Words l.map.words → 0 ≡ number_to (book_of l) (Announce channel n)
+        → (answer 0 [] ≡ answer_to (book_of l) (Announce channel n)) × (topped l (max l.top.0 n) ≡ next_in l (Announce channel n))
+    unfolding values_of done
+    announce_done_call w e = let p = done_call (Announce channel n) e in (p.0, raised_of l w n ∙ p.1)
+
+    pub announce_refused_call : (r : Refusal) → number_of r ≡ number_to (book_of l) (Announce channel n)
+        → (answer (number_of r) [] ≡ answer_to (book_of l) (Announce channel n)) × (l ≡ next_in l (Announce channel n))
+    announce_refused_call r e = refused_call (Announce channel n) r e (announce_not_12 (book_of l) channel n)
+
+  module _ (channel : ℕ) where
+    pub request_sound : 0 ≡ number_to (book_of l) (Request channel) → (l.floor.0 ≤ l.top.0) × (l.top.0 ≤ largest)
+    unfolding book_of
+    request_sound e = let r = (checked_facts (book_of l) (Request channel) (sym e) (λ q. omega arith) (λ q. omega arith)).rules in (r.low, r.top_small)
+
+    pub request_done_call : 0 ≡ number_to (book_of l) (Request channel)
+        → (answer 0 ((l.floor.0 + 1) ∷ (l.floor.0 + asked (book_of l)) ∷ []) ≡ answer_to (book_of l) (Request channel))
+        × (ledger_of (waiting (book_of l) (range (l.floor.0 + 1) (l.floor.0 + asked (book_of l)))) ≡ next_in l (Request channel))
+    unfolding values_of done book_of
+    request_done_call e = done_call (Request channel) e
+
+    pub request_refused_call : (r : Refusal) → number_of r ≡ number_to (book_of l) (Request channel)
+        → (answer (number_of r) [] ≡ answer_to (book_of l) (Request channel)) × (l ≡ next_in l (Request channel))
+    request_refused_call r e = refused_call (Request channel) r e (request_not_12 (book_of l) channel)
+
+  module _ (channel first status : ℕ) where
+    pub reply_reach : (w : ℕ) → w ≡ reach (book_of l) status → 0 ≡ number_to (book_of l) (Reply channel first status)
+        → (sound_of (book_of l) ≡ true) × (w ≤ 256) × (w ≤ l.top.0 - l.floor.0)
+    unfolding book_of
+    reply_reach w q e =
+        let r = (checked_facts (book_of l) (Reply channel first status) (sym e) (λ z. omega arith) (λ z. omega arith)).rules in
+        let near = reach_near (book_of l) status r in
+        (rules_test (book_of l) r, omega (arith, near.1, q), omega (arith, near.0, q))
+
+    pub reply_done_call : (w : ℕ) → w ≡ reach (book_of l) status → 0 ≡ number_to (book_of l) (Reply channel first status)
+        → (answer 0 ((l.floor.0 + 1) ∷ gave_up (book_of l) w ∷ handed (book_of l) w ∷ []) ≡ answer_to (book_of l) (Reply channel first status))
+        × (ledger_of (replied (book_of l) w) ≡ next_in l (Reply channel first status))
+    unfolding values_of done book_of
+    reply_done_call w q e = rw q (done_call (Reply channel first status) e)
+
+    pub reply_refused_call : (r : Refusal) → number_of r ≡ number_to (book_of l) (Reply channel first status)
+        → (answer (number_of r) (0 ∷ 0 ∷ 0 ∷ []) ≡ answer_to (book_of l) (Reply channel first status)) × (l ≡ next_in l (Reply channel first status))
+    reply_refused_call r e = refused_call (Reply channel first status) r e (reply_not_12 (book_of l) channel first status)
+
+  module _ (channel a z : ℕ) where
+    pub between_bounds : 0 ≡ number_to (book_of l) (Ask (Between channel a z)) → (l.floor.0 ≤ l.top.0) × (l.top.0 ≤ largest) × (a ≤ largest)
+    unfolding book_of
+    between_bounds e = let g = (given_0 (book_of l) (Ask (Between channel a z))).0 (sym e) in (g.rules.low, g.rules.top_small, g.fine.from_digits)
+
+    pub between_done_call : Words l.map.words → 0 ≡ number_to (book_of l) (Ask (Between channel a z))
+        → (answer 0 (between_count (book_of l) a z ∷ []) ≡ answer_to (book_of l) (Ask (Between channel a z))) × (l ≡ next_in l (Ask (Between channel a z)))
+    unfolding values_of done
+    between_done_call w e = let p = done_call (Ask (Between channel a z)) e in (p.0, sym (ledger_of_lem l w) ∙ p.1)
+
+    pub between_refused_call : (r : Refusal) → number_of r ≡ number_to (book_of l) (Ask (Between channel a z))
+        → (answer (number_of r) (0 ∷ []) ≡ answer_to (book_of l) (Ask (Between channel a z))) × (l ≡ next_in l (Ask (Between channel a z)))
+    between_refused_call r e = refused_call (Ask (Between channel a z)) r e (question_not_12 (book_of l) (Between channel a z))
+
+  -- the two counts that name no channel: 13 alone
+  module _ (w : Words l.map.words) (t : sound_of (book_of l) ≡ true) where
+    plain_0 : (q : Question) → elsewhere (book_of l) (Ask q) ≡ false → own_number (book_of l) (Ask q) ≡ 0 → 0 ≡ number_to (book_of l) (Ask q)
+    unfolding number_to checked_of
+    plain_0 q f e = rw (t, f, e) refl
+
+    pub missing_known : l.floor.0 ≤ l.top.0
+    missing_known = (sound_low l t).0
+
+    pub missing_held : ones (bits_in l.map) ≤ l.top.0 - l.floor.0
+    unfolding book_of
+    missing_held = omega (arith, held_fits (book_of l) (rules_facts (book_of l) t), held_of l w)
+
+    pub missing_call : (answer 0 ((l.top.0 - l.floor.0 - ones (bits_in l.map)) ∷ []) ≡ answer_to (book_of l) (Ask Missing)) × (l ≡ next_in l (Ask Missing))
+    unfolding values_of done own_number missing_count book_of
+    missing_call =
+        let p = done_call (Ask Missing) (plain_0 Missing refl refl) in
+        (ap (λ (k : ℕ). answer 0 ((l.top.0 - l.floor.0 - k) ∷ [])) (held_of l w) ∙ p.0, sym (ledger_of_lem l w) ∙ p.1)
+
+    pub held_call : (answer 0 (ones (bits_in l.map) ∷ []) ≡ answer_to (book_of l) (Ask Held)) × (l ≡ next_in l (Ask Held))
+    unfolding values_of done own_number held_count
+    held_call =
+        let p = done_call (Ask Held) (plain_0 Held refl refl) in
+        (ap (λ (k : ℕ). answer 0 (k ∷ [])) (held_of l w) ∙ p.0, sym (ledger_of_lem l w) ∙ p.1)
+
 -- and no question changes the book
 pub question_next : (b : Book) (q : Question) → next_of b (Ask q) ≡ b
 unfolding next_of done
@@ -697,10 +821,3 @@ question_next b q =
 pub renew_not_12 : (b : Book) → eqb (number_to b Renew) 12 ≡ false
 unfolding own_number
 renew_not_12 b = checked_not_12 b Renew refl
-
-pub reply_not_12 : (b : Book) (channel first status : ℕ) → eqb (number_to b (Reply channel first status)) 12 ≡ false
-unfolding own_number
-reply_not_12 b channel first status =
-    checked_not_12 b (Reply channel first status)
-    (pick_cases (λ k. eqb k 12 ≡ false) (not (reply_status status)) 17 (pick (not (starts_at b.pending first)) 16 0) (λ e. refl)
-    (λ e. pick_cases (λ k. eqb k 12 ≡ false) (not (starts_at b.pending first)) 16 0 (λ g. refl) (λ g. refl)))

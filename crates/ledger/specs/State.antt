@@ -4,7 +4,7 @@
 -- `laid_from` below, `reply_paper` of Papers.antt, `sets_in` and `settled_row` of `host_ledger`
 -- read them so too.
 use Rattle.terms.specs.Counters.{tick_of, channel_of}
-use Rattle.std.specs.Prelude.{ℕ, ◌+◌, max, eqb}
+use Rattle.std.specs.Prelude.{ℕ, ◌+◌, max, eqb, Option, Some, None}
 use Rattle.terms.specs.Paper.{pick}
 use Rattle.tick_map.specs.Bits.{bits_in, map_of}
 use Rattle.terms.specs.declared.TickNumber.{TickNumber}
@@ -13,16 +13,18 @@ use Rattle.tick_map.specs.Ring.{rotated, laid}
 use Rattle.ledger_spec.specs.State.{Asked, nothing, range, Book}
 use Rattle.ledger_spec.specs.Calls.{Call, offered, number_to, done}
 use Rattle.ledger.specs.declared.Ledger.{Ledger}
-use Rattle.ledger.specs.declared.Pending.{Pending}
-use Rattle.ledger.specs.declared.Pending.TheVariants.{Nothing, Range}
+use Rattle.ledger.specs.declared.Range.{Range}
 
-abbrev pub asked_of : Pending → Asked
-asked_of Nothing = nothing
-asked_of (Range first last) = range first.0 last.0
+abbrev pub range_of : ℕ → ℕ → Range
+range_of first last = record { first = tick_of first; last = tick_of last }
 
-abbrev pub pending_of : Asked → Pending
-pending_of nothing = Nothing
-pending_of (range first last) = Range (tick_of first) (tick_of last)
+abbrev pub asked_of : Option Range → Asked
+asked_of None = nothing
+asked_of (Some r) = range r.first.0 r.last.0
+
+abbrev pub pending_of : Asked → Option Range
+pending_of nothing = None
+pending_of (range first last) = Some (range_of first last)
 
 unfoldable pub book_of : Ledger → Book
 book_of l =
@@ -52,7 +54,7 @@ topped l n = record { channel = l.channel; floor = l.floor; top = tick_of n; map
 
 -- and the ledger with nothing pending
 abbrev pub cleared : Ledger → Ledger
-cleared l = record { channel = l.channel; floor = l.floor; top = l.top; map = l.map; pending = Nothing }
+cleared l = record { channel = l.channel; floor = l.floor; top = l.top; map = l.map; pending = None }
 
 -- however a ledger keeps a book: a call that is done gives the ledger of its book. A refused one
 -- gives back the very ledger, sound or not, save that 12 gives it with its top raised.

@@ -1,11 +1,9 @@
 -- Laws of columns: sameness of texts, and each kind by its number.
-use Rattle.std.specs.Prelude.{ℕ, ◌+◌, ◌<◌, ◌≤◌, ◌≡◌, true, false, not, ◌||◌, List, [], ◌∷◌, leb, eqb, length, get_or, take, drop, replicate}
+use Rattle.std.specs.Prelude.{ℕ, ◌≡◌, true, not, ◌||◌, List, eqb, length}
 use Rattle.std.proofs.Math.Path.{refl}
-use Rattle.std.proofs.Common.{sym, ap, ◌∙◌, ⊎_elim, add-one, arith, take-suc, take_all, eq-eqb, eqb-true}
-use Rattle.terms.specs.Cases.{two, clash}
-use Rattle.digits.specs.Laws.{both}
+use Rattle.std.proofs.Common.{arith}
 use Rattle.market_columns.specs.Numbers.{spaces, number_in}
-use Rattle.market_columns.specs.Columns.{Column, K, S, N, C, U, wide, kind_of, decimals_of, constant_of, alike, blank, column_ok, ok_at, row_of, fixed_text}
+use Rattle.market_columns.specs.Columns.{Column, K, S, N, C, U, kind_of, decimals_of, constant_of, alike, blank, column_ok}
 
 -- EACH KIND BY ITS NUMBER
 
@@ -42,10 +40,10 @@ module _ (x : List ℕ) where
   ok_text (C n) e = refl
   ok_text (U n) e = absurd (omega arith)
 
-  pub ok_name : (c : Column) → (kind_of c ≡ 0 → ⊥) → (kind_of c ≡ 1 → ⊥) → (kind_of c ≡ 2 → ⊥) → (kind_of c ≡ 3 → ⊥) → column_ok c x ≡ true
+  pub ok_name : (c : Column) → kind_of c ≡ 4 → column_ok c x ≡ true
   unfolding column_ok
-  ok_name (K t) a b c d = absurd (a refl)
-  ok_name (S n) a b c d = absurd (b refl)
-  ok_name (N n q) a b c d = absurd (c refl)
-  ok_name (C n) a b c d = absurd (d refl)
-  ok_name (U n) a b c d = refl
+  ok_name (K t) e = absurd (omega arith)
+  ok_name (S n) e = absurd (omega arith)
+  ok_name (N n d) e = absurd (omega arith)
+  ok_name (C n) e = absurd (omega arith)
+  ok_name (U n) e = refl

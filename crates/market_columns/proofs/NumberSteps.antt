@@ -1,25 +1,18 @@
 -- How `number_in` takes a column apart, step by step: k spaces, the sign m, n digits before the
 -- point, then the decimals.
-use Rattle.std.specs.Prelude.{ℕ, ◌+◌, ◌-◌, ◌*◌, ◌<◌, ◌≤◌, ◌^◌, ◌≡◌, true, false, List, leb, length, get_or, take, drop}
+use Rattle.std.specs.Prelude.{ℕ, ◌+◌, ◌*◌, ◌<◌, ◌≤◌, ◌^◌, ◌≡◌, List, length, get_or, take, drop}
 use Rattle.std.proofs.Common.{sym, ap, ◌∙◌, ⊎_elim, mul-le-mul_right, add-mul, one-mul, arith, pow-add, lit<, le-leb}
 use Rattle.std.proofs.Math.Nat.{pow-le-pow_right}
-use Rattle.std.proofs.lemmas.Bool.{lt-leb}
 use Rattle.terms.specs.Cases.{same}
 use Rattle.digits.specs.Digits.{number, nothing, decimal_at}
 use Rattle.digits.specs.Laws.{said_below}
 use Rattle.digits.specs.Texts.{Says, decimal_given}
-use Rattle.market_columns.specs.Numbers.{spaces, sign_of, behind, decimals_at, unless0, joined, start_of, whole_of, number_in, number_at}
-use Rattle.market_columns.specs.Pieces.{column_length, decimal_within, behind_some}
+use Rattle.market_columns.specs.Numbers.{spaces, sign_of, behind, decimals_at, unless0, joined, start_of, whole_of, number_in}
+use Rattle.market_columns.specs.Pieces.{column_length, behind_some}
 use Rattle.market_columns.proofs.NumberLaws.{lo_below}
 use Rattle.market_columns.specs.NumberSteps.{Steps}
 
-module _ (d at w : ℕ) (s : List ℕ) (k m n : ℕ) (q : Steps d at w s k m n) where
-  abbrev t : List ℕ
-  t = take w (drop at s)
-
-  long : length t ≡ w
-  long = column_length s at w q.inside
-
+module _ (d : ℕ) (t : List ℕ) (k m n : ℕ) (q : Steps d t k m n) where
   sign_is : sign_of (get_or t (spaces t) 0) ≡ m
   sign_is = ap (λ (i : ℕ). sign_of (get_or t i 0)) (sym q.spaced) ∙ sym q.sign
 
@@ -27,40 +20,40 @@ module _ (d at w : ℕ) (s : List ℕ) (k m n : ℕ) (q : Steps d at w s k m n) 
   start_is = rw (sign_is, q.spaced)
 
   whole_is : whole_of d t ≡ n
-  whole_is = rw (start_is, long) (sym q.whole)
+  whole_is = rw start_is (sym q.whole)
 
-  within_is : decimal_at (start_of t) (whole_of d t) t ≡ decimal_at (at + (k + m)) n s
-  within_is = rw (whole_is, start_is) (decimal_within s at w (k + m) n q.inside (omega (arith, q.left, q.whole)))
+  within_is : decimal_at (start_of t) (whole_of d t) t ≡ decimal_at (k + m) n t
+  within_is = rw (whole_is, start_is)
 
   place_is : start_of t + whole_of d t ≡ k + m + n
   place_is = rw (whole_is, start_is)
 
-  pub whole_lacks : decimal_at (at + (k + m)) n s ≡ nothing → number_in d t ≡ nothing
+  pub whole_lacks : decimal_at (k + m) n t ≡ nothing → number_in d t ≡ nothing
   unfolding number_in joined
-  whole_lacks e = rw (le-leb (length t) 19 (omega (arith, long, q.few)), within_is, e)
+  whole_lacks e = rw (le-leb (length t) 19 q.few, within_is, e)
 
-  module _ (h : ℕ) (e : decimal_at (at + (k + m)) n s ≡ number h) where
-    said : Says (at + (k + m)) n s h
-    said = (decimal_given (at + (k + m)) n s h e).0
+  module _ (h : ℕ) (e : decimal_at (k + m) n t ≡ number h) where
+    said : Says (k + m) n t h
+    said = (decimal_given (k + m) n t h e).0
 
-    pub parts_fit : k + m + n + behind d ≤ w
+    pub parts_fit : k + m + n + behind d ≤ length t
     parts_fit = omega (arith, said.place.some, q.whole)
 
     high : h < 10 ^ n
     high =
-        let l : length (take n (drop (at + (k + m)) s)) ≡ n = column_length s (at + (k + m)) n said.place.within in
-        rw (said.says, l) at (said_below (take n (drop (at + (k + m)) s)) said.digits)
+        let l : length (take n (drop (k + m) t)) ≡ n = column_length t (k + m) n said.place.within in
+        rw (said.says, l) at (said_below (take n (drop (k + m) t)) said.digits)
 
     pub d_room : n + d ≤ 19
     d_room = ⊎_elim (λ (z : d ≡ 0). omega (arith, parts_fit, q.few)) (λ (z : d ≡ 0 → ⊥). omega (arith, parts_fit, q.few, behind_some d z)) (same d 0)
 
     pub parts_lack : decimals_at d (k + m + n) t ≡ nothing → number_in d t ≡ nothing
     unfolding number_in joined
-    parts_lack f = rw (le-leb (length t) 19 (omega (arith, long, q.few)), within_is, e, place_is, f)
+    parts_lack f = rw (le-leb (length t) 19 q.few, within_is, e, place_is, f)
 
     pub parts_there : (l : ℕ) → decimals_at d (k + m + n) t ≡ number l → number_in d t ≡ unless0 m (h * 10 ^ d + l)
     unfolding number_in joined
-    parts_there l f = rw (le-leb (length t) 19 (omega (arith, long, q.few)), within_is, e, place_is, f, sign_is)
+    parts_there l f = rw (le-leb (length t) 19 q.few, within_is, e, place_is, f, sign_is)
 
     pub small : (l : ℕ) → decimals_at d (k + m + n) t ≡ number l → h * 10 ^ d + l < 10 ^ 19
     small l f =

@@ -10,8 +10,8 @@ use Rattle.terms.specs.Paper.{Paper, pick}
 use Rattle.terms.specs.RuledOut.{Row, ◌never◌, ◌only◌, Kept, RulesOut, ruled, bools, lists, papers, beside}
 use Rattle.octets.specs.Octets.{numeral, digits_of, laid}
 use Rattle.digits.specs.Digits.{decimal_of, width_in, all_digits, said_by, said_if_digits, digits_at, decimal_at, nothing}
-use Rattle.market_columns.specs.Numbers.{amount, amount_paper, spaces, decimals_at, joined, number_in, number_at, number_text, column_text, number_fits}
-use Rattle.market_columns.specs.Columns.{Column, wide, kind_of, decimals_of, row_of, FormIs, alike, column_ok, ok_at, is_fixed, fixed_text}
+use Rattle.market_columns.specs.Numbers.{amount, amount_paper, sign, spaces, decimals_at, joined, number_in, number_at, number_text, column_text, number_fits}
+use Rattle.market_columns.specs.Columns.{Column, wide, kind_of, decimals_of, row_of, kind_number, FormIs, alike, column_ok, ok_at, is_fixed, fixed_text}
 use Rattle.market_columns.specs.Tables.{starts}
 use Rattle.market_columns.specs.declared.Form.{Form}
 use Rattle.market_columns.proofs.number_at.Reads as number_at
@@ -42,7 +42,7 @@ number_at_wrong =
     ∷ ((32 ∷ 32 ∷ 32 ∷ 32 ∷ 48 ∷ []), (0, (5, 0))) only amount 0 0
     ∷ []
 
-pub number_at_rules_out : RulesOut (Kept _ number-at-kinds.ps number-at-kinds.r number_at.Post) (λ c. (c.args.0.now, (c.args.1.0, (c.args.1.1.0, c.args.1.1.1.0)))) (λ c. amount_paper c.result) number_at_wrong
+pub number_at_rules_out : RulesOut (Kept _ number-at-kinds.ps number-at-kinds.r number_at.Post) (λ c. let f = c.args.1.1.0 in (c.args.0.now, (c.args.1.0, (f.width, f.decimals)))) (λ c. amount_paper c.result) number_at_wrong
 unfolding number_at number_in joined decimals_at spaces digits_at decimal_at said_if_digits said_by all_digits numeral
 number_at_rules_out = ruled papers (λ (i : List ℕ × (ℕ × (ℕ × ℕ))). number_at i.1.0 i.1.1.0 i.1.1.1 i.0) (λ c p. p) _ refl
 
@@ -57,7 +57,7 @@ number_fits_wrong =
     ∷ (3, (3, (0, 5))) only false  -- no byte before the point
     ∷ []
 
-pub number_fits_rules_out : RulesOut (Kept _ number-fits-kinds.ps number-fits-kinds.r number_fits.Post) (λ c. (c.args.0, (c.args.1.0, (c.args.1.1.0, c.args.1.1.1.0)))) (λ c. c.result) number_fits_wrong
+pub number_fits_rules_out : RulesOut (Kept _ number-fits-kinds.ps number-fits-kinds.r number_fits.Post) (λ c. let f = c.args.0 in let a = c.args.1.0 in (f.width, (f.decimals, (sign a.minus, a.units)))) (λ c. c.result) number_fits_wrong
 unfolding number_fits number_text decimal_of width_in digits_of
 number_fits_rules_out = ruled bools (λ (i : ℕ × (ℕ × (ℕ × ℕ))). number_fits i.0 i.1.0 i.1.1.0 i.1.1.1) (λ c p. p) _ refl
 
@@ -81,7 +81,7 @@ put_number_wrong =
     ∷ (replicate 9 7, (1, (5, (3, (0, 10000))))) only put false (replicate 9 7)  -- too long for its column
     ∷ []
 
-pub put_number_rules_out : RulesOut (Kept _ put-number-kinds.ps put-number-kinds.r put-number.Post) (λ c. (c.args.0.now, (c.args.1.0, (c.args.1.1.0, (c.args.1.1.1.0, (c.args.1.1.1.1.0, c.args.1.1.1.1.1.0)))))) (λ c. put c.result c.exit.0.now) put_number_wrong
+pub put_number_rules_out : RulesOut (Kept _ put-number-kinds.ps put-number-kinds.r put-number.Post) (λ c. let f = c.args.1.1.0 in let a = c.args.1.1.1.0 in (c.args.0.now, (c.args.1.0, (f.width, (f.decimals, (sign a.minus, a.units)))))) (λ c. put c.result c.exit.0.now) put_number_wrong
 unfolding number_fits number_text column_text decimal_of width_in digits_of laid
 put_number_rules_out =
     ruled (beside bools lists) (λ (i : List ℕ × (ℕ × (ℕ × (ℕ × (ℕ × ℕ))))). puts (number_fits i.1.1.0 i.1.1.1.0 i.1.1.1.1.0 i.1.1.1.1.1 && leb (i.1.0 + i.1.1.0) (length i.0)) (laid i.1.0 (column_text i.1.1.0 i.1.1.1.0 i.1.1.1.1.0 i.1.1.1.1.1) i.0) i.0) (λ c p. ap₂ put p.0 p.1) _ refl
@@ -90,7 +90,7 @@ put_number_rules_out =
 abbrev four : ℕ → ℕ → ℕ → ℕ → List ℕ
 four k w d t = k ∷ w ∷ d ∷ t ∷ []
 
-form_list : (x : Form) (c : Column) (t : ℕ) → FormIs c x.kind x.width x.decimals x.start → x.start ≡ t → four x.kind x.width x.decimals x.start ≡ four (kind_of c) (wide c) (decimals_of c) t
+form_list : (x : Form) (c : Column) (t : ℕ) → FormIs c (kind_number x.kind) x.width x.decimals x.start → x.start ≡ t → four (kind_number x.kind) x.width x.decimals x.start ≡ four (kind_of c) (wide c) (decimals_of c) t
 form_list x c t f e = rw (f.kind_is, f.width_is, f.decimals_is, e)
 
 abbrev pub column_wrong : List (Row ℕ (List ℕ))
@@ -105,7 +105,7 @@ column_wrong =
     ∷ 58 only four 0 0 0 0
     ∷ []
 
-pub column_rules_out : RulesOut (Kept _ column-kinds.ps column-kinds.r column.Post) (λ c. c.args.0) (λ c. four c.result.kind c.result.width c.result.decimals c.result.start) column_wrong
+pub column_rules_out : RulesOut (Kept _ column-kinds.ps column-kinds.r column.Post) (λ c. c.args.0) (λ c. four (kind_number c.result.kind) c.result.width c.result.decimals c.result.start) column_wrong
 column_rules_out = ruled lists (λ (i : ℕ). four (kind_of (row_of i)) (wide (row_of i)) (decimals_of (row_of i)) (get_or starts i 0)) (λ c p. form_list c.result (row_of c.args.0) (get_or starts c.args.0 0) p.0 p.1) _ refl
 
 -- COLUMN_OK: bytes, a place and a row

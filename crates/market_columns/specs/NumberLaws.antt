@@ -1,30 +1,26 @@
 -- The laws of a number column. `number_says`, `says_number`: a value is given exactly when the
 -- column has 003's form. `column_back`: writing what
 -- was read gives the same bytes. `column_fore`: reading what was written gives the value.
-use Rattle.std.specs.Prelude.{ℕ, zero, suc, ◌+◌, ◌-◌, ◌*◌, ◌/◌, ◌%◌, ◌<◌, ◌≤◌, ◌^◌, ◌≡◌, refl, true, false, ◌&&◌, not, ◌⊎◌, drop, replicate}
-use Rattle.std.proofs.Common.{sym, ◌∙◌, inl, inr, add-one, pow-suc, mod-eq_of_lt, div-add-mod', mod-lt, div-lt_iff_lt-mul, add-mul, one-mul, mul-le-mul_right, pow-add, arith, lit<, lit≤, length-append, take-append-drop, drop_of_length-le, drop-drop, drop-cons, take_at, drop_at, take_all, length-take-le, get_or-append-add, le-leb, leb-true, eq-eqb, ne_eqb, eqb-true}
-use Rattle.std.proofs.Math.Path.{ap}
+use Rattle.std.specs.Prelude.{ℕ, ◌%◌, ◌<◌, ◌≤◌, ◌^◌, ◌≡◌, true, false, ◌&&◌, not, ◌⊎◌}
+use Rattle.std.proofs.Common.{add-one, arith, lit<, le-leb, leb-true}
 use Rattle.std.proofs.Math.Logic.{⊎_elim}
-use mathlib.Core.List.{List, [], ◌∷◌, ◌++◌, append_assoc}
-use Rattle.std.proofs.Math.Nat.{add-zero, pow-zero, one-le-pow, mul-add-div_right, mul-add-mod_self_right, div-eq_of_lt, pow-le-pow_right}
+use Rattle.std.proofs.Math.Nat.{one-le-pow, pow-le-pow_right}
 use Rattle.std.proofs.Math.Dec.{leb, eqb}
-use Rattle.std.proofs.Math.ListN.{length, get_or, take, length-drop, get_or-eq_default}
-use Rattle.std.proofs.lemmas.List.{length-replicate, get_or_at}
-use Rattle.std.proofs.Math.Seq.{drop-append-add}
+use Rattle.std.proofs.Math.ListN.{length}
 use Rattle.std.proofs.lemmas.Bool.{not-true}
-use Rattle.terms.specs.Cases.{two, less, same}
+use Rattle.terms.specs.Cases.{two}
 use Rattle.terms.specs.Paper.{Paper}
-use Rattle.digits.specs.Digits.{decimal_of, shown_of, width_of, width_in, number, nothing, digits_at, decimal_at, all_digits}
-use Rattle.digits.specs.Widths.{Width, width_of_lem, width_large}
-use Rattle.digits.specs.Laws.{both, length_decimal, all_decimal, said_decimal, said_below, all_each, digit_bounds}
-use Rattle.digits.specs.Texts.{Says, given_number, number_given, given_decimal, decimal_given, digits_written, decimal_written, shown_plain}
-use Rattle.market_columns.specs.Numbers.{amount, spaces, sign_of, behind, decimals_at, unless0, joined, start_of, whole_of, number_in, sign_text, decimals_text, number_text, column_text, number_fits}
-use Rattle.market_columns.specs.Pieces.{Either, digits_either, decimal_either, decimal_same, digits_same, spaces_most, spaces_stand, spaces_front, spaces_none}
+use Rattle.digits.specs.Digits.{nothing}
+use Rattle.digits.specs.Laws.{both, length_decimal}
+use Rattle.market_columns.specs.Numbers.{amount, behind, decimals_text, number_text, number_fits}
 
 -- PARTS OF A NUMBER
 
 pub ten_pos : (d : ℕ) → 0 < 10 ^ d
 ten_pos d = one-le-pow d 10 (lit< tt)
+
+pub ten_most : (d : ℕ) → d ≤ 19 → 10 ^ d < 18446744073709551616
+ten_most d h = omega (arith, pow-le-pow_right {n = 10} (lit< tt) {i = d} {j = 19} h)
 
 -- COLUMN-FORE
 

@@ -1,15 +1,8 @@
 -- What a column, a line and a file say beside their constants, blanks, bars, count and sum; and the
 -- bytes made of that.
-use Rattle.std.specs.Prelude.{ℕ, ◌≡◌, refl, Bool, true, false, ◌&&◌, ◌||◌, List, [], ◌∷◌, ◌++◌, eqb, length, replicate}
-use Rattle.std.proofs.Common.{sym, ap, ◌∙◌, inl, inr, append-nil, arith, take_all, eq-eqb, eqb-true}
-use Rattle.std.proofs.lemmas.List.{length-replicate}
-use Rattle.terms.specs.Cases.{clash}
-use Rattle.digits.specs.Laws.{both}
+use Rattle.std.specs.Prelude.{ℕ, ◌≡◌, Bool, true, false, ◌&&◌, ◌||◌, List, [], ◌∷◌, eqb, length, replicate}
 use Rattle.market_columns.specs.Numbers.{spaces, number_in, column_text, number_fits}
-use Rattle.market_columns.specs.NumberLaws.{number_fits_lem, fits_number, SaysOrNot}
-use Rattle.market_columns.specs.Pieces.{spaces_front, spaces_stand}
 use Rattle.market_columns.specs.Columns.{Column, K, S, N, C, U, wide, blank, column_ok}
-use Rattle.market_columns.specs.ColumnLaws.{alike_self, alike_is}
 
 -- A COLUMN
 

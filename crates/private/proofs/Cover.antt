@@ -1,16 +1,13 @@
 -- The spans that are told one by one, from number 0 up to the first empty one, are exactly the
 -- private bytes of a body, and lie within it.
-use Rattle.std.specs.Prelude.{ℕ, zero, suc, ◌+◌, ◌<◌, ◌≤◌, ◌≡◌, refl, true, ◌⊎◌, ◌↔◌, List, [], ◌∷◌, length}
+use Rattle.std.specs.Prelude.{ℕ, zero, suc, ◌+◌, ◌<◌, ◌≤◌, ◌≡◌, refl, true, List, [], ◌∷◌, length}
 use Rattle.std.proofs.Common.{inl, inr, ⊎_elim, arith}
 use Rattle.rules.specs.declared.Kind.{Kind}
-use Rattle.rules.specs.declared.Kind.TheVariants.{S001, S002, S003, P001, P002, M101, M102, M201, Unknown}
-use Rattle.rules.specs.declared.Layout.{Layout}
-use Rattle.rules.specs.declared.Layout.TheVariants.{Order, Trade, Other}
 use Rattle.rules.specs.Table.{suits}
 use Rattle.private.specs.declared.Span.{Span}
-use Rattle.private.specs.Private.{tail_of, tail_spans, private_of, span_at}
+use Rattle.private.specs.Private.{private_of, span_at}
 use Rattle.private.specs.Paint.{Inside, within_at}
-use Rattle.private.specs.PrivateLaws.{PrivateByte, private_within}
+use Rattle.private.specs.PrivateLaws.{private_within}
 use Rattle.private.proofs.PrivateLaws.{private_is}
 use Rattle.private.proofs.Full.{Full, full}
 use Rattle.private.specs.Cover.{In, Covers}

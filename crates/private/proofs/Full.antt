@@ -1,14 +1,12 @@
 -- Of a body's private spans none is empty, but for the last.
-use Rattle.std.specs.Prelude.{ℕ, zero, suc, ◌+◌, ◌<◌, ◌≤◌, ◌≡◌, refl, true, ◌⊎◌, ◌↔◌, List, [], ◌∷◌, length}
-use Rattle.std.proofs.Common.{inl, inr, ⊎_elim, arith}
+use Rattle.std.specs.Prelude.{ℕ, zero, ◌<◌, ◌≡◌, refl, List, [], ◌∷◌, length}
+use Rattle.std.proofs.Common.{arith}
 use Rattle.rules.specs.declared.Kind.{Kind}
 use Rattle.rules.specs.declared.Kind.TheVariants.{S001, S002, S003, P001, P002, M101, M102, M201, Unknown}
 use Rattle.rules.specs.declared.Layout.{Layout}
 use Rattle.rules.specs.declared.Layout.TheVariants.{Order, Trade, Other}
-use Rattle.rules.specs.Table.{suits}
 use Rattle.private.specs.declared.Span.{Span}
-use Rattle.private.specs.Private.{tail_of, tail_spans, private_of, span_at}
-use Rattle.private.specs.Paint.{Inside, within_at}
+use Rattle.private.specs.Private.{tail_of, tail_spans, private_of}
 
 abbrev pub Full : List Span → Type 0
 Full [] = zero ≡ zero

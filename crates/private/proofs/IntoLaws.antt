@@ -1,11 +1,11 @@
 -- Scrubbing into another buffer: when each number is given, and that what stands there is what
 -- scrubbing leaves of the frame where it stands.
-use Rattle.std.specs.Prelude.{ℕ, ◌+◌, ◌<◌, ◌≤◌, ◌≡◌, refl, ◌↔◌, List, ◌++◌, length, take, drop}
-use Rattle.std.proofs.Common.{sym, ap, ◌∙◌, ⊎_elim, arith, take-append-drop, length-take-le, take_all, take-take, take-add, drop_at, eq-eqb, ne_eqb, le-leb}
+use Rattle.std.specs.Prelude.{Result, ℕ, ◌+◌, ◌<◌, ◌≤◌, ◌≡◌, refl, ◌↔◌, List, length, take, drop}
+use Rattle.std.proofs.Common.{sym, ap, ◌∙◌, ⊎_elim, arith, take-append-drop, length-take-le, take_all, take-take, take-add, drop_at, eq-eqb, le-leb}
 use Rattle.std.proofs.lemmas.Bool.{lt-leb}
 use Rattle.terms.specs.Paper.{Paper, one_number}
 use Rattle.terms.specs.Cases.{less, same}
-use Rattle.octets.specs.declared.Written.{Written}
+use Rattle.terms.specs.declared.Refusal.{Refusal}
 use Rattle.octets.specs.Papers.{written_paper, Refuses, room_for, laid_if_room, room_there, room_lacks, refused_kept}
 use Rattle.octets.specs.Octets.{be}
 use Rattle.octets.specs.Numerals.{numeral_take}
@@ -145,7 +145,7 @@ module _ (s : List ℕ) (to len : ℕ) where
   )
 
 -- a refusal leaves the buffer as it was
-pub into_refused_keeps : (s : List ℕ) (to : ℕ) (d e : List ℕ) (x : Written) → Refuses x → written_paper x ≡ into_answer s to (length d) → e ≡ into_leaves s to d → e ≡ d
+pub into_refused_keeps : (s : List ℕ) (to : ℕ) (d e : List ℕ) (x : Result ℕ Refusal) → Refuses x → written_paper x ≡ into_answer s to (length d) → e ≡ into_leaves s to d → e ≡ d
 into_refused_keeps s to d e x r p q =
     ⊎_elim
     (λ (z : (read_of s).number ≡ 0).

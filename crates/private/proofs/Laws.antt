@@ -1,9 +1,9 @@
 -- Demand 2, second half: a scrubbed frame reads, holds the fill in each private field and a
 -- checksum set anew, and has every other byte of the original. And two frames that agree in all but
 -- private fields and checksum scrub to the same bytes.
-use Rattle.std.specs.Prelude.{ℕ, ◌+◌, ◌-◌, ◌<◌, ◌≤◌, true, ◌≡◌, ◌⊎◌, drop}
+use Rattle.std.specs.Prelude.{Result, ℕ, ◌+◌, ◌-◌, ◌<◌, ◌≤◌, true, ◌≡◌, ◌⊎◌, drop}
 use Rattle.std.proofs.Math.Path.{refl, sym, ap}
-use Rattle.std.proofs.Common.{◌∙◌, inl, inr, length-drop, length-take-le, drop_at, get_or-take, get_or-drop, eq-eqb, ne_eqb}
+use Rattle.std.proofs.Common.{◌∙◌, inl, inr, length-drop, length-take-le, drop_at, get_or-take, get_or-drop, eq-eqb}
 use Rattle.std.proofs.Math.Logic.{⊎_elim}
 use mathlib.Core.List.{List, [], ◌∷◌, ◌++◌}
 use native.Mathlib.Omega.{arith}
@@ -12,7 +12,7 @@ use Rattle.std.proofs.Math.Seq.{take-add}
 use Rattle.terms.specs.Paper.{answer, one_number}
 use Rattle.terms.specs.Cases.{less, same}
 use Rattle.terms.specs.Refusals.{refusal_pos}
-use Rattle.octets.specs.declared.Written.{Written}
+use Rattle.terms.specs.declared.Refusal.{Refusal}
 use Rattle.octets.specs.Papers.{written_paper, Refuses}
 use Rattle.octets.specs.Octets.{numeral, be, bytes_of, sum8, laid}
 use Rattle.octets.specs.Numerals.{length_digits, numeral_append, numeral_drop, numeral_take, last_byte}
@@ -22,11 +22,11 @@ use Rattle.octets.specs.Overlays.{length_laid, laid_again, laid_same, take_laid,
 use Rattle.rules.specs.Table.{kind_of, suits}
 use Rattle.rules.specs.Fields.{judge_of}
 use Rattle.rules.specs.Outcomes.{measure_same}
-use Rattle.frame_spec.specs.Frame.{msg_type, sending_time, msg_seq_num, body_length, body, plain, check_sum, read_of}
+use Rattle.frame_spec.specs.Frame.{msg_type, sending_time, body_length, body, plain, check_sum, read_of}
 use Rattle.frame_spec.specs.Outcomes.{Good, good, good_reads}
 use Rattle.frame_spec.specs.Measures.{fits}
 use Rattle.frame_spec.specs.Places.{body_length_lem}
-use Rattle.frame_spec.specs.Write.{Message, message, message_of}
+use Rattle.frame_spec.specs.Write.{Message, message_of}
 use Rattle.private.specs.declared.Span.{Span}
 use Rattle.rules.specs.declared.Kind.{Kind}
 use Rattle.private.specs.Private.{private_of}
@@ -314,7 +314,7 @@ module _ (d : List ℕ) (z : (read_of d).number ≡ 0) where
     read_scrubs = rw (p, q) (sym (scrubs d z))
 
 -- a refusal leaves the buffer as it was
-pub refused_kept : (d e : List ℕ) (x : Written) → Refuses x → written_paper x ≡ scrub_answer d → e ≡ scrubbed d → e ≡ d
+pub refused_kept : (d e : List ℕ) (x : Result ℕ Refusal) → Refuses x → written_paper x ≡ scrub_answer d → e ≡ scrubbed d → e ≡ d
 refused_kept d e x r p q =
     ⊎_elim (λ (z : (read_of d).number ≡ 0). absurd (refusal_pos r.0 (one_number (ap written_paper (sym r.1) ∙ p ∙ sym (answer_as d z (body_length d) refl))))
     )

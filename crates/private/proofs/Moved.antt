@@ -1,15 +1,13 @@
 -- The sum of header and body moved along spans, for any spans, overlapping ones too: each painted
 -- byte is taken off and its fill added (document 02, CR 4).
-use Rattle.std.specs.Prelude.{ℕ, ◌+◌, ◌≤◌, ◌≡◌, refl, List, [], ◌∷◌, length, take, drop, replicate}
-use Rattle.std.proofs.Common.{ap, ◌∙◌, arith}
+use Rattle.std.specs.Prelude.{ℕ, ◌+◌, ◌≤◌, ◌≡◌, List, [], ◌∷◌, length, take, replicate}
+use Rattle.std.proofs.Common.{arith}
 use Rattle.std.proofs.lemmas.List.{length-replicate}
-use Rattle.octets.specs.Octets.{laid, sum8, sum_after}
+use Rattle.octets.specs.Octets.{sum8}
 use Rattle.octets.proofs.Sums.{sum_after_part}
 use Rattle.octets.specs.Overlays.{length_laid}
-use Rattle.octets.specs.Places.{laid_inner}
 use Rattle.private.specs.declared.Span.{Span}
-use Rattle.private.specs.Scrub.{painted}
-use Rattle.private.specs.Paint.{Within, over, length_over}
+use Rattle.private.specs.Paint.{Within}
 use Rattle.private.specs.Within.{span_painted}
 use Rattle.private.specs.Moved.{moved_sum, painted_in}
 

@@ -1,24 +1,16 @@
 -- The private spans of document 01: where they lie, that they are few and within the body, and that
 -- they depend on public bytes alone.
-use Rattle.std.specs.Prelude.{ℕ, ◌+◌, ◌-◌, ◌<◌, ◌≤◌, ◌≡◌, refl, false, ◌⊎◌, ◌↔◌, List, [], length, get_or, take}
-use Rattle.std.proofs.Common.{sym, ◌∙◌, inl, inr, arith, ext_get_or, eqb-true, leb-true}
-use Rattle.std.proofs.Math.Bool.{true}
+use Rattle.std.specs.Prelude.{ℕ, ◌+◌, ◌-◌, ◌<◌, ◌≤◌, ◌≡◌, refl, ◌⊎◌, ◌↔◌, List, length, get_or}
+use Rattle.std.proofs.Common.{inl, inr, arith}
 use Rattle.std.proofs.Math.Logic.{⊎_elim}
-use Rattle.terms.specs.Cases.{less, two}
-use Rattle.octets.specs.Octets.{be, numeral}
+use Rattle.terms.specs.Cases.{less}
 use Rattle.rules.specs.declared.Kind.{Kind}
 use Rattle.rules.specs.declared.Kind.TheVariants.{S001, S002, S003, P001, P002, M101, M102, M201, Unknown}
-use Rattle.rules.specs.Table.{suits}
 use Rattle.rules.specs.declared.Layout.{Layout}
 use Rattle.rules.specs.declared.Layout.TheVariants.{Order, Trade, Other}
-use Rattle.rules.specs.Widths.{Holds, text, number, order_holds}
-use Rattle.rules.specs.Rules.{LayoutRule, TailRule}
-use Rattle.rules.specs.Meaning.{layout_one, suits_tail_says}
-use Rattle.rules.proofs.Meaning.{layout_is}
-use Rattle.rules.specs.Fields.{s001_ok, s002_ok, p002_ok, suits_tail, named_in, tail_ok, m201_ok, fields_ok, judge_of}
-use Rattle.frame_view.specs.View.{view_of}
+use Rattle.rules.specs.Widths.{text, number, order_holds}
 use Rattle.private.specs.Private.{fill_of, order_field, tail_of, tail_spans, private_of}
-use Rattle.private.specs.Paint.{Inside, Within, Filled, Agree, Clear, number_same}
+use Rattle.private.specs.Paint.{Inside}
 use Rattle.private.specs.PrivateLaws.{TailByte, PrivateByte}
 
 one_to : {P Q : Type 0} → (P → Q) → P ⊎ ⊥ → Q

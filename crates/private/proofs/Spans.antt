@@ -1,7 +1,7 @@
 -- Span number i of short rows, a small sum stored, and all spans painted within a buffer.
-use Rattle.std.specs.Prelude.{ℕ, zero, suc, ◌+◌, ◌/◌, ◌%◌, ◌<◌, ◌≤◌, ◌≡◌, refl, true, List, [], ◌∷◌, ◌++◌, take, drop, replicate}
+use Rattle.std.specs.Prelude.{ℕ, ◌+◌, ◌/◌, ◌%◌, ◌<◌, ◌≤◌, ◌≡◌, true, List, [], ◌∷◌, ◌++◌, take, drop, replicate}
 use Rattle.std.proofs.Common.{sym, ap, ◌∙◌, arith, length-drop, length-take-le}
-use Rattle.std.proofs.Math.ListN.{length, get_or-eq_default}
+use Rattle.std.proofs.Math.ListN.{length}
 use Rattle.std.proofs.lemmas.List.{length-replicate}
 use Rattle.octets.specs.Octets.{digits_of, laid, bytes_of, sum8}
 use Rattle.octets.specs.Numerals.{length_digits}
@@ -10,7 +10,7 @@ use Rattle.octets.specs.Overlays.{laid_append, laid_same, mid_laid, drop_laid, l
 use Rattle.rules.specs.declared.Kind.{Kind}
 use Rattle.rules.specs.Table.{suits}
 use Rattle.private.specs.declared.Span.{Span}
-use Rattle.private.specs.Private.{spaces, private_of, span_at}
+use Rattle.private.specs.Private.{private_of, span_at}
 use Rattle.private.specs.Scrub.{painted, summed}
 use Rattle.private.specs.Within.{body_in, span_in, span_painted, scrubbed_as, SmallSum}
 use Rattle.private.specs.Paint.{Within, length_painted, painted_more, painted_agrees, within_take, within_at}

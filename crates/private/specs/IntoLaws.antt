@@ -1,25 +1,9 @@
 -- Scrubbing into another buffer: when each number is given, and that what stands there is what
 -- scrubbing leaves of the frame where it stands.
-use Rattle.std.specs.Prelude.{ℕ, ◌+◌, ◌<◌, ◌≤◌, ◌≡◌, refl, ◌↔◌, List, ◌++◌, length, take, drop}
-use Rattle.std.proofs.Common.{sym, ap, ◌∙◌, ⊎_elim, arith, take-append-drop, length-take-le, take_all, take-take, take-add, drop_at, eq-eqb, ne_eqb, le-leb}
-use Rattle.std.proofs.lemmas.Bool.{lt-leb}
-use Rattle.terms.specs.Paper.{Paper, one_number}
-use Rattle.terms.specs.Cases.{less, same}
-use Rattle.octets.specs.declared.Written.{Written}
-use Rattle.octets.specs.Papers.{written_paper, Refuses, room_for, laid_if_room, room_there, room_lacks, refused_kept}
-use Rattle.octets.specs.Octets.{be}
-use Rattle.octets.specs.Numerals.{numeral_take}
-use Rattle.rules.specs.Outcomes.{measure_not_more}
-use Rattle.rules.proofs.Outcomes.{judge_not_more}
-use Rattle.frame_spec.specs.Frame.{msg_type, body_length, body, read_of}
-use Rattle.frame_spec.specs.Outcomes.{Reading, r_short, r_measure, r_cut, r_sum, r_judged, r_frame, reading, good}
-use Rattle.frame_spec.specs.Stable.{kept}
-use Rattle.frame_spec.specs.Given.{Reads}
-use Rattle.frame_spec.specs.GivenRead.{read_given}
-use Rattle.private.specs.Scrub.{spans_of, scrubbed}
-use Rattle.private.specs.Paint.{Agree}
-use Rattle.private.specs.Laws.{Alike}
-use Rattle.private.specs.Into.{frame_in, into_answer, into_leaves}
+use Rattle.std.specs.Prelude.{ℕ, ◌+◌, ◌<◌, ◌≤◌, ◌≡◌, List}
+use Rattle.std.proofs.Common.{ne_eqb}
+use Rattle.frame_spec.specs.Frame.{body_length, read_of}
+use Rattle.private.specs.Into.{into_answer, into_leaves}
 
 -- and of one that does not
 module _ (s : List ℕ) (ne : (read_of s).number ≡ 0 → ⊥) where

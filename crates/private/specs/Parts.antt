@@ -1,7 +1,8 @@
 -- What is told of the private spans of a body: all of them at once, to the scrubber; and one by
 -- one, with reading's 2, 3 and 4. No span lies outside the body, whatever is lent.
-use Rattle.std.specs.Prelude.{ℕ, zero, suc, ◌<◌, ◌≤◌, List, [], ◌∷◌, eqb, length}
+use Rattle.std.specs.Prelude.{ℕ, zero, suc, ◌<◌, ◌≤◌, List, [], ◌∷◌, eqb, length, Result, Ok, Err}
 use Rattle.terms.specs.Paper.{Paper, answer, refusal, pick}
+use Rattle.terms.specs.declared.Refusal.{Refusal}
 use Rattle.terms.specs.Refusals.{number_of}
 use Rattle.rules.specs.declared.Kind.{Kind}
 use Rattle.rules.specs.Table.{kind_of, suits, measure_of}
@@ -9,8 +10,6 @@ use Rattle.rules.specs.Rules.{TypeRule, LengthRule}
 use Rattle.private.specs.declared.Span.{Span}
 use Rattle.private.specs.declared.Parts.{Parts}
 use Rattle.private.specs.declared.Parts.TheVariants.{Nothing, One, Two, Three}
-use Rattle.private.specs.declared.Told.{Told}
-use Rattle.private.specs.declared.Told.TheVariants.{Part, Refused}
 use Rattle.private.specs.Private.{private_of, span_at}
 
 -- ALL AT ONCE: the spans of a body whose length suits its type; of any other body none
@@ -27,9 +26,9 @@ parts_spans (Three p q r) = p ∷ q ∷ r ∷ []
 abbrev pub span_numbers : Span → List ℕ
 span_numbers p = p.place ∷ p.len ∷ p.fill ∷ []
 
-abbrev pub told_paper : Told → Paper
-told_paper (Part p) = answer 0 (span_numbers p)
-told_paper (Refused w) = refusal (number_of w)
+abbrev pub told_paper : Result Span Refusal → Paper
+told_paper (Ok p) = answer 0 (span_numbers p)
+told_paper (Err w) = refusal (number_of w)
 
 -- span number i of a body of that type; or the number of reading's check that it fails, of type
 -- and length

@@ -1,9 +1,10 @@
 -- What is told of private spans lies within the body, whatever is lent; each number is given
 -- exactly when; and the answers can be told from their papers.
-use Rattle.std.specs.Prelude.{ℕ, zero, suc, ◌+◌, ◌<◌, ◌≤◌, ◌≡◌, refl, true, false, ◌↔◌, List, [], ◌∷◌, length, get_or}
-use Rattle.std.proofs.Common.{sym, ap, ◌∙◌, ⊎_elim, arith, eq-eqb, ne_eqb}
-use Rattle.terms.specs.Paper.{Paper, answer, refusal, one_number}
+use Rattle.std.specs.Prelude.{ℕ, zero, suc, ◌+◌, ◌≤◌, ◌≡◌, refl, true, false, ◌↔◌, List, [], ◌∷◌, length, get_or, Result, Ok, Err}
+use Rattle.std.proofs.Common.{sym, ap, ◌∙◌, ⊎_elim, eq-eqb, ne_eqb}
+use Rattle.terms.specs.Paper.{answer, refusal, one_number}
 use Rattle.terms.specs.Cases.{two, same}
+use Rattle.terms.specs.declared.Refusal.{Refusal}
 use Rattle.terms.specs.Refusals.{told}
 use Rattle.terms.proofs.Refusals.{told_refused}
 use Rattle.rules.specs.declared.Kind.{Kind}
@@ -14,8 +15,6 @@ use Rattle.frame_spec.specs.Measures.{fits}
 use Rattle.private.specs.declared.Span.{Span}
 use Rattle.private.specs.declared.Parts.{Parts}
 use Rattle.private.specs.declared.Parts.TheVariants.{Nothing, One, Two, Three}
-use Rattle.private.specs.declared.Told.{Told}
-use Rattle.private.specs.declared.Told.TheVariants.{Part, Refused}
 use Rattle.private.specs.Private.{private_of, span_at}
 use Rattle.private.specs.Paint.{Within, within_at}
 use Rattle.private.specs.PrivateLaws.{private_within}
@@ -64,16 +63,16 @@ parts_one x y e = sym (parts_told x) ∙ ap parts_of e ∙ parts_told y
 -- ONE BY ONE
 
 -- the answer told from its paper
-span_told : List ℕ → Told
-span_told vs = Part (record { place = get_or vs 0 0; len = get_or vs 1 0; fill = get_or vs 2 0 })
+span_told : List ℕ → Result Span Refusal
+span_told vs = Ok (record { place = get_or vs 0 0; len = get_or vs 1 0; fill = get_or vs 2 0 })
 
-told_told : (x : Told) → told span_told Refused (told_paper x) ≡ x
+told_told : (x : Result Span Refusal) → told span_told Err (told_paper x) ≡ x
 unfolding told span_told
-told_told (Part p) = refl
-told_told (Refused w) = told_refused span_told Refused w
+told_told (Ok p) = refl
+told_told (Err w) = told_refused span_told Err w
 
-pub told_one : (x y : Told) → told_paper x ≡ told_paper y → x ≡ y
-told_one x y e = sym (told_told x) ∙ ap (told span_told Refused) e ∙ told_told y
+pub told_one : (x y : Result Span Refusal) → told_paper x ≡ told_paper y → x ≡ y
+told_one x y e = sym (told_told x) ∙ ap (told span_told Err) e ∙ told_told y
 
 module _ (type : ℕ) (b : List ℕ) (i : ℕ) where
   abbrev check : ℕ

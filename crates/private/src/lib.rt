@@ -12,7 +12,7 @@ use terms::Refusal;
 
 // A private part of a body: where it starts, how many bytes it has, and the byte that replaces
 // each of them.
-#[derive(Clone, Copy)]
+#[derive(Clone, Copy, Debug, PartialEq, Eq)]
 pub struct Span {
     pub place: usize,
     pub len: usize,
@@ -20,19 +20,12 @@ pub struct Span {
 }
 
 // All private spans of a body, in their order: no type has more than three.
-#[derive(Clone, Copy)]
+#[derive(Clone, Copy, Debug, PartialEq, Eq)]
 pub enum Parts {
     Nothing,
     One(Span),
     Two(Span, Span),
     Three(Span, Span, Span),
-}
-
-// What asking for one private span returns: the span, or why there is none to tell.
-#[derive(Clone, Copy)]
-pub enum Told {
-    Part(Span),
-    Refused(Refusal),
 }
 
 fn spaces_at(place: usize, len: usize) -> Span
@@ -50,9 +43,10 @@ fn only(suits: bool, place: usize, len: usize) -> Parts
     ensures { parts_spans result ≡ pick suits (spaces place len ∷ []) [] }
 {
     if suits {
-        return Parts::One(spaces_at(place, len));
+        Parts::One(spaces_at(place, len))
+    } else {
+        Parts::Nothing
     }
-    Parts::Nothing
 }
 
 // Both CompIDs of an S001 whose body has n bytes.
@@ -60,11 +54,10 @@ fn comp_ids(n: usize) -> Parts
     ensures { parts_spans result ≡ pick (eqb n 74) (spaces 0 32 ∷ spaces 32 32 ∷ []) [] }
 {
     if n == 74 {
-        let sender = spaces_at(0, 32);
-        let target = spaces_at(32, 32);
-        return Parts::Two(sender, target);
+        Parts::Two(spaces_at(0, 32), spaces_at(32, 32))
+    } else {
+        Parts::Nothing
     }
-    Parts::Nothing
 }
 
 // How the extension of an M201 body is read: as an order or a trade where the body names that
@@ -88,12 +81,7 @@ fn tail(body: &[u8]) -> Parts
         return Parts::Nothing;
     }
     match layout_in(body) {
-        Layout::Order => {
-            let member = spaces_at(64, 12);
-            let trader = spaces_at(76, 12);
-            let investor = spaces_at(120, 32);
-            Parts::Three(member, trader, investor)
-        }
+        Layout::Order => { Parts::Three(spaces_at(64, 12), spaces_at(76, 12), spaces_at(120, 32)) }
         Layout::Trade => Parts::Nothing,
         Layout::Other => Parts::One(spaces_at(45, body.len() - 45)),
     }
@@ -107,29 +95,21 @@ pub fn parts_in(kind: Kind, body: &[u8]) -> Parts
     match kind {
         Kind::S001 => comp_ids(body.len()),
         Kind::S002 => only(body.len() == 260, 4, 256),
-        Kind::S003 => Parts::Nothing,
-        Kind::P001 => Parts::Nothing,
         Kind::P002 => only(body.len() == 52, 20, 32),
-        Kind::M101 => Parts::Nothing,
-        Kind::M102 => Parts::Nothing,
         Kind::M201 => tail(body),
-        Kind::Unknown => Parts::Nothing,
+        _ => Parts::Nothing,
     }
 }
 
 fn of_three(i: usize, a: Span, b: Span, c: Span) -> Span
     ensures { result ≡ span_at i (a ∷ b ∷ c ∷ []) }
 {
-    if i == 0 {
-        return a;
+    match i {
+        0 => a,
+        1 => b,
+        2 => c,
+        _ => spaces_at(0, 0),
     }
-    if i == 1 {
-        return b;
-    }
-    if i == 2 {
-        return c;
-    }
-    spaces_at(0, 0)
 }
 
 // Span number i, counted from 0; from the last on, an empty one.
@@ -147,12 +127,10 @@ fn span_at(parts: Parts, i: usize) -> Span
 
 // Private span number i of a body of that type, counted from 0; from the last on, an empty one. Or
 // 2, 3 or 4, as reading gives them, where no frame of that type has a body of this length.
-pub fn private_span(msg_type: u32, body: &[u8], i: usize) -> Told
+pub fn private_span(msg_type: u32, body: &[u8], i: usize) -> Result<Span, Refusal>
     ensures { told_paper result ≡ span_answer msg_type body.now i }
 {
-    let kind = rules::kind_of(msg_type);
-    match rules::measure(kind, body.len()) {
-        Err(why) => Told::Refused(why),
-        Ok(()) => Told::Part(span_at(parts_in(kind, body), i)),
-    }
+    let kind = Kind::from(msg_type);
+    rules::measure(kind, body.len())?;
+    Ok(span_at(parts_in(kind, body), i))
 }

@@ -11,8 +11,9 @@ use lib.ListN.{length, get_or, take, drop, length-drop}
 use lib.Seq.{take-take}
 use borrow.Author.Tests.{leb-true, le-leb}
 use Rattle.terms.specs.Paper.{Paper, answer, one_number}
+use Rattle.std.specs.Prelude.{Result}
+use Rattle.terms.specs.declared.Refusal.{Refusal}
 use Rattle.terms.specs.Cases.{two}
-use Rattle.octets.specs.declared.Written.{Written}
 use Rattle.octets.specs.Octets.{be, sum8, laid}
 use Rattle.octets.specs.Numerals.{numeral_drop}
 use Rattle.octets.specs.Overlays.{length_laid, mid_laid, laid_again}
@@ -69,11 +70,11 @@ module _ (bytes : List ℕ) (at : ℕ) (k : Kind) (n : ℕ) (z : (read_of (drop 
     long : length part ≡ 28 + body_length (drop at bytes)
     long = ap length t ∙ own_long (drop at bytes) z
 
-    answered : (x : Written) → written_paper x ≡ room_for to (length part) (length d) → written_paper x ≡ into_answer (drop at bytes) to (length d)
+    answered : (x : Result ℕ Refusal) → written_paper x ≡ room_for to (length part) (length d) → written_paper x ≡ into_answer (drop at bytes) to (length d)
     answered x e = e ∙ ap (λ (m : ℕ). room_for to m (length d)) long ∙ sym (into_room (drop at bytes) z to (length d))
 
     -- without room nothing is laid
-    pub lacks : (x : Written) → Refuses x → written_paper x ≡ room_for to (length part) (length d)
+    pub lacks : (x : Result ℕ Refusal) → Refuses x → written_paper x ≡ room_for to (length part) (length d)
         → (written_paper x ≡ into_answer (drop at bytes) to (length d)) × (d₁ ≡ into_leaves (drop at bytes) to d)
     lacks x r e = (
       answered x e,

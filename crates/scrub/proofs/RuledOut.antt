@@ -5,7 +5,7 @@ use mathlib.Core.Path.{refl}
 use mathlib.Core.List.{List, [], ◌∷◌, ◌++◌}
 use lib.ListN.{length, take, drop, replicate}
 use Rattle.terms.specs.Letters.{spelled}
-use Rattle.terms.specs.Paper.{Paper, answer, refusal}
+use Rattle.terms.specs.Paper.{answer, refusal}
 use Rattle.terms.specs.RuledOut.{Row, ◌never◌, ◌only◌, Kept, RulesOut, ruled, Left, left, lefts, left_is}
 use Rattle.octets.specs.Octets.{numeral, digits_of, laid, sum8, sum_of}
 use Rattle.octets.specs.Papers.{written_paper, room_for, laid_if_room}

@@ -12,10 +12,10 @@ ghost use Rattle.private.specs.Into.{frame_in, into_answer, into_leaves};
 ghost use Rattle.rules.specs.Table.{suits, kind_of};
 ghost use Rattle.frame_spec.specs.Frame.{msg_type, body_length, read_of};
 
-use frame::Read;
 use octets::Number;
 use private::{Parts, Span};
 use rules::Kind;
+use terms::Refusal;
 
 // Paints the bytes from a up to e: that part of the lent frame is passed on and filled.
 fn paint(buf: &mut [u8], a: usize, e: usize, fill: u8)
@@ -88,20 +88,11 @@ fn repaint(buf: &mut [u8], kind: Kind, n: usize, v: u8)
 pub fn scrub(buf: &mut [u8]) -> Result<usize, Refusal>
     ensures { (written_paper result ≡ scrub_answer buf.old) × (buf.new ≡ scrubbed buf.old) }
 {
-    match frame::read_at(buf, 0) {
-        Read::Refused(why) => Err(why),
-        Read::Frame {
-            msg_type,
-            sending_time: _,
-            seq: _,
-            body_len,
-        } => {
-            let kind = rules::kind_of(msg_type);
-            let v = u8::at(buf, 27 + body_len);
-            repaint(buf, kind, body_len, v);
-            Ok(28 + body_len)
-        }
-    }
+    let header = frame::read_at(buf, 0)?;
+    let kind = Kind::from(header.msg_type);
+    let v = u8::at(buf, 27 + header.body_len);
+    repaint(buf, kind, header.body_len, v);
+    Ok(28 + header.body_len)
 }
 
 // Paints the frame that lies from a up to e, as `repaint` does: that part of the lent buffer
@@ -115,21 +106,24 @@ fn repaint_part(out: &mut [u8], a: usize, e: usize, kind: Kind, n: usize, v: u8)
 
 // Writes the frame that was read at a place of bytes, with that type and body length, over out from
 // `to` on, scrubbed; or returns 8.
-fn lay_scrubbed(bytes: &[u8], at: usize, out: &mut [u8], to: usize, kind: Kind, n: usize) -> Result<usize, Refusal>
+fn lay_scrubbed(
+    bytes: &[u8],
+    at: usize,
+    out: &mut [u8],
+    to: usize,
+    kind: Kind,
+    n: usize,
+) -> Result<usize, Refusal>
     requires { ((read_of (drop at bytes.now)).number ≡ 0) × ((kind ≡ kind_of (msg_type (drop at bytes.now))) × (n ≡ body_length (drop at bytes.now))) }
     ensures { (written_paper result ≡ into_answer (drop at bytes.now) to (length out.old))
         × (out.new ≡ into_leaves (drop at bytes.now) to out.old) }
 {
     let end = at + 28 + n;
-    match octets::lay(out, to, &bytes[at..end]) {
-        Err(why) => Err(why),
-        Ok(size) => {
-            let v = u8::at(bytes, end - 1);
-            let behind = to + size;
-            repaint_part(out, to, behind, kind, n, v);
-            Ok(size)
-        }
-    }
+    let size = octets::lay(out, to, &bytes[at..end])?;
+    let v = u8::at(bytes, end - 1);
+    let behind = to + size;
+    repaint_part(out, to, behind, kind, n, v);
+    Ok(size)
 }
 
 // Reads the frame at a place and writes it over out from `to` on, scrubbed; returns how many bytes
@@ -139,16 +133,7 @@ pub fn scrub_into(bytes: &[u8], at: usize, out: &mut [u8], to: usize) -> Result<
     ensures { (written_paper result ≡ into_answer (drop at bytes.now) to (length out.old))
         × (out.new ≡ into_leaves (drop at bytes.now) to out.old) }
 {
-    match frame::read_at(bytes, at) {
-        Read::Refused(why) => Err(why),
-        Read::Frame {
-            msg_type,
-            sending_time: _,
-            seq: _,
-            body_len,
-        } => {
-            let kind = rules::kind_of(msg_type);
-            lay_scrubbed(bytes, at, out, to, kind, body_len)
-        }
-    }
+    let header = frame::read_at(bytes, at)?;
+    let kind = Kind::from(header.msg_type);
+    lay_scrubbed(bytes, at, out, to, kind, header.body_len)
 }

@@ -1,8 +1,7 @@
 -- Paper 001's tables as they stand there, and that the one table has exactly their fields,
 -- type by type.
-use Rattle.std.specs.Prelude.{ℕ, ◌≡◌, refl, Bool, true, false, List, [], ◌∷◌, ◌++◌, eqb}
-use Rattle.terms.specs.Paper.{pick}
-use Rattle.step_tags.specs.Table.{C, N, B, T, Row, rows, among}
+use Rattle.std.specs.Prelude.{◌≡◌, refl, ◌++◌}
+use Rattle.step_tags.specs.Table.{rows, among}
 use Rattle.step_tags.specs.Paper001.{header, lines_of, body}
 
 -- logon, logout, heartbeat, test request, resend request, reject, sequence reset

@@ -1,7 +1,7 @@
 -- For each public function: wrong answers that its promise rules out, as tables of what is given
 -- and what is then wrong. Assumes nothing.
 use Prim.Native.Nat.{ℕ}
-use mathlib.Core.Path.{◌≡◌, refl}
+use mathlib.Core.Path.{refl, ap, ◌∙◌}
 use mathlib.Core.Bool.{Bool, true, false}
 use mathlib.Core.List.{List, [], ◌∷◌}
 use lib.ListN.{replicate}
@@ -11,7 +11,8 @@ use Rattle.digits.specs.Digits.{all_digits, said_by, said_if_digits, digits_at, 
 use Rattle.calendar.specs.Calendar.{leap, days_in, real_parts, real_time}
 use Rattle.step_tags.specs.Masks.{mask_of}
 use Rattle.step_tags.specs.Table.{rows, row_at, row_in, row_of, among, types, has, needs, rows_of, needed_by}
-use Rattle.step_tags.specs.Forms.{some, is_number, is_flag, is_time, time_of, is_unreal, suits, good_value, fit_row}
+use Rattle.step_tags.specs.Forms.{some, is_number, is_flag, is_time, time_of, is_unreal, suits, good_value, fit_row, fit_number}
+use Rattle.step_tags.specs.Laws.{fit_number_is}
 use Rattle.step_tags.proofs.is_type.Reads as is-type
 use Rattle.step_tags.proofs.is_type.Kinds as is-type-kinds
 use Rattle.step_tags.proofs.rows_of.Reads as rows_of_lem
@@ -97,6 +98,6 @@ fit_wrong =
     ∷ (8, 65 ∷ []) only 27  -- a second 8
     ∷ []
 
-pub fit_rules_out : RulesOut (Kept _ fit-kinds.ps fit-kinds.r fit.Post) (λ c. (c.args.0, c.args.1.0.now)) (λ c. c.result) fit_wrong
+pub fit_rules_out : RulesOut (Kept _ fit-kinds.ps fit-kinds.r fit.Post) (λ c. (c.args.0, c.args.1.0.now)) (λ c. fit_number c.result) fit_wrong
 unfolding numeral all_digits said_by said_if_digits digits_at decimal_at leap days_in real_parts real_time rows row_at row_in row_of some is_number is_flag is_time time_of is_unreal suits good_value fit_row
-fit_rules_out = ruled numbers (λ (i : ℕ × List ℕ). fit_row i.0 i.1) (λ c p. p) _ refl
+fit_rules_out = ruled numbers (λ (i : ℕ × List ℕ). fit_row i.0 i.1) (λ c p. ap fit_number p ∙ fit_number_is c.args.0 c.args.1.0.now) _ refl

@@ -1,7 +1,8 @@
 -- Paper 001, 2.2.1: the forms of a value. A value lies between `=` and SOH, so text holds any
 -- byte but SOH.
-use Rattle.std.specs.Prelude.{ℕ, ◌+◌, ◌*◌, Bool, true, false, not, ◌&&◌, ◌||◌, List, [], ◌∷◌, eqb, leb, length, get_or}
-use Rattle.terms.specs.Paper.{Paper, pick}
+use Rattle.std.specs.Prelude.{ℕ, ◌+◌, ◌*◌, Bool, true, false, not, ◌&&◌, ◌||◌, List, [], ◌∷◌, eqb, leb, length, get_or, Option, Some, None}
+use Rattle.std.specs.Bool.{then_some}
+use Rattle.terms.specs.Paper.{pick}
 use Rattle.digits.specs.Digits.{decimal_at, digits_at}
 use Rattle.calendar.specs.Calendar.{real_time}
 use Rattle.step_tags.specs.Table.{C, N, B, T, row_at, row_of}
@@ -40,6 +41,10 @@ is_time v =
 unfoldable pub time_of : List ℕ → ℕ
 time_of v = (((number_at 0 8 v * 100 + number_at 9 2 v) * 100 + number_at 12 2 v) * 100 + number_at 15 2 v) * 1000 + number_at 18 3 v
 
+-- the number of a value of that form
+abbrev pub time_if : List ℕ → Option ℕ
+time_if v = then_some (is_time v) (time_of v)
+
 -- of that form, and no time of the calendar
 unfoldable pub is_unreal : List ℕ → Bool
 is_unreal v = is_time v && not (real_time (time_of v))
@@ -61,3 +66,11 @@ good_value f w v = suits f w v && not (eqb f T && is_unreal v)
 
 unfoldable pub fit_row : ℕ → List ℕ → ℕ
 fit_row t v = pick (good_value (row_at (row_of t)).form (row_at (row_of t)).width v) (row_of t) 27
+
+-- the same where 27 is no row
+abbrev pub fit_of : ℕ → List ℕ → Option ℕ
+fit_of t v = then_some (good_value (row_at (row_of t)).form (row_at (row_of t)).width v) (row_of t)
+
+abbrev pub fit_number : Option ℕ → ℕ
+fit_number (Some row) = row
+fit_number None = 27

@@ -1,6 +1,6 @@
 -- A set of rows as one number: the row 0 is the lowest bit.
 use Rattle.std.specs.Prelude.{ℕ, zero, suc, ◌+◌, ◌*◌, ◌/◌, ◌%◌, ◌^◌, ◌<◌, ◌≤◌, ◌≡◌, refl, Bool, true, false, eqb}
-use Rattle.std.proofs.Common.{sym, ap, ◌∙◌, add-zero, add-suc, suc-add, div-one, pow-suc, mul_comm, arith, shr-shr}
+use Rattle.std.proofs.Common.{sym, ap, ◌∙◌, add-zero, add-suc, suc-add, div-one, pow-suc, arith, shr-shr}
 use Rattle.std.proofs.Math.Nat.{zero-div}
 use Rattle.terms.specs.Paper.{pick}
 

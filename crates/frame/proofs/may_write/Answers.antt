@@ -1,42 +1,47 @@
 -- `may_write`: each return cites the outcome of writing for the tests that led there.
 -- Assumes nothing.
-use Rattle.std.proofs.Common.{◌≡◌, sym, refl, ap, ◌∙◌, arith, rules}
+use Rattle.std.proofs.Common.{◌≡◌, length, sym, refl, ◌∙◌}
+use Rattle.std.proofs.lemmas.Result.{err_from_is_err_and}
 use Rattle.frame_spec.specs.WriteLaws.{measure_in, judgement_in, write_measured, write_judged, write_room, write_done}
 use Rattle.frame_spec.specs.Write.{Message, message}
-use Rattle.terms.specs.Verdicts.{verdict_number}
+use Rattle.rules.specs.Fields.{judge_of}
 use Rattle.rules.specs.Outcomes.{measure_same, judge_same}
-use Rattle.rules.specs.Table.{kind_of, kind_is}
+use Rattle.rules.specs.Table.{kind_of, kind_is, measure_of}
 use Rattle.terms.specs.Refusals.{refusal_pos}
 use Rattle.frame.proofs.may_write.Goals as goal
-use Rattle.frame.proofs.may_write.Goals.{After-judge, After-kind_of-kind, After-measure, In-Fine, In-Fine-judge, Start}
+use Rattle.frame.proofs.may_write.Goals.{After-from-kind, In_ok-measure, In_ok-judge}
 
 -- the message, as the function was called
-abbrev text : goal.Start → Message
+abbrev text : goal.After-from-kind → Message
 text c = message c.args.msg_type c.args.sending_time c.args.seq.0 c.args.body.now
 
-kind : (c : goal.After-kind_of-kind) → c.kind_of-kind.result ≡ kind_of c.args.msg_type
-kind c = kind_is _ _ c.kind_of-kind.ensures
+kind : (c : goal.After-from-kind) → kind_of c.args.msg_type ≡ c.from-kind.result
+kind c = sym (kind_is _ _ c.from-kind.ensures)
 
-told1 : (c : goal.After-measure) → verdict_number c.measure.result ≡ measure_in (text (goal.at.After-measure c).Start)
-told1 c = c.measure.ensures ∙ measure_same _ _ _ _ (kind (goal.at.After-measure c).After-kind_of-kind) refl
+measured : (c : goal.After-from-kind) → measure_in (text c) ≡ measure_of c.from-kind.result (length c.args.body.now)
+measured c = measure_same _ _ _ _ (kind c) refl
 
-fine1 : (c : goal.In-Fine) → measure_in (text (goal.at.In-Fine c).Start) ≡ 0
-fine1 c = sym (told1 (goal.at.In-Fine c).After-measure) ∙ ap verdict_number c.in-Fine.is
+judged : (c : goal.After-from-kind) → judgement_in (text c) ≡ judge_of c.from-kind.result c.args.sending_time c.args.body.now
+judged c = judge_same _ _ _ _ _ _ (kind c) refl refl
 
-told2 : (c : goal.After-judge) → verdict_number c.judge.result ≡ judgement_in (text (goal.at.After-judge c).Start)
-told2 c = c.judge.ensures ∙ judge_same _ _ _ _ _ _ (kind (goal.at.After-judge c).After-kind_of-kind) refl refl
+fine : (c : goal.In_ok-measure) → measure_in (text (goal.at.In_ok-measure c).After-from-kind) ≡ 0
+fine c = measured (goal.at.In_ok-measure c).After-from-kind ∙ sym c.in_ok-measure.ensures
 
-fine2 : (c : goal.In-Fine-judge) → judgement_in (text (goal.at.In-Fine-judge c).Start) ≡ 0
-fine2 c = sym (told2 (goal.at.In-Fine-judge c).After-judge) ∙ ap verdict_number c.in-Fine-judge.is
+fine2 : (c : goal.In_ok-judge) → judgement_in (text (goal.at.In_ok-judge c).After-from-kind) ≡ 0
+fine2 c = judged (goal.at.In_ok-judge c).After-from-kind ∙ sym c.in_ok-judge.ensures
 
-pub returns-then-room-n : goal.returns-then-room-n
-returns-then-room-n c = sym (write_room _ _ (fine1 (goal.at.returns-then-room-n c).In-Fine) (fine2 (goal.at.returns-then-room-n c).In-Fine-judge) (omega arith))
+pub returns-in_err-measure : goal.returns-in_err-measure
+returns-in_err-measure c =
+    let p = err_from_is_err_and c.from_residual.result c.from_residual.ensures.1 in
+    rw (p.1, p.2) (sym (write_measured _ _ _ (measured (goal.at.returns-in_err-measure c).After-from-kind ∙ sym c.in_err-measure.ensures) (refusal_pos _)))
 
-pub returns-in-Refused : goal.returns-in-Refused
-returns-in-Refused c = sym (write_measured _ _ _ (sym (told1 (goal.at.returns-in-Refused c).After-measure) ∙ ap verdict_number c.in-Refused.is) (refusal_pos c.in-Refused.why))
+pub returns-in_err-judge : goal.returns-in_err-judge
+returns-in_err-judge c =
+    let p = err_from_is_err_and c.from_residual-in_err-judge.result c.from_residual-in_err-judge.ensures.1 in
+    rw (p.1, p.2) (sym (write_judged _ _ (fine (goal.at.returns-in_err-judge c).In_ok-measure) _ (judged (goal.at.returns-in_err-judge c).After-from-kind ∙ sym c.in_err-judge.ensures) (refusal_pos _)))
 
-pub returns-in-Refused-judge : goal.returns-in-Refused-judge
-returns-in-Refused-judge c = sym (write_judged _ _ (fine1 (goal.at.returns-in-Refused-judge c).In-Fine) _ (sym (told2 (goal.at.returns-in-Refused-judge c).After-judge) ∙ ap verdict_number c.in-Refused-judge.is) (refusal_pos c.in-Refused-judge.why))
+pub returns-then-room-size : goal.returns-then-room-size
+returns-then-room-size c = sym (write_room _ _ (fine (goal.at.returns-then-room-size c).In_ok-measure) (fine2 (goal.at.returns-then-room-size c).In_ok-judge) c.if-room-size.true)
 
-pub returns-else-room-n : goal.returns-else-room-n
-returns-else-room-n c = sym (write_done _ _ (fine1 (goal.at.returns-else-room-n c).In-Fine) (fine2 (goal.at.returns-else-room-n c).In-Fine-judge) (omega arith))
+pub returns : goal.returns
+returns c = sym (write_done _ _ (fine (goal.at.returns c).In_ok-measure) (fine2 (goal.at.returns c).In_ok-judge) c.if-room-size.false)

@@ -1,7 +1,7 @@
 -- `store`: after each call the front of the buffer is the frame's parts so far, laid over what it
 -- was; `put_next` takes one part more. The sum is taken over the part that is then laid.
 -- Assumes nothing.
-use Rattle.std.proofs.Common.{◌≡◌, ℕ, ◌+◌, ◌≤◌, List, ◌++◌, length, take, refl, ap, ◌∙◌, arith, length-append, rules, le-leb}
+use Rattle.std.proofs.Common.{◌≡◌, ℕ, ◌+◌, ◌≤◌, List, ◌++◌, length, take, refl, ap, ◌∙◌, arith, length-append, le-leb}
 use Rattle.octets.specs.Papers.{laid_there}
 use Rattle.frame_spec.specs.WriteLaws.{plain_length, put_next}
 use Rattle.frame_spec.specs.Write.{Message, message, plain_of, frame_of}

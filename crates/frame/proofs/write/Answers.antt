@@ -1,31 +1,23 @@
 -- `write`: `may_write` gives the answer; the bytes are stored only where it is 0. Assumes nothing.
+use Rattle.std.proofs.Common.{◌≡◌, length, sym, ◌∙◌}
+use Rattle.std.proofs.lemmas.Result.{err_from_is_err_and}
 use Rattle.frame_spec.specs.WriteLaws.{fit, left_kept, left_laid}
-use Rattle.frame_spec.specs.Write.{Message, message, write_of}
-use Rattle.octets.specs.Papers.{written_paper}
-use Rattle.terms.specs.Refusals.{number_of, refusal_pos}
-use Rattle.terms.specs.Paper.{answer, refusal, one_number}
-use Rattle.std.proofs.Common.{◌≡◌, [], ◌∷◌, length, sym, ap, ◌∙◌, rules}
+use Rattle.frame_spec.specs.Write.{message, write_of}
+use Rattle.terms.specs.Refusals.{refusal_pos}
+use Rattle.terms.specs.Paper.{one_number}
 use Rattle.frame.proofs.write.Goals as goal
-use Rattle.frame.proofs.write.Goals.{After-may_write, In-Bytes, In-Refused}
+use Rattle.frame.proofs.write.Goals.{In_ok-size}
 
-abbrev text : goal.After-may_write → Message
-text c = message c.args.msg_type c.args.sending_time c.args.seq.0 c.args.body.now
-
--- what writing answers, in the arm of its case
-refused : (c : goal.In-Refused) → refusal (number_of c.in-Refused.why) ≡ write_of (text (goal.at.In-Refused c).After-may_write) (length c.args.out.now)
-refused c = sym (ap written_paper c.in-Refused.is) ∙ c.may_write.ensures
-
-written : (c : goal.In-Bytes) → answer 0 (c.in-Bytes.n ∷ []) ≡ write_of (text (goal.at.In-Bytes c).After-may_write) (length c.args.out.now)
-written c = sym (ap written_paper c.in-Bytes.is) ∙ c.may_write.ensures
-
-done : (c : goal.In-Bytes) → (write_of (text (goal.at.In-Bytes c).After-may_write) (length c.args.out.now)).number ≡ 0
-done c = sym (one_number (written c))
+done : (c : goal.In_ok-size) → (write_of (message c.args.msg_type c.args.sending_time c.args.seq.0 c.args.body.now) (length c.args.out.now)).number ≡ 0
+done c = sym (one_number c.in_ok-size.ensures)
 
 pub store-requires : goal.store-requires
-store-requires c = (fit _ _ (done (goal.at.store-requires c).In-Bytes)).there
+store-requires c = (fit _ _ (done (goal.at.store-requires c).In_ok-size)).there
 
-pub returns-in-Refused : goal.returns-in-Refused
-returns-in-Refused c = (refused (goal.at.returns-in-Refused c).In-Refused, sym (left_kept _ _ (λ z. refusal_pos c.in-Refused.why (one_number (refused (goal.at.returns-in-Refused c).In-Refused) ∙ z))))
+pub returns-in_err-size : goal.returns-in_err-size
+returns-in_err-size c =
+    let p = err_from_is_err_and c.from_residual.result c.from_residual.ensures.1 in
+    rw (p.1, p.2) (c.in_err-size.ensures, sym (left_kept _ _ (λ z. refusal_pos _ (one_number c.in_err-size.ensures ∙ z))))
 
-pub returns-in-Bytes : goal.returns-in-Bytes
-returns-in-Bytes c = (written (goal.at.returns-in-Bytes c).In-Bytes, c.store.ensures ∙ sym (left_laid _ _ (done (goal.at.returns-in-Bytes c).In-Bytes)))
+pub returns : goal.returns
+returns c = (c.in_ok-size.ensures, c.store.ensures ∙ sym (left_laid _ _ (done (goal.at.returns c).In_ok-size)))

@@ -6,7 +6,6 @@ use lib.ListN.{length}
 use Rattle.rules.specs.declared.Layout.{Layout}
 use Rattle.rules.specs.Fields.{layout_of, suits_tail, named_in, tail_ok}
 use Rattle.private.specs.PrivateLaws.{tail_named, tail_not}
-use borrow.Author.Rules.{rules}
 use Rattle.private.proofs.layout_in.Goals as goal
 use Rattle.private.proofs.layout_in.Goals.{After-layout_of-named, After-suits_tail}
 

@@ -1,11 +1,24 @@
--- `parts_in`: each arm knows its type, and its spans are the callee's. Assumes nothing.
+-- `parts_in`: each arm knows its type, and its spans are the callee's; no other type has one.
+-- Assumes nothing.
+use Rattle.std.proofs.Common.{◌≡◌, refl, ℕ, List, []}
+use Rattle.rules.specs.declared.Kind.{Kind}
+use Rattle.rules.specs.declared.Kind.TheVariants.{S001, S002, S003, P001, P002, M101, M102, M201, Unknown}
 use Rattle.rules.specs.Table.{suits}
-use Rattle.rules.specs.declared.Kind.TheVariants.{S003, P001, M101, M102, Unknown}
+use Rattle.private.specs.Private.{private_of}
 use Rattle.private.specs.Parts.{suited_spans}
 use Rattle.private.specs.PartsLaws.{suited_nothing}
-use mathlib.Core.Path.{refl}
-use borrow.Author.Rules.{rules}
 use Rattle.private.proofs.parts_in.Goals as goal
+
+nothing : (k : Kind) (b : List ℕ) → (k ≡ S001 → ⊥) → (k ≡ S002 → ⊥) → (k ≡ P002 → ⊥) → (k ≡ M201 → ⊥) → private_of k b ≡ []
+nothing S001 b p q r s = absurd (p refl)
+nothing S002 b p q r s = absurd (q refl)
+nothing S003 b p q r s = refl
+nothing P001 b p q r s = refl
+nothing P002 b p q r s = absurd (r refl)
+nothing M101 b p q r s = refl
+nothing M102 b p q r s = refl
+nothing M201 b p q r s = absurd (s refl)
+nothing Unknown b p q r s = refl
 
 pub returns-in-S001 : goal.returns-in-S001
 unfolding suited_spans suits
@@ -15,21 +28,11 @@ pub returns-in-S002 : goal.returns-in-S002
 unfolding suited_spans suits
 returns-in-S002 c = rw c.in-S002.is c.only.ensures
 
-pub returns-in-S003 : goal.returns-in-S003
-returns-in-S003 c = rw c.in-S003.is (suited_nothing S003 _ refl)
-
-pub returns-in-P001 : goal.returns-in-P001
-returns-in-P001 c = rw c.in-P001.is (suited_nothing P001 _ refl)
-
 pub returns-in-P002 : goal.returns-in-P002
 unfolding suited_spans suits
 returns-in-P002 c = rw c.in-P002.is c.only-in-P002.ensures
 
-pub returns-in-M101 : goal.returns-in-M101
-returns-in-M101 c = rw c.in-M101.is (suited_nothing M101 _ refl)
-
-pub returns-in-M102 : goal.returns-in-M102
-returns-in-M102 c = rw c.in-M102.is (suited_nothing M102 _ refl)
-
-pub returns-in-Unknown : goal.returns-in-Unknown
-returns-in-Unknown c = rw c.in-Unknown.is (suited_nothing Unknown _ refl)
+pub returns-in_default : goal.returns-in_default
+returns-in_default c =
+    let d = c.in_default in
+    suited_nothing _ _ (nothing _ _ d.not-S001 d.not-S002 d.not-P002 d.not-M201)

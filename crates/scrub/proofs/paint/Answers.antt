@@ -1,7 +1,6 @@
 -- `paint`: the part is lent, filled and back. Assumes nothing.
 use native.Mathlib.Omega.{arith}
 use Rattle.scrub.proofs.Parts.{filled}
-use borrow.Author.Rules.{rules}
 use Rattle.scrub.proofs.paint.Goals as goal
 
 pub returns : goal.returns

@@ -11,7 +11,6 @@ use Rattle.private.specs.Private.{private_of, span_at}
 use Rattle.private.specs.Parts.{parts_spans, suited_spans}
 use Rattle.private.specs.Within.{body_in, span_painted}
 use Rattle.scrub.proofs.Painted.{Painted, told_all, at_start, room_for, painted_on, painted_all}
-use borrow.Author.Rules.{rules}
 use Rattle.scrub.proofs.paint_all.Goals as goal
 use Rattle.scrub.proofs.paint_all.Goals.{After-parts_in, In-Nothing, In-One, In-Three, In-Two, Start}
 

@@ -8,7 +8,6 @@ use lib.Seq.{take-take}
 use Rattle.octets.specs.Octets.{laid, sum_after}
 use Rattle.private.specs.declared.Span.{Span}
 use Rattle.private.specs.Within.{span_painted}
-use borrow.Author.Rules.{rules}
 use Rattle.scrub.proofs.paint_span.Goals as goal
 
 part_is : (p : Span) (d : List ℕ) → laid (24 + p.place) (replicate (24 + p.place + p.len - (24 + p.place)) p.fill) d ≡ span_painted p d

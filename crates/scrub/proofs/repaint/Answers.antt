@@ -4,8 +4,6 @@ use Prim.Native.Nat.{ℕ, ◌+◌}
 use mathlib.Core.Path.{ap, ◌∙◌}
 use mathlib.Core.List.{List}
 use lib.ListN.{take, drop}
-use borrow.Author.Rules.{rules}
-use Rattle.private.specs.Scrub.{summed}
 use Rattle.private.proofs.Spans.{small_kept}
 use Rattle.scrub.proofs.repaint.Goals as goal
 

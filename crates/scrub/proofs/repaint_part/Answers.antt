@@ -1,6 +1,5 @@
 -- `repaint_part`: the part is lent, scrubbed and back. Assumes nothing.
 use native.Mathlib.Omega.{arith}
-use borrow.Author.Rules.{rules}
 use Rattle.scrub.proofs.Parts.{repainted}
 use Rattle.scrub.proofs.repaint_part.Goals as goal
 

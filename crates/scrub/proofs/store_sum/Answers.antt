@@ -4,7 +4,6 @@ use Prim.Native.Nat.{◌+◌}
 use mathlib.Core.Path.{sym, ◌∙◌}
 use Rattle.octets.specs.Overlays.{laid_one}
 use Rattle.private.proofs.Spans.{summed_last}
-use borrow.Author.Rules.{rules}
 use Rattle.scrub.proofs.store_sum.Goals as goal
 
 pub returns : goal.returns

@@ -1,8 +1,10 @@
 -- `unreal`. Assumes nothing.
-use Rattle.step_tags.specs.Laws.{said_unreal}
-use mathlib.Core.Path.{◌∙◌}
-use borrow.Author.Rules.{rules}
+use Rattle.step_tags.specs.Laws.{said_unreal, said_none}
+use mathlib.Core.Path.{sym, ◌∙◌}
 use Rattle.step_tags.proofs.unreal.Goals as goal
 
-pub returns : goal.returns
-returns c = let e = c.time_of-time.ensures in rw c.is_real.ensures (said_unreal _ _ (record { is = e.0; told = e.1 }))
+pub returns-in-Some : goal.returns-in-Some
+returns-in-Some c = rw c.is_real.ensures (said_unreal _ _ (sym c.in-Some.is ∙ c.time_of.ensures))
+
+pub returns-in-None : goal.returns-in-None
+returns-in-None c = (said_none _ (sym c.in-None.is ∙ c.time_of.ensures)).0

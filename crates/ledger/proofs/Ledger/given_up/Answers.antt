@@ -6,6 +6,7 @@ use Prim.Native.Nat.{ℕ, ◌+◌, ◌≤◌}
 use native.Mathlib.Omega.{arith}
 use borrow.Author.Rules.{rules}
 use Rattle.terms.specs.declared.TickNumber.{TickNumber}
+use Rattle.std.specs.Prelude.{Ok}
 use Rattle.terms.specs.Counters.{tick_of}
 use Rattle.terms.specs.Paper.{answer}
 use Rattle.tick_map.specs.declared.Map.{Map}
@@ -71,6 +72,7 @@ returns c =
       replied_of l (words (goal.at.returns c).Start) rules w known short (w + r.run_from.result) _ _ k
           (c.new.ensures ∙ ap (λ (x : ℕ). tick_of (x + (w + r.run_from.result))) e)
           (c.cleared.ensures ∙ ap (λ (x : ℕ). map_of (without (x + 1) (w + r.run_from.result) (bits_in l.map))) e),
-      given ∙ laid_kept c.new-2.result _ (given_lt l (words (goal.at.returns c).Start) rules w known short) ∙ ap (laid_from c.new-2.result) (sym given),
-      passed ∙ laid_kept c.new-2.result _ (passed_lt l (words (goal.at.returns c).Start) rules w known short _) ∙ ap (laid_from c.new-2.result) (sym passed),
+      ap₂ (λ (g p : Map). Ok (record { first = c.new-2.result; given_up = g; passed = p }))
+          (given ∙ laid_kept c.new-2.result _ (given_lt l (words (goal.at.returns c).Start) rules w known short) ∙ ap (laid_from c.new-2.result) (sym given))
+          (passed ∙ laid_kept c.new-2.result _ (passed_lt l (words (goal.at.returns c).Start) rules w known short _) ∙ ap (laid_from c.new-2.result) (sym passed)),
     )

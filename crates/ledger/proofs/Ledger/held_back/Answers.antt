@@ -23,5 +23,5 @@ returns c =
     let l = s.args.self in
     let n = s.args.n in
     let p = held_back_of l (words (goal.at.returns c).Start) (rules_facts (book_of l) s.requires.3) n _ _ s.requires.0 s.requires.1 c.with.ensures
-    (c.new.ensures ∙ ap tick_of (c.larger.ensures ∙ ap (λ (x : ℕ). max x n) v.value-top.ensures)) in
+    (c.new.ensures ∙ ap tick_of (c.max.ensures ∙ ap (λ (x : ℕ). max x n) c.value-2.ensures)) in
     (ap₂ (λ (x : TickNumber) (y : ℕ). answer 0 (x.0 ∷ y ∷ [])) (c.new-first.ensures ∙ ap (λ (x : ℕ). tick_of (x + 1)) c.value.ensures) p.0, p.1)

@@ -25,5 +25,5 @@ returns c =
     let n = s.args.n in
     let f = c.new-first.ensures in
     let p = passed_one_of l (words (goal.at.returns c).Start) (rules_facts (book_of l) s.requires.2) n _ _ s.requires.0 s.requires.3 f
-    (c.new.ensures ∙ ap tick_of (c.larger.ensures ∙ ap (λ (x : ℕ). max x n) v.value-top.ensures)) in
+    (c.new.ensures ∙ ap tick_of (c.max.ensures ∙ ap (λ (x : ℕ). max x n) c.value.ensures)) in
     (ap₂ (λ (x : TickNumber) (y : ℕ). answer 0 (x.0 ∷ y ∷ [])) (f ∙ ap tick_of s.requires.0) p.0, p.1)
