@@ -9,7 +9,11 @@ use lib.ListN.{length, get_or, set, drop, length-set, length-append}
 use lib.Seq.{get_or-set_same, get_or-set_other}
 use lib.Dec.{eqb}
 use borrow.Author.Tests.{eq-eqb, ne_eqb}
-use Rattle.terms.specs.Cases.{less, same}
+use Rattle.std.specs.Prelude.{true, false, Result, Ok, Err, ⊤, is_err}
+use Rattle.terms.specs.Cases.{less, same, clash}
+use Rattle.terms.specs.Refusals.{refusal_pos}
+use Rattle.terms.specs.Verdicts.{verdict_number}
+use Rattle.terms.specs.declared.Refusal.{Refusal}
 use Rattle.channels_spec.proofs.Least.{least_at, least_all}
 use Rattle.walk_laws.specs.Walk.{Sight}
 use Rattle.walk_laws.specs.Frames.{reads_of}
@@ -22,7 +26,8 @@ use Rattle.month_spec.specs.Figures.{reads_in}
 use Rattle.month_spec.specs.Page.{places, place_in}
 use Rattle.month_spec.proofs.Rules.{found_at, found_not}
 use Rattle.month.specs.declared.Row.{Row}
-use Rattle.month.specs.Rows.{row_after, Turned, Roomy, Naming, Hints, Hinted, Kept}
+use Rattle.month.specs.Naming.{Naming, Hints, Hinted}
+use Rattle.month.specs.Rows.{row_after, Turned, Roomy, Kept}
 use Rattle.month.proofs.RowLaws.{row_other, row_own, Few, few_none, few_more, roomy_row}
 
 -- ---- fresh rows
@@ -89,6 +94,15 @@ module _ (channels : List ℕ) (named : ℕ) where
   -- the hint of a channel's own low byte is one for it
   pub hints_tell : (hints : List ℕ) (channel hint : ℕ) → Hints channels named named hints → hint ≡ get_or hints (channel % 256) 0 → Hinted channels named channel hint
   hints_tell hints channel hint w e k h f = rw (e, ← f) (w.hinted k h)
+
+-- an answer that is an error is no 0
+pub err_refused : (v : Result ⊤ Refusal) → is_err v ≡ true → verdict_number v ≡ 0 → ⊥
+err_refused (Ok _) e z = clash refl (sym e)
+err_refused (Err w) e z = refusal_pos w z
+
+pub ok_accepted : (v : Result ⊤ Refusal) → is_err v ≡ false → verdict_number v ≡ 0
+ok_accepted (Ok _) e = refl
+ok_accepted (Err w) e = absurd (clash refl e)
 
 -- done: the accepted frames so far. They and what is left are all that the capture has.
 pub record Left (s channels : List ℕ) (named : ℕ) (rows : List Row) (p : ℕ) : Type 0 where
