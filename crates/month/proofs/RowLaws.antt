@@ -2,7 +2,7 @@
 -- Assumes nothing.
 use Prim.Native.Nat.{ℕ, ◌+◌, ◌≤◌, ◌<◌}
 use mathlib.Core.Path.{◌≡◌, refl, sym, ap, ◌∙◌}
-use mathlib.Core.Bool.{Bool, true, false, ◌&&◌}
+use mathlib.Core.Bool.{Bool, false, ◌&&◌}
 use mathlib.Core.List.{List, [], ◌∷◌, ◌++◌}
 use native.Mathlib.Omega.{arith}
 use lib.Dec.{eqb}
@@ -13,7 +13,6 @@ use Rattle.std.specs.Result.{result_unwrap_or}
 use Rattle.terms.specs.declared.Refusal.{Refusal}
 use Rattle.ledger.specs.Papers.{count_paper}
 use Rattle.terms.specs.Paper.{Paper}
-use Rattle.terms.specs.Cases.{and_false}
 use Rattle.rules.specs.Table.{kind_of}
 use Rattle.ledger_spec.specs.State.{Book}
 use Rattle.ledger_spec.specs.Calls.{open_of}
@@ -35,15 +34,6 @@ use Rattle.month.specs.declared.Row.{Row}
 use Rattle.month.specs.Rows.{row_after, Turned, Roomy}
 
 -- ---- counts
-
-pub none_counted : (b d : Bool) → b ≡ false → 0 ≡ one (b && d)
-none_counted b d e = rw e
-
-pub one_counted : (b d : Bool) → b ≡ true → d ≡ true → 1 ≡ one (b && d)
-one_counted b d e f = rw (e, f)
-
-pub other_counted : (b d : Bool) → d ≡ false → 0 ≡ one (b && d)
-other_counted b d f = rw (f, and_false b)
 
 -- the count beside an answer, 0 beside a refusal
 pub missing_told : (a : Result ℕ Refusal) (p : Paper) → count_paper a ≡ p → result_unwrap_or a 0 ≡ value_at p 0
