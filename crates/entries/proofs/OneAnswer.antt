@@ -1,59 +1,59 @@
 -- For each public function: two answers that its promise allows are equal. A function that takes or
 -- gives a reader has no `Post` of the checker's: it promises one relation of specs/ and nothing
 -- else, and the theorem is over that relation. Assumes nothing.
-use Prim.Native.Nat.{ℕ}
-use mathlib.Core.Path.{◌≡◌, sym, ap, ◌∙◌}
-use mathlib.Core.List.{List}
-use denote.Ref.{Bor}
+use Rattle.std.proofs.Common.{◌≡◌, ℕ, List, sym, ap, ◌∙◌, Result, Ok, Err, IfOk, Option, Some, None, Bor, refl}
 use Rattle.terms.specs.OneAnswer.{OneAnswer}
-use Rattle.terms.specs.declared.Verdict.{Verdict}
+use Rattle.terms.specs.declared.Refusal.{Refusal}
+use Rattle.terms.specs.Verdicts.{verdict_number}
+use Rattle.terms.specs.Refusals.{refusal_pos}
+use Rattle.terms.proofs.Refusals.{refusal_one}
 use Rattle.terms.proofs.Verdicts.{verdict_one}
 use Rattle.entries.specs.declared.Entries.{Entries}
-use Rattle.entries.specs.declared.Answer.{Answer}
-use Rattle.entries.specs.declared.Opened.{Opened}
-use Rattle.entries.specs.declared.Stop.{Stop}
-use Rattle.entries.specs.declared.Stepped.{Stepped}
-use Rattle.entries.specs.Papers.{answer_one}
-use Rattle.entries.specs.Reader.{open_of, Opens, Steps}
+use Rattle.entries.specs.declared.Entry.{Entry}
+use Rattle.entries.specs.Papers.{answer_of, answer_one, step_one}
+use Rattle.entries.specs.Reader.{reader, Opens, Steps}
 use Rattle.entries.specs.Walks.{same_reader}
 use Rattle.entries.proofs.open_at.Reads as open_at
 use Rattle.entries.proofs.open_at.Kinds as open-at-kinds
 use Rattle.entries.proofs.step_from.Reads as step_from
 use Rattle.entries.proofs.step_from.Kinds as step-from-kinds
 
--- an answer, and the reader or the place beside it
-abbrev opened : Verdict → Entries → Opened
-opened a d = record { answer = a; reader = d }
-
-abbrev stepped : Answer → Entries → Stepped
-stepped a d = record { answer = a; reader = d }
-
-abbrev stopped : Answer → ℕ → Stop
-stopped a n = record { answer = a; place = n }
-
 pub open_at_one_answer : OneAnswer _ open-at-kinds.ps open-at-kinds.r open_at.Post
 open_at_one_answer κs a x y s t p q = verdict_one x y (p ∙ sym q)
 
--- of the part that the reader carries: its bytes
-pub reader_of_one_answer : (s : Bor (List ℕ)) (x y : Opened) → Opens s x → Opens s y
-    → (x.answer ≡ y.answer) × ((x.reader.body.now ≡ y.reader.body.now) × (x.reader.place ≡ y.reader.place))
-reader_of_one_answer s x y p q = (
-  verdict_one x.answer y.answer (p.answered ∙ sym q.answered),
-  (p.carries.bytes ∙ sym q.carries.bytes, p.starts ∙ sym q.starts),
+-- two openings with one number are one, where each reader is the same one
+opened_one : (d : Entries) (x y : Result Entries Refusal) → verdict_number x ≡ verdict_number y → IfOk x (λ e. e ≡ d) → IfOk y (λ e. e ≡ d) → x ≡ y
+opened_one d (Ok x) (Ok y) e p q = ap Ok (p ∙ sym q)
+opened_one d (Ok x) (Err w) e p q = absurd (refusal_pos w (sym e))
+opened_one d (Err v) (Ok y) e p q = absurd (refusal_pos v e)
+opened_one d (Err v) (Err w) e p q = ap Err (refusal_one v w e)
+
+-- the reader that is given is over the caller's slice itself, so all of it is equal
+pub reader_of_one_answer : (s : Bor (List ℕ)) (x y : Result Entries Refusal) → Opens s x → Opens s y → x ≡ y
+reader_of_one_answer s x y p q = opened_one (reader s 73) x y (p.answered ∙ sym q.answered) p.opened q.opened
+
+-- the answer, and the reader then
+pub step_one_answer : (d : Entries) (x y : Result Entry Refusal) (e f : Entries) → Steps d x e → Steps d y f → (x ≡ y) × (e ≡ f)
+step_one_answer d x y e f p q = (
+  answer_one x y (p.answered ∙ sym q.answered),
+  same_reader e f (p.body ∙ sym q.body) (p.place ∙ sym q.place),
 )
 
--- beside 0 it is the caller's slice itself, and so all is equal
-pub reader_of_one_reader : (s : Bor (List ℕ)) (x y : Opened) → Opens s x → Opens s y → open_of s.now ≡ 0 → x ≡ y
-reader_of_one_reader s x y p q e =
-    ap (λ (a : Verdict). opened a x.reader) (reader_of_one_answer s x y p q).0
-    ∙ ap (λ (r : Entries). opened y.answer r) (same_reader x.reader y.reader (p.carries.whole e ∙ sym (q.carries.whole e)) (p.starts ∙ sym q.starts))
-
-pub step_one_answer : (d : Entries) (x y : Stepped) → Steps d x → Steps d y → x ≡ y
-step_one_answer d x y p q =
-    ap (λ (a : Answer). stepped a x.reader) (answer_one x.answer y.answer (p.answered ∙ sym q.answered))
-    ∙ ap (λ (r : Entries). stepped y.answer r) (same_reader x.reader y.reader (p.body ∙ sym q.body) (p.place ∙ sym q.place))
-
 pub step_from_one_answer : OneAnswer _ step-from-kinds.ps step-from-kinds.r step_from.Post
-step_from_one_answer κs a x y s t p q =
-    ap (λ (a : Answer). stopped a x.place) (answer_one x.answer y.answer (p.answered ∙ sym q.answered))
-    ∙ ap (λ (m : ℕ). stopped y.answer m) (p.place ∙ sym q.place)
+step_from_one_answer κs a x y s t p q = step_one _ x y (p.answered ∙ sym q.answered) p.behind q.behind
+
+-- as an iterator
+given : Result Entry Refusal → Option Entry
+given (Ok e) = Some e
+given (Err w) = None
+
+given_again : (x : Option Entry) → given (answer_of x) ≡ x
+unfolding given
+given_again (Some e) = refl
+given_again None = refl
+
+answer_of_one : (x y : Option Entry) → answer_of x ≡ answer_of y → x ≡ y
+answer_of_one x y e = sym (given_again x) ∙ ap given e ∙ given_again y
+
+pub next_one_answer : (d : Entries) (x y : Option Entry) (e f : Entries) → Steps d (answer_of x) e → Steps d (answer_of y) f → (x ≡ y) × (e ≡ f)
+next_one_answer d x y e f p q = let s = step_one_answer d (answer_of x) (answer_of y) e f p q in (answer_of_one x y s.0, s.1)

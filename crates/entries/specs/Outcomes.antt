@@ -4,7 +4,7 @@ use Rattle.std.proofs.Common.{sym, ◌∙◌, arith}
 use Rattle.std.proofs.Math.Logic.{⊎_elim}
 use Rattle.std.proofs.Math.Dec.{eqb}
 use borrow.Author.Tests.{lt-ltb, le-ltb, eq-eqb, ne_eqb}
-use Rattle.terms.specs.Paper.{answer, refusal}
+use Rattle.terms.specs.Paper.{answer, refusal, one_number}
 use Rattle.terms.specs.Cases.{two, less}
 use Rattle.terms.specs.Letters.{spelled}
 use Rattle.octets.specs.Octets.{be}
@@ -13,7 +13,7 @@ use Rattle.rules.specs.Table.{measure_of}
 use Rattle.rules.specs.Fields.{fields_ok}
 use Rattle.rules.specs.Outcomes.{Measured, m_type, m_long, m_length, m_fine, measured}
 use Rattle.rules.specs.Meaning.{length_says, unsaid}
-use Rattle.entries.specs.Reader.{open_of, carried_of, size_in, stands, entry_at, step_of, place_after}
+use Rattle.entries.specs.Reader.{open_of, size_in, stands, entry_at, step_of, place_after}
 
 module _ (b : List ℕ) where
   pub open_long : 8164 < length b → open_of b ≡ 3
@@ -57,15 +57,6 @@ suited n m (m_fine e k l s) z = (l, (length_says M102 n).0 s)
 pub suited_length : (n : ℕ) → measure_of M102 n ≡ 0 → (n ≤ 8164) × (73 ≤ n)
 suited_length n e = suited n (measure_of M102 n) (measured M102 n) e
 
--- beside 0 the reader carries the body, beside any other number nothing of it
-pub carried_all : (n : ℕ) (b : List ℕ) → n ≡ 0 → carried_of n b ≡ b
-unfolding carried_of
-carried_all n b e = simp (eq-eqb n 0 e)
-
-pub carried_none : (n : ℕ) (b : List ℕ) → (n ≡ 0 → ⊥) → carried_of n b ≡ []
-unfolding carried_of
-carried_none n b e = simp (ne_eqb n 0 e)
-
 module _ (b : List ℕ) (p : ℕ) where
   pub step_done : stands b p ≡ true → step_of b p ≡ entry_at b p
   unfolding step_of
@@ -94,3 +85,8 @@ module _ (b : List ℕ) (p : ℕ) where
   pub entry_number : (entry_at b p).number ≡ 0
   unfolding entry_at
   entry_number = ⊎_elim (λ (t : eqb (be 5 10 b) (spelled "MD001") ≡ true). simp t) (λ (f : eqb (be 5 10 b) (spelled "MD001") ≡ false). simp f) (two (eqb (be 5 10 b) (spelled "MD001")))
+
+  -- beside any refusal the place stays
+  pub stays : ((step_of b p).number ≡ 0 → ⊥) → place_after b p ≡ p
+  stays n =
+      ⊎_elim (λ (t : stands b p ≡ true). absurd (n (one_number (step_done t) ∙ entry_number))) (λ (f : stands b p ≡ false). after_20 f) (two (stands b p))

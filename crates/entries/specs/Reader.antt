@@ -1,19 +1,19 @@
 -- Document 01 on the M102 entry reader: what opening it and a step of it answer, and what stands
 -- beside each answer. `be w p b` is the number in the w bytes of the body b from the offset p on:
 -- the stream is at 10, NoMDEntries at 71.
-use Rattle.std.specs.Prelude.{ℕ, zero, suc, ◌+◌, ◌*◌, ◌≡◌, Bool, false, ◌&&◌, ◌||◌, List, [], ◌∷◌, ltb, leb, eqb, length}
+use Rattle.std.specs.Prelude.{ℕ, zero, suc, ◌+◌, ◌*◌, ◌≡◌, Bool, false, ◌&&◌, ◌||◌, List, [], ◌∷◌, ltb, leb, eqb, length, Result, IfOk}
 use Rattle.std.specs.Borrow.{Bor}
 use Rattle.terms.specs.Paper.{Paper, answer, refusal, pick}
 use Rattle.octets.specs.Octets.{be}
 use Rattle.rules.specs.declared.Kind.TheVariants.{M102}
 use Rattle.rules.specs.Fields.{entry_size, fields_ok}
+use Rattle.terms.specs.declared.Refusal.{Refusal}
 use Rattle.terms.specs.Verdicts.{verdict_number}
 use Rattle.terms.specs.Letters.{spelled}
 use Rattle.entries.specs.declared.Entries.{Entries}
-use Rattle.entries.specs.declared.Opened.{Opened}
-use Rattle.entries.specs.declared.Stop.{Stop}
-use Rattle.entries.specs.declared.Stepped.{Stepped}
-use Rattle.entries.specs.Papers.{answer_paper}
+use Rattle.entries.specs.declared.Entry.{Entry}
+use Rattle.entries.specs.declared.Found.{Found}
+use Rattle.entries.specs.Papers.{answer_paper, entry_of}
 
 -- OPENING
 
@@ -21,21 +21,14 @@ use Rattle.entries.specs.Papers.{answer_paper}
 unfoldable pub open_of : List ℕ → ℕ
 open_of b = pick (ltb 8164 (length b)) 3 (pick (ltb (length b) 73) 4 (pick (fields_ok M102 b) 0 6))
 
--- what the reader beside the answer n carries: the body, and beside a refusal nothing of it
-unfoldable pub carried_of : ℕ → List ℕ → List ℕ
-carried_of n b = pick (eqb n 0) b []
+abbrev pub reader : Bor (List ℕ) → ℕ → Entries
+reader m n = record { body = m; place = n }
 
--- m is the part of the caller's slice s that it carries: beside 0 the very slice
-pub record Carries (s : Bor (List ℕ)) (n : ℕ) (m : Bor (List ℕ)) : Type 0 where
-  pub bytes : m.now ≡ carried_of n s.now
-  pub whole : n ≡ 0 → m ≡ s
-
--- what opening a slice promises: the answer, what the reader carries, and that it stands at
--- the first entry
-pub record Opens (s : Bor (List ℕ)) (o : Opened) : Type 0 where
-  pub answered : verdict_number o.answer ≡ open_of s.now
-  pub carries : Carries s (open_of s.now) o.reader.body
-  pub starts : o.reader.place ≡ 73
+-- what opening a slice promises: the answer; and the reader is over the caller's very slice, and
+-- stands at the first entry
+pub record Opens (s : Bor (List ℕ)) (r : Result Entries Refusal) : Type 0 where
+  pub answered : verdict_number r ≡ open_of s.now
+  pub opened : IfOk r (λ d. d ≡ reader s 73)
 
 -- A STEP
 
@@ -71,12 +64,13 @@ unfoldable pub place_after : List ℕ → ℕ → ℕ
 place_after b p = pick (stands b p) (p + size_in b) p
 
 -- what a step from the place p of a body promises
-pub record Stops (b : List ℕ) (p : ℕ) (s : Stop) : Type 0 where
-  pub answered : answer_paper s.answer ≡ step_of b p
-  pub place : s.place ≡ place_after b p
+pub record Stops (b : List ℕ) (p : ℕ) (r : Result Found Refusal) : Type 0 where
+  pub answered : answer_paper (entry_of r) ≡ step_of b p
+  pub behind : IfOk r (λ f. f.behind ≡ place_after b p)
 
--- what a step of the reader d promises; the reader after it carries the very bytes that d carries
-pub record Steps (d : Entries) (s : Stepped) : Type 0 where
-  pub answered : answer_paper s.answer ≡ step_of d.body.now d.place
-  pub body : s.reader.body ≡ d.body
-  pub place : s.reader.place ≡ place_after d.body.now d.place
+-- what a step of the reader d promises, after which it is e: it carries the very bytes that d
+-- carries
+pub record Steps (d : Entries) (r : Result Entry Refusal) (e : Entries) : Type 0 where
+  pub answered : answer_paper r ≡ step_of d.body.now d.place
+  pub body : e.body ≡ d.body
+  pub place : e.place ≡ place_after d.body.now d.place

@@ -2,22 +2,21 @@
 -- the one at 73 + k sizes, and every later step answers 20. By induction over the steps still to
 -- come; the invariant is that after k steps the place is 73 + k sizes.
 use Prim.Native.Nat.{ℕ, zero, suc, ◌+◌, ◌*◌, ◌<◌, ◌≤◌}
-use Rattle.std.specs.Prelude.{◌≡◌, refl, true, false, List, [], ◌∷◌, ◌++◌, map, length, get_or, replicate}
+use Rattle.std.specs.Prelude.{◌≡◌, refl, true, false, List, [], ◌∷◌, ◌++◌, map, length, get_or, replicate, Result, Ok}
 use Rattle.std.proofs.Common.{sym, ap, ◌∙◌, suc-mul, zero-mul, add-zero, zero-add, mul-le-mul_right, le_of_suc-le-suc, not-suc-le-zero}
 use native.Mathlib.Omega.{arith}
 use Rattle.std.specs.Borrow.{Bor}
 use Rattle.terms.specs.Paper.{Paper, refusal}
 use Rattle.octets.specs.Octets.{be}
+use Rattle.terms.specs.declared.Refusal.{Refusal}
 use Rattle.terms.specs.Verdicts.{verdict_number}
 use Rattle.rules.specs.Meaning.{size_is, denied}
 use Rattle.entries.specs.declared.Entries.{Entries}
-use Rattle.entries.specs.declared.Answer.{Answer}
-use Rattle.entries.specs.declared.Opened.{Opened}
-use Rattle.entries.specs.declared.Stepped.{Stepped}
+use Rattle.entries.specs.declared.Entry.{Entry}
 use Rattle.entries.specs.Papers.{answer_paper}
-use Rattle.entries.specs.Reader.{open_of, Opens, size_in, stands, entry_at, step_of, place_after, Steps}
+use Rattle.entries.specs.Reader.{reader, Opens, size_in, stands, entry_at, step_of, place_after, Steps}
 use Rattle.entries.specs.Given.{MayCarry, Row20}
-use Rattle.entries.specs.Outcomes.{carried_all, carried_none, step_done, step_20, after_done, after_20}
+use Rattle.entries.specs.Outcomes.{step_done, step_20, after_done, after_20}
 use Rattle.entries.specs.Places.{size_pos, sized, stands_says}
 use Rattle.entries.specs.Exactly.{open_given_0, step_given_20, step_stays}
 
@@ -66,7 +65,7 @@ kth_stands b k l h =
 apart : (k n w : ℕ) → 0 < w → k < n → 73 + n * w ≡ 73 + k * w → ⊥
 apart k n w pos l e = omega (arith, mul-le-mul_right {m = suc k} {n = n} w l, suc-mul k w)
 
-behind : (b : List ℕ) → stands b (73 + be 2 71 b * size_in b) ≡ false
+pub behind : (b : List ℕ) → stands b (73 + be 2 71 b * size_in b) ≡ false
 behind b =
     denied (stands_says b (73 + be 2 71 b * size_in b))
     (λ r.
@@ -108,39 +107,36 @@ module _ (b : List ℕ) (h : MayCarry b) where
   walk_all m = rw zero-mul at (walk_from_lem (be 2 71 b) 0 m (zero-add (be 2 71 b)))
 
 -- STEPS IN TURN: each of the reader that the one before it left, and what they answer
-pub data Turns : Entries → List Answer → Type 0 where
+pub data Turns : Entries → List (Result Entry Refusal) → Type 0 where
   none : (d : Entries) → Turns d []
-  next : (d : Entries) (s : Stepped) (xs : List Answer) → Steps d s → Turns s.reader xs → Turns d (s.answer ∷ xs)
+  next : (d e : Entries) (x : Result Entry Refusal) (xs : List (Result Entry Refusal)) → Steps d x e → Turns e xs → Turns d (x ∷ xs)
 
-pub turns_walked : (d : Entries) (xs : List Answer) → Turns d xs → map answer_paper xs ≡ walked (length xs) d.body.now d.place
+pub turns_walked : (d : Entries) (xs : List (Result Entry Refusal)) → Turns d xs → map answer_paper xs ≡ walked (length xs) d.body.now d.place
 unfolding walked
 turns_walked d _ (none _) = refl
-turns_walked d _ (next _ s xs t r) = rw (t.answered, turns_walked s.reader xs r, t.body, t.place)
+turns_walked d _ (next _ e x xs t r) = rw (t.answered, turns_walked e xs r, t.body, t.place)
 
 -- FROM AN OPENED READER exactly NoMDEntries steps give entries, all of them in order, and every
 -- later one answers 20
-pub opened_walk : (s : Bor (List ℕ)) (o : Opened) (xs : List Answer) (m : ℕ) → Opens s o → verdict_number o.answer ≡ 0 → Turns o.reader xs → length xs ≡ be 2 71 s.now + m
+pub opened_walk : (s : Bor (List ℕ)) (d : Entries) (xs : List (Result Entry Refusal)) (m : ℕ) → Opens s (Ok d) → Turns d xs → length xs ≡ be 2 71 s.now + m
     → map answer_paper xs ≡ all_entries s.now ++ replicate m (refusal 20)
-opened_walk s o xs m t z r l =
-    let e : open_of s.now ≡ 0 = sym t.answered ∙ z in
-    turns_walked o.reader xs r ∙ rw (l, t.carries.bytes, carried_all (open_of s.now) s.now e, t.starts) (walk_all s.now ((open_given_0 s.now).0 e) m)
+opened_walk s d xs m t r l = turns_walked d xs r ∙ rw (l, t.opened) (walk_all s.now ((open_given_0 s.now).0 (sym t.answered)) m)
 
--- FROM A REFUSED ONE every step answers 20
-pub refused_walk : (s : Bor (List ℕ)) (o : Opened) (xs : List Answer) → Opens s o → (verdict_number o.answer ≡ 0 → ⊥) → Turns o.reader xs
-    → map answer_paper xs ≡ replicate (length xs) (refusal 20)
-refused_walk s o xs t n r =
-    turns_walked o.reader xs r
-    ∙ rw (t.carries.bytes, carried_none (open_of s.now) s.now (λ e. n (t.answered ∙ e)))
-    (stuck [] o.reader.place (length xs) (denied (stands_says [] o.reader.place) (λ h. omega (arith, h.body))))
+-- A REFUSED BODY has no reader
+pub refused_none : (s : Bor (List ℕ)) (x : Result Entries Refusal) → Opens s x → (MayCarry s.now → ⊥) → (d : Entries) → x ≡ Ok d → ⊥
+refused_none s x t n d e = n ((open_given_0 s.now).0 (sym t.answered ∙ ap verdict_number e))
 
-abbrev reader : Bor (List ℕ) → ℕ → Entries
-reader m n = record { body = m; place = n }
+-- A READER OVER NOTHING answers 20 at every step
+pub nothing_walk : (d : Entries) (xs : List (Result Entry Refusal)) → d.body.now ≡ [] → Turns d xs → map answer_paper xs ≡ replicate (length xs) (refusal 20)
+nothing_walk d xs e r =
+    turns_walked d xs r
+    ∙ rw e (stuck [] d.place (length xs) (denied (stands_says [] d.place) (λ h. omega (arith, h.body))))
 
 pub same_reader : (c d : Entries) → c.body ≡ d.body → c.place ≡ d.place → c ≡ d
 same_reader c d p q = ap (λ (m : Bor (List ℕ)). reader m c.place) p ∙ ap (λ (n : ℕ). reader d.body n) q
 
 -- A STEP THAT ANSWERS 20 leaves the reader as it was
-pub refused_same : (d : Entries) (s : Stepped) → Steps d s → (answer_paper s.answer).number ≡ 20 → s.reader ≡ d
-refused_same d s t e =
-    let r : Row20 d.body.now d.place = (step_given_20 d.body.now d.place).0 (ap (λ (x : Paper). x.number) (sym t.answered) ∙ e) in
-    same_reader s.reader d t.body (t.place ∙ step_stays d.body.now d.place r)
+pub refused_same : (d e : Entries) (x : Result Entry Refusal) → Steps d x e → (answer_paper x).number ≡ 20 → e ≡ d
+refused_same d e x t z =
+    let r : Row20 d.body.now d.place = (step_given_20 d.body.now d.place).0 (ap (λ (p : Paper). p.number) (sym t.answered) ∙ z) in
+    same_reader e d t.body (t.place ∙ step_stays d.body.now d.place r)

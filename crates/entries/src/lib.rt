@@ -1,12 +1,12 @@
 // The entries of an M102 body, walked by a small reader that carries the caller's bytes and its
-// place. A struct that holds a reference is proved by hand, so its functions are thin, over covered
-// ones on a plain slice.
+// place. Its functions are thin, over one on a plain slice.
 #![tactic(auto)]
 
-ghost use Rattle.std.specs.Prelude.{◌≡◌, ◌+◌, ◌≤◌, length};
+ghost use Rattle.std.specs.Prelude.{◌≡◌, ◌+◌, ◌-◌, ◌≤◌, length};
+ghost use Rattle.std.specs.Iterator.{at_most};
 ghost use Rattle.terms.specs.Verdicts.{verdict_number};
-ghost use Rattle.entries.specs.Reader.{open_of, stands, entry_at, size_in, Carries, Opens, Stops, Steps};
-ghost use Rattle.entries.specs.Papers.{entry_paper};
+ghost use Rattle.entries.specs.Reader.{open_of, stands, entry_at, size_in, Opens, Stops, Steps};
+ghost use Rattle.entries.specs.Papers.{entry_paper, answer_of};
 
 use octets::Number;
 use rules::Kind;
@@ -20,7 +20,7 @@ pub struct Entries<'a> {
 }
 
 // One entry. Only those of stream MD001 are short.
-#[derive(Clone, Copy)]
+#[derive(Clone, Copy, Debug, PartialEq, Eq)]
 pub enum Entry {
     Short {
         kind: u16,
@@ -34,32 +34,11 @@ pub enum Entry {
     },
 }
 
-// What a step returns.
-#[derive(Clone, Copy)]
-pub enum Answer {
-    Done(Entry),
-    Refused(Refusal),
-}
-
-// A step over a plain slice: the answer, and the place after it.
-#[derive(Clone, Copy)]
-pub struct Stop {
-    pub answer: Answer,
-    pub place: usize,
-}
-
-// An opening: the answer, and the reader; beside a refusal, one over nothing.
-#[derive(Clone, Copy)]
-pub struct Opened<'a> {
-    pub answer: Result<(), Refusal>,
-    pub reader: Entries<'a>,
-}
-
-// A step of a reader: the answer, and the reader after it; beside a refusal, the reader as it was.
-#[derive(Clone, Copy)]
-pub struct Stepped<'a> {
-    pub answer: Answer,
-    pub reader: Entries<'a>,
+// What a step found: the entry, and the place behind it.
+#[derive(Clone, Copy, Debug, PartialEq, Eq)]
+pub struct Found {
+    pub entry: Entry,
+    pub behind: usize,
 }
 
 // Whether a body may be walked: the checks 3, 4 and 6 as for M102.
@@ -67,24 +46,11 @@ pub struct Stepped<'a> {
 pub fn open_at(body: &[u8]) -> Result<(), Refusal>
     ensures { verdict_number result ≡ open_of body.now }
 {
-    match rules::measure(Kind::M102, body.len()) {
-        Err(why) => Err(why),
-        Ok(()) => {
-            if !rules::fields_ok(Kind::M102, body) {
-                return Err(Refusal::Field);
-            }
-            Ok(())
-        }
-    }
-}
-
-// What the reader of an opening so answered carries: the body, or its empty part.
-fn carried(body: &[u8], answer: Result<(), Refusal>) -> &[u8]
-    ensures { Carries body.entry (verdict_number answer) result }
-{
-    match answer {
-        Err(_) => &body[0..0],
-        Ok(()) => body,
+    rules::measure(Kind::M102, body.len())?;
+    if rules::fields_ok(Kind::M102, body) {
+        Ok(())
+    } else {
+        Err(Refusal::Field)
     }
 }
 
@@ -125,62 +91,49 @@ fn entry_at(body: &[u8], place: usize, w: usize) -> Entry
     }
 }
 
-// The decoder: the entry at a place and the place after it, or 20 and the place as it was.
-// The stream and NoMDEntries are read from the body, whoever made the reader.
-fn step_at(body: &[u8], place: usize) -> Stop
+// The decoder: the entry at a place and the place behind it, or 20. The stream and NoMDEntries are
+// read from the body, whoever made the reader.
+pub fn step_from(body: &[u8], place: usize) -> Result<Found, Refusal>
     ensures { Stops body.now place result }
 {
     let w = rules::entry_size(octets::letters_at(body, 10));
     if !is_entry(body, place, w) {
-        return Stop {
-            answer: Answer::Refused(Refusal::Entries),
-            place,
-        };
+        return Err(Refusal::Entries);
     }
-    let entry = entry_at(body, place, w);
-    Stop {
-        answer: Answer::Done(entry),
-        place: place + w,
-    }
+    Ok(Found {
+        entry: entry_at(body, place, w),
+        behind: place + w,
+    })
 }
 
-// A reader over a body, at its first entry, beside the answer of `open_at`.
-pub fn reader_of<'a>(body: &'a [u8]) -> Opened<'a>
+// A reader over a body, at its first entry; or what `open_at` refuses.
+pub fn reader_of<'a>(body: &'a [u8]) -> Result<Entries<'a>, Refusal>
     ensures { Opens body.entry result }
 {
-    let answer = open_at(body);
-    let part = carried(body, answer);
-    Opened {
-        answer,
-        reader: Entries {
-            body: part,
-            place: 73,
-        },
+    open_at(body)?;
+    Ok(Entries { body, place: 73 })
+}
+
+impl<'a> Entries<'a> {
+    // The entry at the reader's place, which moves behind it; or 20, and the reader stays.
+    pub fn step(&mut self) -> Result<Entry, Refusal>
+        ensures { Steps self.old result self.new }
+    {
+        let found = step_from(self.body, self.place)?;
+        self.place = found.behind;
+        Ok(found.entry)
     }
 }
 
-// The entry at the reader's place and the reader after it, or 20 and the reader as it was.
-pub fn step<'a>(r: Entries<'a>) -> Stepped<'a>
-    ensures { Steps r.entry result }
-{
-    let s = step_at(r.body, r.place);
-    Stepped {
-        answer: s.answer,
-        reader: Entries {
-            body: r.body,
-            place: s.place,
-        },
-    }
-}
+// Its entries in turn, up to the first place where none stands.
+impl<'a> Iterator for Entries<'a> {
+    type Item = Entry;
 
-// A step of the reader at a place of a body, for a caller that keeps both itself: its proof
-// needs no walk.
-pub fn step_from(body: &[u8], place: usize) -> Stop
-    ensures { Stops body.now place result }
-{
-    let s = step(Entries { body, place });
-    Stop {
-        answer: s.answer,
-        place: s.reader.place,
+    ghost next_gives = { λ d x e. Steps d (answer_of x) e };
+
+    ghost remaining = { λ d. at_most (length d.body.now - d.place) };
+
+    fn next(&mut self) -> Option<Entry> {
+        self.step().ok()
     }
 }

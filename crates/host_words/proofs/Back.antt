@@ -12,8 +12,8 @@ use Rattle.terms.specs.Cases.{same}
 use Rattle.tick_map.specs.Bits.{map_of}
 use Rattle.ledger_spec.specs.State.{range, Book, StateRules}
 use Rattle.ledger.specs.declared.Ledger.{Ledger}
-use Rattle.ledger.specs.declared.Pending.{Pending}
-use Rattle.ledger.specs.declared.Pending.TheVariants.{Nothing, Range}
+use Rattle.std.specs.Prelude.{Option, Some, None}
+use Rattle.ledger.specs.declared.Range.{Range}
 use Rattle.ledger.specs.State.{asked_of, book_of, ledger_of, topped}
 use Rattle.ledger.proofs.Seam.{book_of_lem}
 use Rattle.host_words.specs.Words.{first_asked, last_asked, words_of, pending_in, ledger_in, with_top, book_in}
@@ -31,10 +31,10 @@ all_of (suc n) i w e = drop-cons w i 0 (omega (arith, e)) ∙ ap (λ (l : List �
 
 -- THE WORDS OF A SOUND LEDGER STAND FOR IT
 
-pending_back : (p : Pending) → ((first last : ℕ) → asked_of p ≡ range first last → 1 ≤ first) → pending_in (first_asked p) (last_asked p) ≡ p
+pending_back : (p : Option Range) → ((first last : ℕ) → asked_of p ≡ range first last → 1 ≤ first) → pending_in (first_asked p) (last_asked p) ≡ p
 unfolding pending_in
-pending_back Nothing h = refl
-pending_back (Range first last) h = rw (ne_eqb first.0 0 (λ (z : first.0 ≡ 0). omega (arith, h first.0 last.0 refl)))
+pending_back None h = refl
+pending_back (Some r) h = rw (ne_eqb r.first.0 0 (λ (z : r.first.0 ≡ 0). omega (arith, h r.first.0 r.last.0 refl)))
 
 -- of a ledger whose map has four words, as each that code can hold
 pub words_back : (l : Ledger) → length l.map.words ≡ 4 → StateRules (book_of l) → ledger_in (words_of l) ≡ l

@@ -13,8 +13,6 @@ use Rattle.host_words.proofs.first_asked.Reads as first-asked
 use Rattle.host_words.proofs.first_asked.Kinds as first-asked-kinds
 use Rattle.host_words.proofs.last_asked.Reads as last-asked
 use Rattle.host_words.proofs.last_asked.Kinds as last-asked-kinds
-use Rattle.host_words.proofs.number_of.Reads as number_of_lem
-use Rattle.host_words.proofs.number_of.Kinds as number-of-kinds
 use Rattle.host_words.proofs.keep.Reads as keep
 use Rattle.host_words.proofs.keep.Kinds as keep-kinds
 use Rattle.host_words.proofs.told_bytes.Reads as told-bytes
@@ -31,9 +29,6 @@ first_asked_one_answer κs a x y s t p q = p ∙ sym q
 
 pub last_asked_one_answer : OneAnswer _ last-asked-kinds.ps last-asked-kinds.r last-asked.Post
 last_asked_one_answer κs a x y s t p q = p ∙ sym q
-
-pub number_of_one_answer : OneAnswer _ number-of-kinds.ps number-of-kinds.r number_of_lem.Post
-number_of_one_answer κs a x y s t p q = p ∙ sym q
 
 pub keep_one_answer : OneAnswer _ keep-kinds.ps keep-kinds.r keep.Post
 keep_one_answer κs a x y s t p q = refl

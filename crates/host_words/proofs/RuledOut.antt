@@ -4,21 +4,17 @@ use Prim.Native.Nat.{ℕ, ◌^◌}
 use mathlib.Core.Path.{refl, ap, ap₂}
 use mathlib.Core.List.{List, [], ◌∷◌}
 use lib.ListN.{get_or}
-use Rattle.terms.specs.Counters.{tick_of}
+use Rattle.std.specs.Prelude.{Result, Ok, Err, Option, Some, None}
+use Rattle.terms.specs.declared.Refusal.{Refusal}
 use Rattle.terms.specs.RuledOut.{Row, ◌never◌, ◌only◌, Kept, RulesOut, ruled, numbers, lists, beside}
-use Rattle.terms.specs.declared.Refusal.TheVariants.{Room, Far}
+use Rattle.terms.specs.declared.Refusal.TheVariants.{Room}
 use Rattle.octets.specs.Papers.{written_paper}
-use Rattle.octets.specs.declared.Written.{Written}
-use Rattle.octets.specs.declared.Written.TheVariants.{Bytes}
 use Rattle.tick_map.specs.Bits.{value_of, bits_in, map_of}
 use Rattle.tick_map.specs.Ring.{rotated}
 use Rattle.ledger_spec.specs.State.{Asked, nothing, range}
-use Rattle.ledger.specs.State.{asked_of, ledger_of}
-use Rattle.ledger.specs.Papers.{paper_of}
-use Rattle.ledger.specs.declared.Answer.{Answer}
+use Rattle.ledger.specs.State.{range_of, asked_of, ledger_of}
 use Rattle.ledger.specs.declared.Ledger.{Ledger}
-use Rattle.ledger.specs.declared.Pending.{Pending}
-use Rattle.ledger.specs.declared.Pending.TheVariants.{Nothing, Range}
+use Rattle.ledger.specs.declared.Range.{Range}
 use Rattle.host_words.specs.Words.{first_asked, last_asked, words_of, pending_in, ledger_in}
 use Rattle.host_words.specs.Told.{told_by}
 use Rattle.host_words.specs.Calls.{kept_by}
@@ -30,8 +26,6 @@ use Rattle.host_words.proofs.first_asked.Reads as first-asked
 use Rattle.host_words.proofs.first_asked.Kinds as first-asked-kinds
 use Rattle.host_words.proofs.last_asked.Reads as last-asked
 use Rattle.host_words.proofs.last_asked.Kinds as last-asked-kinds
-use Rattle.host_words.proofs.number_of.Reads as number_of_lem
-use Rattle.host_words.proofs.number_of.Kinds as number-of-kinds
 use Rattle.host_words.proofs.keep.Reads as keep
 use Rattle.host_words.proofs.keep.Kinds as keep-kinds
 use Rattle.host_words.proofs.told_bytes.Reads as told-bytes
@@ -72,36 +66,25 @@ unfolding rotated map_of ledger_of words_of
 state_of_rules_out = ruled lists words_of (λ c p. p) _ refl
 
 -- the first and the last number of a pending range, 0 where there is none
-abbrev pub first_asked_wrong : List (Row Pending ℕ)
+abbrev pub first_asked_wrong : List (Row (Option Range) ℕ)
 first_asked_wrong =
-    Range (tick_of 6) (tick_of 8) never 8  -- the last for the first
-    ∷ Range (tick_of 6) (tick_of 8) only 6
-    ∷ Nothing only 0
+    Some (range_of 6 8) never 8  -- the last for the first
+    ∷ Some (range_of 6 8) only 6
+    ∷ None only 0
     ∷ []
 
 pub first_asked_rules_out : RulesOut (Kept _ first-asked-kinds.ps first-asked-kinds.r first-asked.Post) (λ c. c.args.0) (λ c. c.result) first_asked_wrong
 first_asked_rules_out = ruled numbers first_asked (λ c p. p) _ refl
 
-abbrev pub last_asked_wrong : List (Row Pending ℕ)
+abbrev pub last_asked_wrong : List (Row (Option Range) ℕ)
 last_asked_wrong =
-    Range (tick_of 6) (tick_of 8) never 6  -- the first for the last
-    ∷ Range (tick_of 6) (tick_of 8) only 8
-    ∷ Nothing only 0
+    Some (range_of 6 8) never 6  -- the first for the last
+    ∷ Some (range_of 6 8) only 8
+    ∷ None only 0
     ∷ []
 
 pub last_asked_rules_out : RulesOut (Kept _ last-asked-kinds.ps last-asked-kinds.r last-asked.Post) (λ c. c.args.0) (λ c. c.result) last_asked_wrong
 last_asked_rules_out = ruled numbers last_asked (λ c p. p) _ refl
-
--- an answer's number
-abbrev pub number_of_wrong : List (Row Answer ℕ)
-number_of_wrong =
-    Answer.Refused Far never 0  -- a refusal taken for an answer
-    ∷ Answer.Refused Far only 12
-    ∷ Answer.Done only 0
-    ∷ []
-
-pub number_of_rules_out : RulesOut (Kept _ number-of-kinds.ps number-of-kinds.r number_of_lem.Post) (λ c. c.args.0) (λ c. c.result) number_of_wrong
-number_of_rules_out = ruled numbers (λ (a : Answer). (paper_of a).number) (λ c p. p) _ refl
 
 -- KEEP: the words before, the number answered, and the ledger beside it; the words then
 abbrev before : List ℕ
@@ -120,15 +103,15 @@ unfolding rotated map_of ledger_of words_of kept_by
 keep_rules_out = ruled lists (λ (i : List ℕ × (ℕ × Ledger)). kept_by i.1.0 i.1.1 i.0) (λ c p. p) _ refl
 
 -- what was written, and the told number before; the number answered, and the told one then
-abbrev pub told_bytes_wrong : List (Row (Written × ℕ) (ℕ × ℕ))
+abbrev pub told_bytes_wrong : List (Row (Result ℕ Refusal × ℕ) (ℕ × ℕ))
 told_bytes_wrong =
-    (Written.Refused Room, 7) never (8, 0)  -- something told beside a refusal
-    ∷ (Written.Refused Room, 7) only (8, 7)
-    ∷ (Bytes 28, 7) only (0, 28)
+    (Err Room, 7) never (8, 0)  -- something told beside a refusal
+    ∷ (Err Room, 7) only (8, 7)
+    ∷ (Ok 28, 7) only (0, 28)
     ∷ []
 
 pub told_bytes_rules_out : RulesOut (Kept _ told-bytes-kinds.ps told-bytes-kinds.r told-bytes.Post) (λ c. (c.args.0, c.args.1.0.now)) (λ c. (c.result, c.exit.1.0.now)) told_bytes_wrong
 unfolding told_by
 told_bytes_rules_out =
-    ruled (beside numbers numbers) (λ (i : Written × ℕ). ((written_paper i.0).number, get_or (told_by (written_paper i.0) (i.1 ∷ [])) 0 0))
+    ruled (beside numbers numbers) (λ (i : Result ℕ Refusal × ℕ). ((written_paper i.0).number, get_or (told_by (written_paper i.0) (i.1 ∷ [])) 0 0))
     (λ c p. ap₂ (λ (n m : ℕ). (n, m)) p.answered (ap (λ (l : List ℕ). get_or l 0 0) p.told)) _ refl

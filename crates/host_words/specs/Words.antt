@@ -1,23 +1,22 @@
 -- A ledger as a host keeps it: nine words.
-use Rattle.std.specs.Prelude.{ℕ, min, ◌&&◌, List, [], ◌∷◌, eqb, get_or}
+use Rattle.std.specs.Prelude.{ℕ, min, ◌&&◌, List, [], ◌∷◌, eqb, get_or, Option, Some, None}
 use Rattle.terms.specs.Paper.{pick}
 use Rattle.terms.specs.Counters.{tick_of, channel_of}
 use Rattle.ledger_spec.specs.State.{Book}
 use Rattle.ledger.specs.declared.Ledger.{Ledger}
-use Rattle.ledger.specs.declared.Pending.{Pending}
-use Rattle.ledger.specs.declared.Pending.TheVariants.{Nothing, Range}
-use Rattle.ledger.specs.State.{book_of}
+use Rattle.ledger.specs.declared.Range.{Range}
+use Rattle.ledger.specs.State.{range_of, book_of}
 
 -- THE WORDS: channel, floor, top, the map's four, the pending request's first and last number
 
 -- 0 and 0 where nothing is pending
-abbrev pub first_asked : Pending → ℕ
-first_asked Nothing = 0
-first_asked (Range first last) = first.0
+abbrev pub first_asked : Option Range → ℕ
+first_asked None = 0
+first_asked (Some r) = r.first.0
 
-abbrev pub last_asked : Pending → ℕ
-last_asked Nothing = 0
-last_asked (Range first last) = last.0
+abbrev pub last_asked : Option Range → ℕ
+last_asked None = 0
+last_asked (Some r) = r.last.0
 
 unfoldable pub words_of : Ledger → List ℕ
 words_of l =
@@ -26,8 +25,8 @@ words_of l =
     ∷ first_asked l.pending ∷ last_asked l.pending ∷ []
 
 -- 0 and 0 are no request; 0 and another number are one that breaks the state rules
-unfoldable pub pending_in : ℕ → ℕ → Pending
-pending_in first last = pick (eqb first 0 && eqb last 0) Nothing (Range (tick_of first) (tick_of last))
+unfoldable pub pending_in : ℕ → ℕ → Option Range
+pending_in first last = pick (eqb first 0 && eqb last 0) None (Some (range_of first last))
 
 -- the ledger that nine words stand for, sound or not; a channel above two bytes stands for 65,535,
 -- which breaks the state rules too

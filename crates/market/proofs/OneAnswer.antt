@@ -4,6 +4,9 @@ use mathlib.Core.Path.{◌≡◌, sym, ap₂, ◌∙◌}
 use Rattle.terms.specs.OneAnswer.{OneAnswer}
 use Rattle.market.specs.declared.Rows.{Rows}
 use Rattle.market.specs.OneFault.{verdict_one}
+use Rattle.market.specs.Starts.{start_one}
+use Rattle.market.proofs.U64FromFault.from.Reads as number
+use Rattle.market.proofs.U64FromFault.from.Kinds as number-kinds
 use Rattle.market.proofs.due.Reads as due
 use Rattle.market.proofs.due.Kinds as due-kinds
 use Rattle.market.proofs.line_type.Reads as line-type
@@ -13,11 +16,14 @@ use Rattle.market.proofs.rows_of.Kinds as rows-of-kinds
 use Rattle.market.proofs.check.Reads as check
 use Rattle.market.proofs.check.Kinds as check-kinds
 
+pub Fault_number_one_answer : OneAnswer _ number-kinds.ps number-kinds.r number.Post
+Fault_number_one_answer κs a x y s t p q = p ∙ sym q
+
 pub due_one_answer : OneAnswer _ due-kinds.ps due-kinds.r due.Post
 due_one_answer κs a x y s t p q = p ∙ sym q
 
 pub line_type_one_answer : OneAnswer _ line-type-kinds.ps line-type-kinds.r line-type.Post
-line_type_one_answer κs a x y s t p q = p ∙ sym q
+line_type_one_answer κs a x y s t p q = start_one x y (p ∙ sym q)
 
 rows_one : (x y : Rows) → x.first ≡ y.first → x.last ≡ y.last → x ≡ y
 rows_one x y a b = let g : ℕ → ℕ → Rows = λ f l. record { first = f; last = l } in ap₂ g a b

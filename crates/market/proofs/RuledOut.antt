@@ -1,10 +1,10 @@
 -- For each public function: wrong answers that its promise rules out, as tables of what is given
 -- and what is then wrong. Assumes nothing.
 use Prim.Native.Nat.{ℕ, ◌+◌, ◌<◌}
-use mathlib.Core.Path.{◌≡◌, refl, sym, ap, ap₂, ◌∙◌}
+use mathlib.Core.Path.{refl, sym, ap, ap₂, ◌∙◌}
 use mathlib.Core.List.{List, [], ◌∷◌, ◌++◌}
 use lib.ListN.{length, take, drop}
-use Rattle.terms.specs.Paper.{Paper, answer}
+use Rattle.terms.specs.Paper.{Paper}
 use Rattle.terms.specs.RuledOut.{Row, ◌never◌, ◌only◌, Kept, Holds, no_other, RulesOut, ruled, numbers, lists, papers}
 use Rattle.octets.specs.Octets.{numeral, sum_of, sum8}
 use Rattle.digits.specs.Digits.{all_digits, said_by, said_if_digits, digits_at, decimal_at}
@@ -12,8 +12,13 @@ use Rattle.market_columns.specs.Numbers.{spaces, decimals_at, joined, number_in,
 use Rattle.market_columns.specs.Columns.{columns, alike, column_ok}
 use Rattle.market_spec.specs.File.{fault, fine, end_of, line_fault, begins_at, type_at, first_of, last_of, tail_fault, trailer_fault, lines_fault, fault_of}
 use Rattle.market_spec.specs.Types.{file_large}
-use Rattle.market_spec.specs.Samples.{head_front, head_back, head_line, odd_name, price, below, round, line_with, line, trailer_line, sample}
-use Rattle.market.specs.Papers.{verdict_paper}
+use Rattle.market_spec.specs.Samples.{head_line, odd_name, price, below, round, line_with, line, trailer_line, sample}
+use Rattle.market.specs.Papers.{fault_number, verdict_paper}
+use Rattle.market.specs.Starts.{line_number, start_number}
+use Rattle.market.specs.declared.Fault.{Fault}
+use Rattle.market.specs.declared.Fault.TheVariants.{CutShort, Header, Sum, Large, Room}
+use Rattle.market.proofs.U64FromFault.from.Reads as number
+use Rattle.market.proofs.U64FromFault.from.Kinds as number-kinds
 use Rattle.market.proofs.due.Reads as due
 use Rattle.market.proofs.due.Kinds as due-kinds
 use Rattle.market.proofs.line_type.Reads as line-type
@@ -22,6 +27,19 @@ use Rattle.market.proofs.rows_of.Reads as rows_of_lem
 use Rattle.market.proofs.rows_of.Kinds as rows-of-kinds
 use Rattle.market.proofs.check.Reads as check
 use Rattle.market.proofs.check.Kinds as check-kinds
+
+-- FAULTS: a fault, and CR 10's number
+abbrev pub fault_number_wrong : List (Row Fault ℕ)
+fault_number_wrong =
+    CutShort only 40  -- not counted from 0
+    ∷ Header never 40  -- two faults with one number
+    ∷ Sum only 46  -- not 45 or 47, which are others'
+    ∷ Large only 47
+    ∷ Room only 8  -- not counted on behind 47
+    ∷ []
+
+pub Fault_number_rules_out : RulesOut (Kept _ number-kinds.ps number-kinds.r number.Post) (λ c. c.args.0) (λ c. c.result) fault_number_wrong
+Fault_number_rules_out = ruled numbers fault_number (λ c p. p) _ refl
 
 -- DUE: a row and the row behind its layout
 abbrev pub due_wrong : List (Row (ℕ × ℕ) ℕ)
@@ -45,11 +63,11 @@ line_type_wrong =
     ∷ (line, 1) only 0
     ∷ []
 
-pub line_type_rules_out : RulesOut (Kept _ line-type-kinds.ps line-type-kinds.r line-type.Post) (λ c. (c.args.0.now, c.args.1.0)) (λ c. c.result) line_type_wrong
+pub line_type_rules_out : RulesOut (Kept _ line-type-kinds.ps line-type-kinds.r line-type.Post) (λ c. (c.args.0.now, c.args.1.0)) (λ c. start_number c.result) line_type_wrong
 unfolding type_at begins_at alike
 line_type_rules_out = ruled numbers (λ (i : List ℕ × ℕ). type_at i.1 i.0) (λ c p. p) _ refl
 
--- ROWS_OF: a line's type; its first row, and the one behind its last
+-- ROWS_OF: the number of a line's type; its first row, and the one behind its last
 abbrev pub rows_of_wrong : List (Row ℕ (List ℕ))
 rows_of_wrong =
     1 only (9 ∷ 26 ∷ [])
@@ -58,7 +76,7 @@ rows_of_wrong =
     ∷ 4 never (46 ∷ 57 ∷ [])  -- the last column left out
     ∷ []
 
-pub rows_of_rules_out : RulesOut (Kept _ rows-of-kinds.ps rows-of-kinds.r rows_of_lem.Post) (λ c. c.args.0) (λ c. c.result.first ∷ c.result.last ∷ []) rows_of_wrong
+pub rows_of_rules_out : RulesOut (Kept _ rows-of-kinds.ps rows-of-kinds.r rows_of_lem.Post) (λ c. line_number c.args.0) (λ c. c.result.first ∷ c.result.last ∷ []) rows_of_wrong
 rows_of_rules_out =
     ruled lists (λ (t : ℕ). first_of t ∷ last_of t ∷ []) (λ c p. ap₂ (λ (f : ℕ) (l : ℕ). f ∷ l ∷ []) p.1.1.0 p.1.1.1) _ refl
 

@@ -1,11 +1,10 @@
 -- Two verdicts of one paper are one.
-use Rattle.std.specs.Prelude.{ℕ, ◌≡◌, refl, true, false, List, [], ◌∷◌, eqb, get_or}
+use Rattle.std.specs.Prelude.{ℕ, ◌≡◌, refl, false, eqb, get_or, Result, Ok, Err}
 use Rattle.std.proofs.Common.{sym, ap, ◌∙◌}
 use Rattle.terms.specs.Paper.{Paper, pick}
 use Rattle.market.specs.declared.Fault.{Fault}
 use Rattle.market.specs.declared.Fault.TheVariants.{CutShort, Header, LineType, Column, Count, Trailer, Sum, Large, Room}
-use Rattle.market.specs.declared.Verdict.{Verdict}
-use Rattle.market.specs.declared.Verdict.TheVariants.{Fine, Refused}
+use Rattle.market.specs.declared.Wrong.{Wrong}
 use Rattle.market.specs.Papers.{fault_number, verdict_paper}
 
 -- the fault of a number
@@ -36,13 +35,16 @@ fault_not_0 Large = refl
 fault_not_0 Room = refl
 
 -- the verdict told from its paper
-told_verdict : Paper → Verdict
-told_verdict p = pick (eqb p.number 0) (Fine (get_or p.values 0 0)) (Refused (fault_is p.number) (get_or p.values 0 0))
+wrong : Fault → ℕ → Result ℕ Wrong
+wrong f p = Err (record { fault = f; place = p })
 
-verdict_told : (r : Verdict) → told_verdict (verdict_paper r) ≡ r
-unfolding told_verdict
-verdict_told (Fine n) = refl
-verdict_told (Refused f p) = rw (fault_not_0 f, fault_back f)
+told_verdict : Paper → Result ℕ Wrong
+told_verdict p = pick (eqb p.number 0) (Ok (get_or p.values 0 0)) (wrong (fault_is p.number) (get_or p.values 0 0))
 
-pub verdict_one : (x y : Verdict) → verdict_paper x ≡ verdict_paper y → x ≡ y
+verdict_told : (r : Result ℕ Wrong) → told_verdict (verdict_paper r) ≡ r
+unfolding told_verdict wrong
+verdict_told (Ok n) = refl
+verdict_told (Err w) = rw (fault_not_0 w.fault, fault_back w.fault)
+
+pub verdict_one : (x y : Result ℕ Wrong) → verdict_paper x ≡ verdict_paper y → x ≡ y
 verdict_one x y e = sym (verdict_told x) ∙ ap told_verdict e ∙ verdict_told y

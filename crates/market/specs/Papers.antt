@@ -1,11 +1,10 @@
 -- The answers of a check in CR 10's numbers.
-use Rattle.std.specs.Prelude.{ℕ, ◌≡◌, [], ◌∷◌}
+use Rattle.std.specs.Prelude.{ℕ, ◌≡◌, [], ◌∷◌, Result, Ok, Err}
 use Rattle.std.proofs.Common.{arith}
 use Rattle.terms.specs.Paper.{Paper, answer}
 use Rattle.market.specs.declared.Fault.{Fault}
 use Rattle.market.specs.declared.Fault.TheVariants.{CutShort, Header, LineType, Column, Count, Trailer, Sum, Large, Room}
-use Rattle.market.specs.declared.Verdict.{Verdict}
-use Rattle.market.specs.declared.Verdict.TheVariants.{Fine, Refused}
+use Rattle.market.specs.declared.Wrong.{Wrong}
 
 abbrev pub fault_number : Fault → ℕ
 fault_number CutShort = 40  -- cut short or left-over bytes
@@ -18,9 +17,9 @@ fault_number Sum = 46  -- sum
 fault_number Large = 47  -- above 65,536 bytes
 fault_number Room = 8  -- too small a buffer
 
-abbrev pub verdict_paper : Verdict → Paper
-verdict_paper (Fine n) = answer 0 (n ∷ [])
-verdict_paper (Refused f p) = answer (fault_number f) (p ∷ [])
+abbrev pub verdict_paper : Result ℕ Wrong → Paper
+verdict_paper (Ok n) = answer 0 (n ∷ [])
+verdict_paper (Err w) = answer (fault_number w.fault) (w.place ∷ [])
 
 -- no refusal is 0
 pub fault_some : (f : Fault) → fault_number f ≡ 0 → ⊥

@@ -1,16 +1,17 @@
 // Whether a B-to-H market file is sound by 003, and if not what is wrong and where.
 #![tactic(auto)]
 
-ghost use Rattle.std.specs.Prelude.{◌≡◌, ◌∷◌, ◌+◌, ◌≤◌, ◌<◌, length, take, drop};
+ghost use Rattle.std.specs.Prelude.{◌≡◌, ◌+◌, ◌≤◌, length};
 ghost use Rattle.market_columns.specs.Columns.{columns};
-ghost use Rattle.market_spec.specs.File.{end_of, line_fault, begins_at, word_of, type_at, layout_of, first_of, last_of, tail_fault, marks, mark_ok, left_over, and_then, count_ok, sum_ok, closing, trailer_fault, lines_fault, fault_of, fault};
+ghost use Rattle.market_spec.specs.File.{end_of, line_fault, type_at, layout_of, first_of, last_of, tail_fault, marks, mark_ok, left_over, and_then, count_ok, sum_ok, closing, trailer_fault, lines_fault, fault_of};
 ghost use Rattle.market.specs.Papers.{fault_number, verdict_paper};
+ghost use Rattle.market.specs.Starts.{line_number, start_number};
 
 use market_columns::Amount;
 
 // What is wrong: CR 10's numbers 40 to 47, in its order; and 8, too small a buffer, which no check
 // gives.
-#[derive(Clone, Copy)]
+#[derive(Clone, Copy, Debug, PartialEq, Eq)]
 pub enum Fault {
     CutShort,
     Header,
@@ -23,12 +24,71 @@ pub enum Fault {
     Room,
 }
 
-// What a check finds: nothing wrong, and a number (the lines of a file, or the place behind a part
-// of it); or what is wrong, and where.
-#[derive(Clone, Copy)]
-pub enum Verdict {
-    Fine(usize),
-    Refused(Fault, usize),
+// CR 10's number of a fault.
+impl From<Fault> for u64 {
+    ghost from_gives = { λ fault n. n ≡ fault_number fault };
+
+    fn from(fault: Fault) -> u64 {
+        match fault {
+            Fault::CutShort => 40,
+            Fault::Header => 41,
+            Fault::LineType => 42,
+            Fault::Column => 43,
+            Fault::Count => 44,
+            Fault::Trailer => 45,
+            Fault::Sum => 46,
+            Fault::Large => 47,
+            Fault::Room => 8,
+        }
+    }
+}
+
+// What is wrong, and where.
+#[derive(Clone, Copy, Debug, PartialEq, Eq)]
+pub struct Wrong {
+    pub fault: Fault,
+    pub place: usize,
+}
+
+// The types of a line.
+#[derive(Clone, Copy, Debug, PartialEq, Eq)]
+pub enum LineType {
+    Md401,
+    Md404,
+    Md405,
+    Md406,
+}
+
+// What stands at a line's start: its type, the trailer, one of these cut short, or none of them.
+#[derive(Clone, Copy, Debug, PartialEq, Eq)]
+pub enum Start {
+    Line(LineType),
+    Trailer,
+    Cut,
+    Other,
+}
+
+// The rows of a layout: from first up to last.
+#[derive(Clone, Copy, Debug, PartialEq, Eq)]
+pub struct Rows {
+    pub first: usize,
+    pub last: usize,
+}
+
+// The rows of the header.
+const HEADER: Rows = Rows { first: 0, last: 9 };
+
+// The rows of a line's type.
+pub fn rows_of(line: LineType) -> Rows
+    ensures { (columns result.first result.last ≡ layout_of (line_number line)) × ((result.last ≤ 58) × ((result.first ≡ first_of (line_number line)) × (result.last ≡ last_of (line_number line)))) }
+{
+    let (first, last) = match line {
+        LineType::Md401 => (9, 26),
+        LineType::Md404 => (26, 36),
+        LineType::Md405 => (36, 46),
+        LineType::Md406 => (46, 58),
+    };
+    Rows { first, last }
 }
 
 // The byte that is due behind the column of row i, of a layout whose rows end before last:
@@ -36,207 +96,143 @@ pub enum Verdict {
 pub fn due(i: usize, last: usize) -> u8
     ensures { result ≡ end_of (columns (i + 1) last) }
 {
-    if last <= i {
-        return 10;
+    if (last <= i) | (57 <= i) {
+        return b'\n';
     }
-    if 57 <= i {
-        return 10;
-    }
-    if i + 1 == last { 10 } else { 124 }
+    if i + 1 == last { b'\n' } else { b'|' }
 }
 
-// The columns of the rows from first up to last, in s from at on: the place behind them, or the
-// first fault.
-fn line_at(s: &[u8], at: usize, first: usize, last: usize, wrong: Fault) -> Verdict
-    requires { (at ≤ length s.now) × (last ≤ 58) }
-    ensures { verdict_paper result ≡ line_fault (fault_number wrong) (columns first last) at s.now }
+// The columns of some rows, in s from at on: the place behind them, or the first fault, which is
+// the given one where a column or the byte behind it is wrong.
+fn line_at(s: &[u8], at: usize, rows: Rows, fault: Fault) -> Result<usize, Wrong>
+    requires { (at ≤ length s.now) × (rows.last ≤ 58) }
+    ensures { verdict_paper result ≡ line_fault (fault_number fault) (columns rows.first rows.last) at s.now }
 {
+    let cut = Wrong {
+        fault: Fault::CutShort,
+        place: s.len(),
+    };
     let mut p = at;
-    let mut i = first;
-    while i < last {
-        let f = market_columns::column(i);
-        let w = f.width;
-        if s.len() - p < w {
-            return Verdict::Refused(Fault::CutShort, s.len());
+    for i in rows.first..rows.last {
+        let width = market_columns::column(i).width;
+        if s.len() - p < width {
+            return Err(cut);
         }
         if !market_columns::column_ok(s, p, i) {
-            return Verdict::Refused(wrong, p);
+            return Err(Wrong { fault, place: p });
         }
-        let e = p + w;
+        let e = p + width;
         if s.len() <= e {
-            return Verdict::Refused(Fault::CutShort, s.len());
+            return Err(cut);
         }
-        if s[e] != due(i, last) {
-            return Verdict::Refused(wrong, e);
+        if s[e] != due(i, rows.last) {
+            return Err(Wrong { fault, place: e });
         }
         p = e + 1;
-        i += 1;
     }
-    Verdict::Fine(p)
+    Ok(p)
 }
 
-// `MD401MD404MD405MD406TRAILER`
-const WORDS: [u8; 27] = [
-    77, 68, 52, 48, 49, 77, 68, 52, 48, 52, 77, 68, 52, 48, 53, 77, 68, 52, 48, 54, 84, 82, 65, 73,
-    76, 69, 82,
-];
-
-// 1 where the w bytes of WORDS from start on stand in s at a place, 2 where the file ends within
-// them, 0 else.
-fn begins(s: &[u8], at: usize, start: usize, w: usize) -> u8
-    requires { (at ≤ length s.now) × (start + w ≤ 27) }
-    ensures { result ≡ begins_at (word_of start w) at s.now }
-{
-    let mut i: usize = 0;
-    while i < w {
-        if s.len() <= at + i {
-            return 2;
-        }
-        if s[at + i] != WORDS[start + i] {
-            return 0;
-        }
-        i += 1;
-    }
-    1
-}
-
-// What stands at a line's start: 1 to 4 for a line's type, 5 for the trailer, 6 for one of these
-// cut short, 0 else.
-fn type_at(s: &[u8], at: usize) -> u8
+// What stands at a line's start.
+fn type_at(s: &[u8], at: usize) -> Start
     requires { at ≤ length s.now }
-    ensures { result ≡ type_at at s.now }
+    ensures { start_number result ≡ type_at at s.now }
 {
-    let a = begins(s, at, 0, 5);
-    if a == 1 {
-        return 1;
+    let rest = &s[at..];
+    if rest.starts_with(b"MD401") {
+        return Start::Line(LineType::Md401);
     }
-    let b = begins(s, at, 5, 5);
-    if b == 1 {
-        return 2;
+    if rest.starts_with(b"MD404") {
+        return Start::Line(LineType::Md404);
     }
-    let c = begins(s, at, 10, 5);
-    if c == 1 {
-        return 3;
+    if rest.starts_with(b"MD405") {
+        return Start::Line(LineType::Md405);
     }
-    let d = begins(s, at, 15, 5);
-    if d == 1 {
-        return 4;
+    if rest.starts_with(b"MD406") {
+        return Start::Line(LineType::Md406);
     }
-    let e = begins(s, at, 20, 7);
-    if e == 1 {
-        return 5;
+    if rest.starts_with(b"TRAILER") {
+        return Start::Trailer;
     }
-    if (a == 2) | (b == 2) | (c == 2) | (d == 2) | (e == 2) {
-        return 6;
+    if b"MD401".starts_with(rest)
+        | b"MD404".starts_with(rest)
+        | b"MD405".starts_with(rest)
+        | b"MD406".starts_with(rest)
+        | b"TRAILER".starts_with(rest)
+    {
+        return Start::Cut;
     }
-    0
+    Start::Other
 }
 
-// What stands at a place as a line's start: 1 to 4 for a line's type, 5 for the trailer, 6 for one
-// of these cut short, 0 otherwise. Past the end nothing stands, as if a word were cut short.
-pub fn line_type(s: &[u8], at: usize) -> u8
-    ensures { result ≡ type_at at s.now }
+// What stands at a place as a line's start. Past the end nothing stands, as if a word were cut
+// short.
+pub fn line_type(s: &[u8], at: usize) -> Start
+    ensures { start_number result ≡ type_at at s.now }
 {
     if s.len() < at {
-        return 6;
+        return Start::Cut;
     }
     type_at(s, at)
 }
 
-// The rows of a layout: from first up to last.
-#[derive(Clone, Copy)]
-pub struct Rows {
-    pub first: usize,
-    pub last: usize,
-}
-
-// The rows of a line's type, 1 to 4.
-pub fn rows_of(t: u8) -> Rows
-    ensures { (columns result.first result.last ≡ layout_of t) × ((result.last ≤ 58) × ((result.first ≡ first_of t) × (result.last ≡ last_of t))) }
-{
-    if t == 1 {
-        return Rows { first: 9, last: 26 };
-    }
-    if t == 2 {
-        return Rows {
-            first: 26,
-            last: 36,
-        };
-    }
-    if t == 3 {
-        return Rows {
-            first: 36,
-            last: 46,
-        };
-    }
-    Rows {
-        first: 46,
-        last: 58,
-    }
-}
-
 // Behind TRAILER: a bar, three digits (0 here), a newline.
-const MARKS: [u8; 5] = [124, 0, 0, 0, 10];
+const MARKS: [u8; 5] = [b'|', 0, 0, 0, b'\n'];
 
 fn mark_ok(m: u8, b: u8) -> bool
     ensures { result ≡ mark_ok m b }
 {
-    if m == 0 {
-        return (48 <= b) & (b <= 57);
-    }
-    b == m
+    if m == 0 { b.is_ascii_digit() } else { b == m }
 }
 
 // The five bytes behind TRAILER, in s from at on.
-fn tail_at(s: &[u8], at: usize) -> Verdict
+fn tail_at(s: &[u8], at: usize) -> Result<usize, Wrong>
     requires { at ≤ length s.now }
     ensures { verdict_paper result ≡ tail_fault marks at s.now }
 {
     let mut p = at;
-    let mut i: usize = 0;
-    while i < 5 {
+    for m in MARKS {
         if s.len() <= p {
-            return Verdict::Refused(Fault::CutShort, s.len());
+            return Err(Wrong {
+                fault: Fault::CutShort,
+                place: s.len(),
+            });
         }
-        if !mark_ok(MARKS[i], s[p]) {
-            return Verdict::Refused(Fault::Trailer, p);
+        if !mark_ok(m, s[p]) {
+            return Err(Wrong {
+                fault: Fault::Trailer,
+                place: p,
+            });
         }
         p += 1;
-        i += 1;
     }
-    Verdict::Fine(p)
+    Ok(p)
 }
 
 // The same, and nothing behind them.
-fn end_at(s: &[u8], at: usize) -> Verdict
+fn end_at(s: &[u8], at: usize) -> Result<usize, Wrong>
     requires { at ≤ length s.now }
     ensures { verdict_paper result ≡ and_then (tail_fault marks at s.now) (left_over s.now) }
 {
-    match tail_at(s, at) {
-        Verdict::Refused(f, p) => Verdict::Refused(f, p),
-        Verdict::Fine(p) => {
-            if p < s.len() {
-                return Verdict::Refused(Fault::CutShort, p);
-            }
-            Verdict::Fine(p)
-        }
+    let p = tail_at(s, at)?;
+    if p < s.len() {
+        return Err(Wrong {
+            fault: Fault::CutShort,
+            place: p,
+        });
     }
-}
-
-fn wide(x: u8) -> u64
-    ensures { result ≡ x }
-{
-    x as u64
+    Ok(p)
 }
 
 // Whether the header counts k lines.
 fn count_ok(s: &[u8], k: usize) -> bool
     ensures { result ≡ count_ok k s.now }
 {
-    match market_columns::number_at(s, 27, 5, 0) {
-        Amount::Nothing => false,
-        Amount::Units(m, v) => (m == 0) & (v == k as u64),
-    }
+    let counted = Amount {
+        minus: false,
+        units: k as u64,
+    };
+    market_columns::number_at(s, 27, market_columns::column(3)) == Some(counted)
 }
 
 // Whether the three digits of the trailer at a place are the sum of all bytes before them.
@@ -244,75 +240,78 @@ fn sum_ok(s: &[u8], at: usize) -> bool
     requires { at + 7 ≤ length s.now }
     ensures { result ≡ sum_ok at s.now }
 {
-    match digits::digits_at(s, at + 8, 3) {
-        None => false,
-        Some(v) => v == wide(octets::sum(s, 0, at + 8)),
-    }
+    digits::digits_at(s, at + 8, 3) == Some(u64::from(octets::sum(s, 0, at + 8)))
 }
 
 // A file of k lines whose trailer, at a place, has nothing wrong: its count, then its sum.
-fn close(s: &[u8], at: usize, k: usize) -> Verdict
+fn close(s: &[u8], at: usize, k: usize) -> Result<usize, Wrong>
     requires { at + 7 ≤ length s.now }
     ensures { verdict_paper result ≡ closing k at s.now }
 {
     if !count_ok(s, k) {
-        return Verdict::Refused(Fault::Count, 0);
+        return Err(Wrong {
+            fault: Fault::Count,
+            place: 0,
+        });
     }
     if !sum_ok(s, at) {
-        return Verdict::Refused(Fault::Sum, 0);
+        return Err(Wrong {
+            fault: Fault::Sum,
+            place: 0,
+        });
     }
-    Verdict::Fine(k)
+    Ok(k)
 }
 
 // The trailer at a place, behind k lines, and all that is judged there.
-fn trailer_at(s: &[u8], at: usize, k: usize) -> Verdict
+fn trailer_at(s: &[u8], at: usize, k: usize) -> Result<usize, Wrong>
     requires { at + 7 ≤ length s.now }
     ensures { verdict_paper result ≡ trailer_fault k at s.now }
 {
-    match end_at(s, at + 7) {
-        Verdict::Refused(f, p) => Verdict::Refused(f, p),
-        Verdict::Fine(_) => close(s, at, k),
-    }
+    end_at(s, at + 7)?;
+    close(s, at, k)
 }
 
-// All lines from a place on, and the trailer.
-fn lines_at(s: &[u8], at: usize) -> Verdict
+// All lines from a place on, and the trailer: how many lines they are.
+fn lines_at(s: &[u8], at: usize) -> Result<usize, Wrong>
     requires { at ≤ length s.now }
     ensures { verdict_paper result ≡ lines_fault (length s.now + 1) 0 at s.now }
 {
     let mut p = at;
     let mut k: usize = 0;
     loop {
-        let t = type_at(s, p);
-        if t == 5 {
-            return trailer_at(s, p, k);
-        }
-        if t == 6 {
-            return Verdict::Refused(Fault::CutShort, s.len());
-        }
-        if t == 0 {
-            return Verdict::Refused(Fault::LineType, p);
-        }
-        let r = rows_of(t);
-        match line_at(s, p, r.first, r.last, Fault::Column) {
-            Verdict::Refused(f, q) => return Verdict::Refused(f, q),
-            Verdict::Fine(q) => {
-                p = q;
+        match type_at(s, p) {
+            Start::Line(line) => {
+                p = line_at(s, p, rows_of(line), Fault::Column)?;
                 k += 1;
+            }
+            Start::Trailer => return trailer_at(s, p, k),
+            Start::Cut => {
+                return Err(Wrong {
+                    fault: Fault::CutShort,
+                    place: s.len(),
+                });
+            }
+            Start::Other => {
+                return Err(Wrong {
+                    fault: Fault::LineType,
+                    place: p,
+                });
             }
         }
     }
 }
 
-// Whether a file is sound: 0 and the number of its lines; or what is wrong, and where.
-pub fn check(file: &[u8]) -> Verdict
+// Whether a file is sound: the number of its lines; or what is wrong, and where.
+pub fn check(file: &[u8]) -> Result<usize, Wrong>
     ensures { verdict_paper result ≡ fault_of file.now }
 {
     if 65536 < file.len() {
-        return Verdict::Refused(Fault::Large, 0);
+        return Err(Wrong {
+            fault: Fault::Large,
+            place: 0,
+        });
     }
-    match line_at(file, 0, 0, 9, Fault::Header) {
-        Verdict::Refused(f, p) => Verdict::Refused(f, p),
-        Verdict::Fine(p) => lines_at(file, p),
-    }
+    let p = line_at(file, 0, HEADER, Fault::Header)?;
+    lines_at(file, p)
 }

@@ -1,22 +1,17 @@
 -- Laws of words, of the trailer and of all lines, by the tests that decide.
-use Rattle.std.specs.Prelude.{ℕ, zero, suc, ◌+◌, ◌-◌, ◌<◌, ◌≤◌, ◌≡◌, refl, Bool, true, false, not, ◌&&◌, ◌||◌, ◌⊎◌, List, [], ◌∷◌, ◌++◌, leb, ltb, eqb, drop}
+use Rattle.std.specs.Prelude.{ℕ, ◌+◌, ◌<◌, ◌≤◌, ◌≡◌, refl, Bool, true, false, ◌&&◌, List, [], ◌∷◌, eqb, drop}
 use Rattle.std.proofs.Math.Path.{sym}
-use Rattle.std.proofs.Common.{ap, ◌∙◌, inl, inr, ⊎_elim, add-one, zero-add, arith, lit<, drop_of_length-le, drop-cons, take-take, length-take-le}
-use Rattle.std.proofs.Math.ListN.{length, get_or, take, length-drop, length-take}
-use Rattle.std.proofs.Math.Seq.{take_all, get_or-take, get_or-drop}
-use borrow.Author.Tests.{le-leb, lt-leb, leb-true, leb-false, lt-ltb, le-ltb, ltb-true, ltb-false, eq-eqb, ne_eqb, eqb-true, eqb-false}
-use Rattle.terms.specs.Paper.{Paper, answer, pick}
-use Rattle.terms.specs.Cases.{two, less, same, clash}
-use Rattle.market_columns.specs.Columns.{Column, wide, alike, column_ok, columns}
-use Rattle.market_columns.specs.ColumnLaws.{alike_self, alike_not, same_more}
+use Rattle.std.proofs.Common.{ap, ◌∙◌, ⊎_elim, arith}
+use Rattle.std.proofs.Math.ListN.{length, get_or, take}
+use Rattle.terms.specs.Paper.{Paper}
+use Rattle.terms.specs.Cases.{two, less, same}
+use Rattle.market_columns.specs.Columns.{Column, wide, alike, column_ok}
 use Rattle.market_columns.specs.Tables.{length_of}
 use Rattle.market_columns.specs.Numbers.{amount, number_at}
-use Rattle.market_columns.specs.Pieces.{column_length, column_byte}
-use Rattle.digits.specs.Digits.{number, nothing, digits_at}
+use Rattle.digits.specs.Digits.{number, digits_at}
 use Rattle.octets.specs.Octets.{sum8}
-use Rattle.market_spec.specs.File.{fault, fine, place_of, and_then, end_of, line_fault, words, word_of, begins_at, type_at, layout_of, marks, mark_ok, tail_fault, count_ok, sum_ok, closing, trailer_fault, lines_fault}
+use Rattle.market_spec.specs.File.{fault, fine, place_of, end_of, line_fault, count_ok, sum_ok, closing}
 use Rattle.market_spec.proofs.Lines.{line_on, line_wrong, line_bar, line_cut, line_ends}
-use Rattle.market_spec.specs.Files.{x}
 
 -- HOW FAR A LINE GOES
 

@@ -1,16 +1,14 @@
 -- A line of values, by the law of each column: induction over the columns, whatever the layout.
-use Rattle.std.specs.Prelude.{ℕ, zero, suc, ◌+◌, ◌-◌, ◌<◌, ◌≤◌, ◌≡◌, refl, Bool, true, false, not, ◌&&◌, ◌⊎◌, List, [], ◌∷◌, ◌++◌, leb, ltb, eqb, length, get_or, take, drop}
-use Rattle.std.proofs.Common.{sym, ap, ◌∙◌, inl, inr, ⊎_elim, append_assoc, add-one, add-zero, add_assoc, arith, length-append, length-drop, take-append-drop, drop-cons, drop-drop, take_at, drop_at, get_or-drop, length-take-le, eq-eqb}
+use Rattle.std.specs.Prelude.{ℕ, ◌+◌, ◌<◌, ◌≤◌, ◌≡◌, refl, true, false, List, [], ◌∷◌, ◌++◌, length, get_or, take, drop}
+use Rattle.std.proofs.Common.{sym, ap, ◌∙◌, ⊎_elim, append_assoc, add-one, add-zero, add_assoc, arith, length-append, length-drop, take-append-drop, drop-cons, drop-drop, get_or-drop}
 use Rattle.std.proofs.lemmas.List.{get_or_at}
-use Rattle.std.proofs.Math.Seq.{drop-append-add}
-use Rattle.terms.specs.Paper.{Paper, answer, pick}
+use Rattle.terms.specs.Paper.{Paper}
 use Rattle.terms.specs.Cases.{two, less, same, clash}
-use Rattle.digits.specs.Laws.{both}
 use Rattle.market_columns.specs.Pieces.{column_length}
 use Rattle.market_columns.specs.Columns.{Column, wide, column_ok}
 use Rattle.market_columns.specs.Tables.{length_of}
 use Rattle.market_spec.specs.File.{fault, fine, place_of, end_of, line_fault}
-use Rattle.market_columns.specs.Values.{Value, value_in, text_of, fits}
+use Rattle.market_columns.specs.Values.{Value, text_of}
 use Rattle.market_columns.proofs.Values.{column_reads, column_writes}
 use Rattle.market_spec.proofs.Lines.{line_on, line_wrong, line_bar, line_cut, line_ends}
 use Rattle.market_spec.specs.LineValues.{Passed, line_fits, line_text, line_values, LineBack, joint, after, front, line_fits_both}

@@ -1,13 +1,10 @@
 -- Laws of a line: by the test that decides it, and how far it goes.
-use Rattle.std.specs.Prelude.{ℕ, zero, suc, ◌+◌, ◌-◌, ◌<◌, ◌≤◌, ◌≡◌, refl, Bool, true, false, not, ◌&&◌, ◌||◌, ◌⊎◌, List, [], ◌∷◌, ◌++◌, leb, ltb, eqb, length, get_or, take, drop}
-use Rattle.std.proofs.Common.{sym, ap, ◌∙◌, inl, inr, ⊎_elim, add-one, arith, length-drop, drop_of_length-le, drop-cons, drop-drop, take-suc, take_all}
-use borrow.Author.Tests.{le-leb, lt-leb, leb-true, leb-false, lt-ltb, le-ltb, ltb-true, ltb-false, eq-eqb, ne_eqb, eqb-true, eqb-false, not-true, not-false}
-use Rattle.terms.specs.Paper.{Paper, answer, pick}
-use Rattle.terms.specs.Cases.{two, less, same, clash}
-use Rattle.market_columns.specs.Columns.{Column, K, rows, row_of, columns, wide, column_ok, ok_at}
+use Rattle.std.specs.Prelude.{ℕ, ◌+◌, ◌<◌, ◌≤◌, ◌≡◌, true, false, List, ◌∷◌, length, get_or, take, drop}
+use Rattle.std.proofs.Common.{sym, ap, ◌∙◌}
+use borrow.Author.Tests.{le-leb, lt-leb, lt-ltb, le-ltb, eq-eqb, ne_eqb}
+use Rattle.market_columns.specs.Columns.{Column, row_of, columns, wide, column_ok, ok_at}
 use Rattle.market_columns.specs.ColumnLaws.{ok_there}
-use Rattle.market_columns.specs.Tables.{length_of}
-use Rattle.market_spec.specs.File.{fault, fine, place_of, end_of, line_fault}
+use Rattle.market_spec.specs.File.{fault, end_of, line_fault}
 use Rattle.market_spec.specs.Lines.{columns_next}
 
 -- BY THE TEST THAT DECIDES

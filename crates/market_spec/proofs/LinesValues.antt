@@ -1,17 +1,13 @@
 -- All lines of a file as values: induction over lines, whatever their types.
-use Rattle.std.specs.Prelude.{ℕ, zero, suc, ◌+◌, ◌-◌, ◌<◌, ◌≤◌, ◌≡◌, refl, Bool, true, false, not, ◌&&◌, ◌⊎◌, List, [], ◌∷◌, ◌++◌, leb, ltb, eqb, length, get_or, take, drop}
-use Rattle.std.proofs.Common.{sym, ap, ◌∙◌, inl, inr, ⊎_elim, append_assoc, add-one, add-zero, add_assoc, arith, length-append, length-drop, take-append-drop, drop-cons, drop-drop, le-leb, leb-true, leb-false, eq-eqb, ne_eqb, eqb-true}
-use Rattle.std.proofs.lemmas.Bool.{lt-leb, eqb-false}
-use Rattle.terms.specs.Paper.{Paper, answer, pick}
-use Rattle.terms.specs.Cases.{two, less, same, clash}
+use Rattle.std.specs.Prelude.{ℕ, zero, suc, ◌+◌, ◌-◌, ◌<◌, ◌≤◌, ◌≡◌, refl, true, ◌&&◌, List, [], ◌∷◌, ◌++◌, leb, length, drop}
+use Rattle.std.proofs.Common.{sym, ap, ◌∙◌, ⊎_elim, append_assoc, add-zero, arith, length-append, leb-true}
+use Rattle.terms.specs.Cases.{same}
 use Rattle.digits.specs.Laws.{both}
-use Rattle.market_columns.specs.Columns.{Column, wide, alike}
 use Rattle.market_columns.specs.Tables.{length_of}
-use Rattle.market_spec.specs.File.{fault, fine, place_of, and_then, line_fault, type_at, layout_of, begins_at, trailer_fault, lines_fault}
-use Rattle.market_spec.specs.Files.{then_fine, layout_some, lines_trailer, lines_cut, lines_type, lines_line}
-use Rattle.market_columns.specs.Values.{Value, text_of}
+use Rattle.market_spec.specs.File.{fine, and_then, line_fault, type_at, layout_of, lines_fault}
+use Rattle.market_spec.specs.Files.{then_fine, lines_trailer, lines_cut, lines_type, lines_line}
 use Rattle.market_spec.specs.LineValues.{line_values, line_text, line_fits, line_values_lem, line_text_long}
-use Rattle.market_spec.specs.Told.{Told, not_fine, then_both}
+use Rattle.market_spec.specs.Told.{not_fine, then_both}
 use Rattle.market_spec.specs.Types.{type_most}
 use Rattle.market_spec.proofs.Files.{line_long}
 use Rattle.market_spec.proofs.LineValues.{line_reads, line_writes}

@@ -1,27 +1,24 @@
 -- CR 10: "A sound file can be written again from its values with the same bytes." A file is sound
 -- exactly if it is made of values that fit,
 -- and those are the values that are read from it.
-use Rattle.std.specs.Prelude.{ℕ, zero, suc, ◌+◌, ◌-◌, ◌<◌, ◌≤◌, ◌≡◌, refl, Bool, true, false, not, ◌&&◌, ◌||◌, ◌⊎◌, List, [], ◌∷◌, ◌++◌, leb, ltb, eqb, length, get_or, take, drop}
-use Rattle.std.proofs.Common.{sym, ap, ◌∙◌, inl, inr, ⊎_elim, append_assoc, add-zero, zero-add, add_assoc, not-suc-le-zero, le_of_suc-le-suc, arith, lit≤, length-append, length-drop, take-append-drop, drop-drop, take_at, le-leb, leb-true, eq-eqb, ne_eqb}
-use Rattle.terms.specs.Paper.{Paper, answer, pick}
-use Rattle.terms.specs.Cases.{two, less, same, clash}
+use Rattle.std.specs.Prelude.{ℕ, zero, suc, ◌+◌, ◌<◌, ◌≤◌, ◌≡◌, refl, true, ◌&&◌, List, [], ◌∷◌, ◌++◌, leb, length, get_or, take, drop}
+use Rattle.std.proofs.Common.{sym, ap, ◌∙◌, inl, inr, ⊎_elim, zero-add, not-suc-le-zero, le_of_suc-le-suc, arith, lit≤, length-append, length-drop, drop-drop, take_at, le-leb, leb-true}
+use Rattle.terms.specs.Paper.{Paper}
+use Rattle.terms.specs.Cases.{less, clash}
 use Rattle.octets.specs.Octets.{sum8}
-use Rattle.digits.specs.Digits.{nothing}
 use Rattle.digits.specs.Laws.{both}
-use Rattle.market_columns.specs.Numbers.{amount, number_in, number_at}
+use Rattle.market_columns.specs.Numbers.{number_in, number_at}
 use Rattle.market_columns.specs.NumberLaws.{SaysOrNot}
 use Rattle.market_columns.proofs.NumberLaws.{number_either}
 use Rattle.market_columns.specs.NumberSteps.{at_there}
 use Rattle.market_columns.specs.Columns.{Column, K, N, header, alike}
 use Rattle.market_columns.specs.ColumnLaws.{alike_is, alike_self}
-use Rattle.market_columns.specs.Tables.{length_of}
-use Rattle.market_spec.specs.File.{fault, fine, line_fault, lines_fault, layout_of, trailer, type_at, begins_at, count_ok, trailer_fault, fault_of}
-use Rattle.market_spec.specs.Files.{layout_some}
+use Rattle.market_spec.specs.File.{fine, line_fault, type_at, begins_at, count_ok, fault_of}
 use Rattle.market_spec.specs.Types.{file_large, file_header, file_lines}
 use Rattle.market_columns.specs.Values.{Value, Fixed, Number, Text, number_of, value_in, fits}
 use Rattle.market_spec.specs.LineValues.{line_values, line_text, line_fits, line_fits_both, line_values_lem, line_text_long}
 use Rattle.market_spec.specs.Told.{Told, at_place, refused, not_fine}
-use Rattle.market_spec.specs.LinesValues.{Line, is_line, text_of_line, lines_text, lines_fit, lines_values, LinesBack, LinesMade}
+use Rattle.market_spec.specs.LinesValues.{Line, lines_text, lines_fit, lines_values}
 use Rattle.market_spec.specs.TrailerText.{sum_text, trailer_text}
 use Rattle.market_spec.proofs.Files.{line_long}
 use Rattle.market_spec.proofs.LineValues.{line_reads, line_writes}

@@ -1,19 +1,9 @@
 -- Answers taken apart: each is 0 with a place, or a refusal with one; and what a sound part is.
-use Rattle.std.specs.Prelude.{ℕ, zero, suc, ◌+◌, ◌-◌, ◌<◌, ◌≤◌, ◌≡◌, refl, Bool, true, false, not, ◌&&◌, ◌||◌, ◌⊎◌, List, [], ◌∷◌, ◌++◌, leb, ltb, eqb, length, get_or, take, drop}
-use Rattle.std.proofs.Common.{sym, ap, ◌∙◌, inl, inr, ⊎_elim, append_assoc, add-one, add-zero, add_assoc, arith, length-append, length-drop, take-append-drop, drop_of_length-le, drop-cons, drop-drop, take_at, drop_at, take_all, le-leb, lt-ltb, le-ltb, eq-eqb, ne_eqb, eqb-true}
-use Rattle.std.proofs.lemmas.Bool.{lt-leb, eqb-false}
-use Rattle.terms.specs.Paper.{Paper, answer, pick}
-use Rattle.terms.specs.Cases.{two, less, same, clash}
-use Rattle.octets.specs.Octets.{sum8}
-use Rattle.digits.specs.Digits.{is_digit, number, nothing, digits_at, decimal_of}
-use Rattle.digits.specs.Texts.{digits_written}
-use Rattle.market_columns.specs.Numbers.{amount, number_at}
-use Rattle.market_columns.specs.Pieces.{digits_either}
-use Rattle.market_columns.specs.Columns.{Column, wide, column_ok, alike}
-use Rattle.market_columns.specs.ColumnLaws.{alike_is, alike_self}
-use Rattle.market_spec.specs.File.{fault, fine, place_of, and_then, end_of, line_fault, word_of, trailer, begins_at, type_at, marks, mark_ok, tail_fault, left_over, count_ok, sum_ok, closing, trailer_fault}
-use Rattle.market_spec.specs.Files.{then_fine, then_fault, tail_cut, tail_wrong, tail_on}
-use Rattle.market_spec.specs.Types.{type_1, type_2, type_3, type_4, type_5, type_other, left_none}
+use Rattle.std.specs.Prelude.{ℕ, ◌+◌, ◌<◌, ◌≤◌, ◌≡◌, refl, true, false, List, [], ◌∷◌, length, get_or, take, drop}
+use Rattle.std.proofs.Common.{⊎_elim, arith}
+use Rattle.terms.specs.Cases.{two, less, same}
+use Rattle.market_columns.specs.Columns.{Column, wide, column_ok}
+use Rattle.market_spec.specs.File.{end_of, line_fault}
 use Rattle.market_spec.proofs.Lines.{line_on, line_wrong, line_bar, line_cut, line_ends}
 use Rattle.market_spec.specs.Told.{Told, at_place, told_as, refused}
 

@@ -1,13 +1,9 @@
 -- What stands at a line's start, by the tests that decide; and the bytes behind the trailer.
-use Rattle.std.specs.Prelude.{ℕ, ◌+◌, ◌-◌, ◌<◌, ◌≤◌, ◌≡◌, refl, Bool, true, false, ◌||◌, List, [], ◌∷◌, leb, ltb, eqb, take, drop}
-use Rattle.std.proofs.Common.{sym, ap, ◌∙◌, arith, lit≤, drop_of_length-le}
-use Rattle.std.proofs.Math.Logic.{⊎_elim}
-use Rattle.std.proofs.Math.ListN.{length, length-drop, length-take}
-use borrow.Author.Tests.{le-leb, lt-leb, lt-ltb, le-ltb, eq-eqb, ne_eqb, eqb-true, eqb-false}
-use Rattle.terms.specs.Paper.{Paper, pick}
-use Rattle.terms.specs.Cases.{two, less, same}
-use Rattle.market_columns.specs.Columns.{alike, header}
-use Rattle.market_spec.specs.File.{fault, fine, and_then, word_of, begins_at, is_of, type_at, layout_of, tail_fault, marks, left_over, closing, trailer_fault, line_fault, lines_fault, fault_of}
+use Rattle.std.specs.Prelude.{ℕ, ◌+◌, ◌-◌, ◌<◌, ◌≤◌, ◌≡◌, List}
+use Rattle.std.proofs.Common.{sym, ◌∙◌, arith}
+use Rattle.std.proofs.Math.ListN.{length}
+use borrow.Author.Tests.{lt-ltb}
+use Rattle.market_spec.specs.File.{fault, fine, type_at, layout_of, left_over, trailer_fault, line_fault, lines_fault}
 use Rattle.market_spec.specs.Files.{then_fine, then_fault, layout_some, lines_trailer, lines_cut, lines_type, lines_line}
 use Rattle.market_spec.proofs.Files.{line_long}
 use Rattle.market_spec.specs.Types.{Left}

@@ -2,16 +2,14 @@
 -- answers.
 -- `At`: the columns before a place stand right. `Walked`: so do the header and k lines before a
 -- place, where the next line begins.
-use Rattle.std.specs.Prelude.{ℕ, zero, suc, ◌+◌, ◌-◌, ◌<◌, ◌≤◌, ◌≡◌, refl, Bool, true, false, not, ◌&&◌, ◌⊎◌, ◌↔◌, List, [], ◌∷◌, ◌++◌, leb, ltb, eqb, length, get_or, take, drop}
-use Rattle.std.proofs.Common.{sym, ap, ◌∙◌, inl, inr, ⊎_elim, arith, leb-true}
-use Rattle.terms.specs.Paper.{Paper, answer, pick}
-use Rattle.terms.specs.Cases.{two, less, same, clash}
-use Rattle.digits.specs.Laws.{both}
+use Rattle.std.specs.Prelude.{ℕ, zero, suc, ◌+◌, ◌-◌, ◌<◌, ◌≤◌, ◌≡◌, refl, true, false, ◌↔◌, List, [], ◌∷◌, length, get_or, take, drop}
+use Rattle.std.proofs.Common.{◌∙◌, ⊎_elim, arith}
+use Rattle.terms.specs.Paper.{Paper}
+use Rattle.terms.specs.Cases.{two, less, same}
 use Rattle.market_columns.specs.Columns.{Column, header, wide, column_ok}
-use Rattle.market_spec.specs.File.{fault, fine, place_of, and_then, end_of, line_fault, type_at, layout_of, marks, mark_ok, tail_fault, left_over, count_ok, sum_ok, closing, trailer_fault, lines_fault, fault_of}
+use Rattle.market_spec.specs.File.{fault, fine, and_then, end_of, line_fault, type_at, layout_of, marks, tail_fault, left_over, count_ok, sum_ok, closing, trailer_fault, lines_fault, fault_of}
 use Rattle.market_spec.specs.Files.{then_fine, then_fault, layout_some, tail_cut, tail_wrong, tail_on, lines_trailer, lines_cut, lines_type, lines_line, close_sum, close_fine}
 use Rattle.market_spec.specs.Types.{left_none, trailer_wrong, trailer_fine, file_large, file_header, file_lines, type_most}
-use Rattle.market_spec.specs.Told.{Told, at_place, refused, not_fine}
 use Rattle.market_spec.specs.LinesValues.{is_line, is_line_holds}
 use Rattle.market_spec.proofs.Files.{close_count, line_long}
 use Rattle.market_spec.proofs.Lines.{line_on, line_wrong, line_bar, line_cut, line_ends}

@@ -1,22 +1,19 @@
 -- Values as bytes, both ways: fitting values are read back from their bytes; and values that pass
 -- fit, and give their bytes again.
-use Rattle.std.specs.Prelude.{ℕ, zero, suc, ◌+◌, ◌-◌, ◌<◌, ◌≤◌, ◌^◌, ◌≡◌, refl, Bool, true, false, not, ◌&&◌, ◌⊎◌, List, [], ◌∷◌, ◌++◌, leb, ltb, eqb, length, get_or, take, drop}
-use Rattle.std.proofs.Common.{sym, ap, ◌∙◌, inl, inr, ⊎_elim, append_assoc, append-nil, add-zero, zero-add, add_assoc, arith, lit<, lit≤, length-append, length-drop, take-append-drop, drop_of_length-le, drop-drop, take_at, drop_at}
-use borrow.Author.Tests.{le-leb, lt-leb, leb-true, lt-ltb, le-ltb, eq-eqb, ne_eqb, eqb-true}
-use Rattle.terms.specs.Paper.{Paper, answer, pick}
-use Rattle.terms.specs.Cases.{two, less, same, clash}
+use Rattle.std.specs.Prelude.{ℕ, zero, suc, ◌+◌, ◌-◌, ◌<◌, ◌≤◌, ◌^◌, ◌≡◌, refl, true, false, ◌&&◌, List, [], ◌∷◌, ◌++◌, leb, eqb, length, take, drop}
+use Rattle.std.proofs.Common.{sym, ap, ◌∙◌, ⊎_elim, append_assoc, add-zero, arith, lit<, length-append, length-drop, take-append-drop, drop_of_length-le, drop-drop, drop_at}
+use borrow.Author.Tests.{le-leb, lt-leb, leb-true, lt-ltb, le-ltb, ne_eqb}
+use Rattle.terms.specs.Cases.{two, less, same}
 use Rattle.octets.specs.Octets.{be, bytes_of, Bytes}
 use Rattle.octets.specs.Numerals.{length_digits, numeral_drop, be_front, bytes_of_be}
 use Rattle.digits.specs.Laws.{both}
-use Rattle.market_columns.specs.Columns.{Column, N, C}
-use Rattle.market_columns.specs.Values.{Value, Fixed, Number, Text, fits}
-use Rattle.market_spec.specs.File.{fault, fine, and_then, layout_of, fault_of}
+use Rattle.market_spec.specs.File.{fault, fine, and_then, layout_of}
 use Rattle.market_spec.specs.Files.{then_fine, then_fault}
-use Rattle.market_spec.specs.Told.{Told, at_place, refused, not_fine, Then, then_both}
+use Rattle.market_spec.specs.Told.{Told, at_place, refused, not_fine, then_both}
 use Rattle.market_spec.specs.LineValues.{line_fits}
 use Rattle.market_spec.specs.LinesValues.{Line, is_line, lines_fit}
 use Rattle.market_spec.specs.ValueBytes.{row_bytes, taken_line, taken_fault}
-use Rattle.market_spec.specs.TakenBack.{sizes_of, row_told, RowFits, row_fits_lem, row_long, RowMade, row_made, row_bytes_lem}
+use Rattle.market_spec.specs.TakenBack.{sizes_of, row_told, RowFits, row_fits_lem, row_made, row_bytes_lem}
 use Rattle.market_spec.specs.FileBytes.{type_number, type_of, line_bytes, lines_bytes, lines_taken, lines_given}
 
 -- TYPES

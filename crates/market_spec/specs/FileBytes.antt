@@ -2,10 +2,10 @@
 -- writing a file from them answers.
 -- First MDTime, MDUpdateType and MktStatus; then for each line its type, 401 to 406 in two bytes,
 -- and the values of its columns.
-use Rattle.std.specs.Prelude.{ℕ, zero, suc, ◌+◌, ◌≡◌, refl, Bool, List, [], ◌∷◌, ◌++◌, leb, ltb, eqb, length, get_or, drop}
+use Rattle.std.specs.Prelude.{ℕ, zero, suc, ◌+◌, ◌≡◌, refl, List, [], ◌∷◌, ◌++◌, leb, ltb, eqb, length, get_or, drop}
 use Rattle.terms.specs.Paper.{Paper, pick}
 use Rattle.octets.specs.Octets.{be, bytes_of, laid}
-use Rattle.market_columns.specs.Columns.{Column, N, C, columns, header, md401, md404, md405, md406}
+use Rattle.market_columns.specs.Columns.{Column, N, C, columns, md401, md404, md405, md406}
 use Rattle.market_columns.specs.Values.{Value, Fixed, Number, Text}
 use Rattle.market_spec.specs.File.{fault, fine, and_then, layout_of, fault_of}
 use Rattle.market_spec.specs.LinesValues.{Line}

@@ -1,12 +1,10 @@
 -- CR 10: each of 40 to 47 given exactly when. 44 and 46 only where nothing else is wrong, 44 before
 -- 46; 47 by length alone.
-use Rattle.std.specs.Prelude.{ℕ, ◌+◌, ◌<◌, ◌≤◌, ◌≡◌, refl, true, false, ◌↔◌, List, [], ◌∷◌, length, get_or}
-use Rattle.std.proofs.Common.{sym, ap, ◌∙◌, arith}
-use Rattle.terms.specs.Paper.{Paper}
+use Rattle.std.specs.Prelude.{ℕ, ◌+◌, ◌<◌, ◌≤◌, ◌≡◌, true, false, List, [], ◌∷◌, length, get_or}
 use Rattle.market_columns.specs.Columns.{header}
-use Rattle.market_spec.specs.File.{fault, fine, place_of, type_at, layout_of, mark_ok, count_ok, sum_ok, fault_of}
+use Rattle.market_spec.specs.File.{type_at, layout_of, mark_ok, count_ok, sum_ok}
 use Rattle.market_spec.specs.LinesValues.{is_line}
-use Rattle.market_spec.specs.Walk.{At, Wrong, Cut, MarksAt, Walked, Whole, Finding, large, header_wrong, header_cut, type_wrong, type_cut, column_wrong, line_cut_short, mark_wrong, trailer_cut, left_over_lem, count_wrong, sum_wrong, sound}
+use Rattle.market_spec.specs.Walk.{Wrong, Cut, MarksAt, Walked, Whole}
 
 -- 40, at the end of the file where more is due, or at the first byte behind the trailer
 pub data Given40 (s : List ℕ) : ℕ → Type 0 where

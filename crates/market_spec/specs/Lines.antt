@@ -1,13 +1,8 @@
 -- Laws of a line: by the test that decides it, and how far it goes.
-use Rattle.std.specs.Prelude.{ℕ, zero, suc, ◌+◌, ◌-◌, ◌<◌, ◌≤◌, ◌≡◌, refl, Bool, true, false, not, ◌&&◌, ◌||◌, ◌⊎◌, List, [], ◌∷◌, ◌++◌, leb, ltb, eqb, length, get_or, take, drop}
-use Rattle.std.proofs.Common.{sym, ap, ◌∙◌, inl, inr, ⊎_elim, add-one, arith, length-drop, drop_of_length-le, drop-cons, drop-drop, take-suc, take_all}
-use borrow.Author.Tests.{le-leb, lt-leb, leb-true, leb-false, lt-ltb, le-ltb, ltb-true, ltb-false, eq-eqb, ne_eqb, eqb-true, eqb-false, not-true, not-false}
-use Rattle.terms.specs.Paper.{Paper, answer, pick}
-use Rattle.terms.specs.Cases.{two, less, same, clash}
-use Rattle.market_columns.specs.Columns.{Column, K, rows, row_of, columns, wide, column_ok, ok_at}
-use Rattle.market_columns.specs.ColumnLaws.{ok_there}
-use Rattle.market_columns.specs.Tables.{length_of}
-use Rattle.market_spec.specs.File.{fault, fine, place_of, end_of, line_fault}
+use Rattle.std.specs.Prelude.{ℕ, suc, ◌+◌, ◌-◌, ◌<◌, ◌≤◌, ◌≡◌, List, [], ◌∷◌}
+use Rattle.std.proofs.Common.{add-one, arith, drop_of_length-le, drop-cons, take_all}
+use Rattle.market_columns.specs.Columns.{K, rows, row_of, columns}
+use Rattle.market_spec.specs.File.{fine, end_of, line_fault}
 
 -- ROWS
 

@@ -1,17 +1,11 @@
 -- CR 10, "the lowest place first": no column, bar or newline that ends before the place told is at
 -- fault.
 -- Where columns stand is counted here, by the widths of 003 and the lines' types alone.
-use Rattle.std.specs.Prelude.{ℕ, zero, suc, ◌+◌, ◌-◌, ◌<◌, ◌≤◌, ◌≡◌, refl, Bool, true, false, ◌⊎◌, List, [], ◌∷◌, length, get_or, take, drop}
-use Rattle.std.proofs.Common.{sym, ap, ◌∙◌, inl, inr, ⊎_elim, arith, add-zero}
-use Rattle.terms.specs.Paper.{Paper}
-use Rattle.terms.specs.Cases.{two, less, same}
-use Rattle.market_columns.specs.Columns.{Column, header, wide, column_ok}
+use Rattle.std.specs.Prelude.{ℕ, ◌+◌, ◌<◌, ◌≡◌, true, List, ◌∷◌, length, get_or, take, drop}
+use Rattle.market_columns.specs.Columns.{Column, wide, column_ok}
 use Rattle.market_columns.specs.Tables.{length_of}
-use Rattle.market_spec.specs.File.{fault, fine, place_of, end_of, line_fault, lines_fault, type_at, layout_of, fault_of}
-use Rattle.market_spec.specs.Files.{then_fault}
-use Rattle.market_spec.specs.Types.{file_large, file_header}
+use Rattle.market_spec.specs.File.{end_of, type_at, layout_of}
 use Rattle.market_spec.specs.LinesValues.{is_line}
-use Rattle.market_spec.specs.Walk.{At, start, next, Walked, head, line, From, line_from}
 
 -- WHERE COLUMNS STAND
 

@@ -1,27 +1,14 @@
 -- CR 10, "Columns are counted, never split at bars": two files that differ in the bytes of names
 -- alone have the same answer, whatever bars
 -- and newlines the names hold, unless one of the two is 46.
-use Rattle.std.specs.Prelude.{ℕ, zero, suc, ◌+◌, ◌-◌, ◌<◌, ◌≤◌, ◌≡◌, refl, Bool, true, false, not, ◌&&◌, ◌||◌, ◌⊎◌, leb, ltb, eqb, length}
-use Rattle.std.proofs.Math.Path.{sym, ap}
-use Rattle.std.proofs.Common.{ap₂, ◌∙◌, inl, inr, ⊎_elim, add-zero, add_assoc, lit≤, length-drop, take-take, get_or-take, eqb-true, ne_eqb}
-use mathlib.Core.List.{List, [], ◌∷◌, ◌++◌}
-use native.Mathlib.Omega.{arith}
+use Rattle.std.specs.Prelude.{ℕ, ◌+◌, ◌≡◌, true, ◌⊎◌, length}
+use mathlib.Core.List.{List, [], ◌∷◌}
 use Rattle.std.proofs.Math.ListN.{get_or, take, drop}
-use Rattle.std.proofs.Math.Seq.{drop-drop, get_or-drop}
-use Rattle.terms.specs.Paper.{Paper, answer, pick}
-use Rattle.terms.specs.Cases.{two, less, same, clash}
-use Rattle.octets.specs.Octets.{sum8}
-use Rattle.digits.specs.Digits.{digits_at}
-use Rattle.market_columns.specs.Numbers.{number_at, number_in}
-use Rattle.market_columns.specs.Pieces.{digits_same, take_drop}
-use Rattle.market_columns.specs.Columns.{Column, K, S, N, C, U, header, md401, md404, md405, md406, wide, alike, column_ok}
+use Rattle.terms.specs.Paper.{Paper}
+use Rattle.market_columns.specs.Columns.{Column, wide, column_ok}
 use Rattle.market_columns.specs.Tables.{length_of}
-use Rattle.market_spec.specs.File.{fault, fine, place_of, and_then, end_of, line_fault, word_of, begins_at, type_at, layout_of, marks, mark_ok, tail_fault, left_over, count_ok, sum_ok, closing, trailer_fault, lines_fault, fault_of}
-use Rattle.market_spec.specs.LinesValues.{is_line, is_line_holds, type_drop}
-use Rattle.market_spec.specs.Files.{then_fine, then_fault, lines_trailer, lines_cut, lines_type, lines_line, close_sum, close_fine}
-use Rattle.market_spec.specs.Types.{file_large, file_header, file_lines, type_most}
-use Rattle.market_spec.specs.Told.{Told, at_place, refused}
-use Rattle.market_spec.specs.Walk.{line_not}
+use Rattle.market_spec.specs.File.{type_at, layout_of}
+use Rattle.market_spec.specs.LinesValues.{is_line}
 
 -- from a line's start on: the same bytes, or a line whose type, code and all behind the name are
 -- the same, and so on

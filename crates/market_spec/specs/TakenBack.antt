@@ -1,16 +1,14 @@
 -- Value bytes are read back: for a column, and for the columns of a line. And what the values of a
 -- line are that pass.
-use Rattle.std.specs.Prelude.{ℕ, zero, suc, ◌+◌, ◌-◌, ◌<◌, ◌≤◌, ◌^◌, ◌≡◌, refl, Bool, true, false, not, ◌&&◌, ◌⊎◌, List, [], ◌∷◌, ◌++◌, leb, ltb, eqb, length, get_or, take, drop}
-use Rattle.std.proofs.Common.{sym, ap, ◌∙◌, inl, inr, ⊎_elim, append_assoc, add-zero, add_assoc, arith, length-append, length-drop, take-append-drop, drop-drop, take_at, drop_at, lt-ltb, le-ltb, eqb-true}
-use Rattle.terms.specs.Paper.{Paper, answer, pick}
+use Rattle.std.specs.Prelude.{ℕ, suc, ◌+◌, ◌<◌, ◌≤◌, ◌^◌, ◌≡◌, refl, true, false, List, [], ◌∷◌, ◌++◌, eqb, length, get_or, take, drop}
+use Rattle.std.proofs.Common.{sym, ap, ◌∙◌, ⊎_elim, append_assoc, add-zero, add_assoc, arith, length-append, length-drop, take-append-drop, drop-drop, take_at, drop_at, lt-ltb, le-ltb, eqb-true}
 use Rattle.terms.specs.Cases.{two, less, clash}
 use Rattle.octets.specs.Octets.{be, bytes_of, Bytes}
 use Rattle.octets.specs.Numerals.{length_digits, numeral_drop, be_front, bytes_of_be, below_drop}
 use Rattle.digits.specs.Laws.{both}
-use Rattle.market_columns.specs.Numbers.{spaces}
 use Rattle.market_columns.specs.NumberLaws.{fits_number}
 use Rattle.market_columns.proofs.NumberLaws.{units_below}
-use Rattle.market_columns.specs.Columns.{Column, K, S, N, C, U, blank}
+use Rattle.market_columns.specs.Columns.{Column, K, S, N, C, U}
 use Rattle.market_columns.specs.Values.{Value, Fixed, Number, Text, fits}
 use Rattle.market_spec.specs.File.{fault, fine, place_of}
 use Rattle.market_spec.specs.LineValues.{line_fits, line_fits_both}

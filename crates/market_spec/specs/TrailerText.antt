@@ -1,22 +1,10 @@
 -- The trailer both ways: where it is sound its bytes are TRAILER, a bar, the sum in three digits
 -- and a newline; and those are sound.
-use Rattle.std.specs.Prelude.{ℕ, zero, suc, ◌+◌, ◌-◌, ◌<◌, ◌≤◌, ◌^◌, ◌≡◌, refl, Bool, true, false, not, ◌&&◌, ◌||◌, ◌⊎◌, List, [], ◌∷◌, ◌++◌, leb, ltb, eqb, length, get_or, take, drop}
-use Rattle.std.proofs.Common.{sym, ap, ◌∙◌, inl, inr, ⊎_elim, append_assoc, add-one, add-zero, add_assoc, arith, lit<, lit≤, length-append, length-drop, take-append-drop, drop_of_length-le, drop-cons, drop-drop, take_at, drop_at, take_all, get_or-drop, le-leb, eq-eqb, ne_eqb, eqb-true}
-use Rattle.std.proofs.lemmas.Bool.{lt-leb, eqb-false}
-use Rattle.terms.specs.Paper.{Paper, answer, pick}
-use Rattle.terms.specs.Cases.{two, less, same, clash}
-use Rattle.octets.specs.Octets.{sum8}
-use Rattle.octets.specs.Sums.{sum8_below}
-use Rattle.digits.specs.Digits.{is_digit, all_digits, number, nothing, digits_at, decimal_of}
-use Rattle.digits.specs.Laws.{both, length_decimal, all_decimal, said_decimal}
-use Rattle.digits.specs.Texts.{digits_written, given_number}
-use Rattle.market_columns.specs.Pieces.{digits_either, Either}
-use Rattle.market_columns.specs.Columns.{alike}
-use Rattle.market_columns.specs.ColumnLaws.{alike_is, alike_self}
-use Rattle.market_spec.specs.File.{fault, fine, place_of, and_then, word_of, trailer, begins_at, type_at, marks, mark_ok, tail_fault, left_over, count_ok, sum_ok, closing, trailer_fault}
-use Rattle.market_spec.specs.Files.{then_fine, tail_on, close_sum, close_fine}
-use Rattle.market_spec.specs.Types.{trailer_word, left_none, trailer_fine}
-use Rattle.market_spec.specs.Told.{Told, at_place, refused, not_fine, then_both, tail_told, Marked, tail_passed}
+use Rattle.std.specs.Prelude.{ℕ, ◌+◌, ◌≤◌, ◌≡◌, Bool, true, false, ◌&&◌, List, [], ◌∷◌, ◌++◌, length}
+use Rattle.std.proofs.Common.{length-append}
+use Rattle.digits.specs.Digits.{decimal_of}
+use Rattle.digits.specs.Laws.{length_decimal}
+use Rattle.market_spec.specs.File.{fine, trailer, marks, mark_ok, tail_fault, count_ok, sum_ok}
 
 -- a trailer that says the sum v
 abbrev pub sum_text : ℕ → List ℕ

@@ -1,24 +1,21 @@
 -- Values as bytes: a number has nine, its sign and its units high byte first; text and name have
 -- their own; constants and blanks none.
-use Rattle.std.specs.Prelude.{ℕ, zero, suc, ◌+◌, ◌-◌, ◌<◌, ◌≤◌, ◌^◌, ◌≡◌, Bool, true, false, not, ◌&&◌, ◌||◌, ◌⊎◌, List, [], ◌∷◌, ◌++◌, leb, ltb, eqb, length, get_or, take, drop, set}
+use Rattle.std.specs.Prelude.{ℕ, ◌+◌, ◌<◌, ◌≤◌, ◌≡◌, true, false, not, List, [], ◌∷◌, ◌++◌, ltb, length, get_or, take, drop, set}
 use Rattle.std.proofs.Math.Path.{refl}
-use Rattle.std.proofs.Common.{sym, ap, ◌∙◌, inl, inr, ⊎_elim, append_assoc, add-one, add-zero, add_assoc, arith, length-append, length-drop, drop-drop, take_at, drop_at, get_or-drop}
-use borrow.Author.Tests.{le-leb, lt-leb, lt-ltb, le-ltb, leb-true, eq-eqb, ne_eqb, eqb-true}
-use Rattle.terms.specs.Paper.{Paper, answer, pick}
-use Rattle.terms.specs.Cases.{two, less, same, clash}
+use Rattle.std.proofs.Common.{sym, ap, ◌∙◌, ⊎_elim, arith, drop-drop}
+use borrow.Author.Tests.{lt-ltb, le-ltb, eq-eqb}
+use Rattle.terms.specs.Paper.{Paper, pick}
+use Rattle.terms.specs.Cases.{two, less}
 use Rattle.octets.specs.Octets.{be, bytes_of, laid}
-use Rattle.octets.specs.Numerals.{length_digits, numeral_drop}
 use Rattle.octets.specs.Overlays.{laid_append, length_laid, laid_one}
-use Rattle.digits.specs.Laws.{both}
 use Rattle.market_columns.specs.Numbers.{column_text, number_fits}
-use Rattle.market_columns.specs.Pieces.{column_length}
 use Rattle.market_columns.specs.Columns.{Column, K, S, N, C, U, row_of, columns, wide, kind_of, decimals_of, column_ok, fixed_text}
 use Rattle.market_columns.specs.Tables.{length_of}
 use Rattle.market_spec.specs.File.{fault, fine, end_of}
 use Rattle.market_spec.specs.Lines.{columns_next, columns_none}
 use Rattle.market_columns.specs.Values.{Value, Fixed, Number, Text, text_of, fits}
 use Rattle.market_columns.proofs.Values.{column_writes}
-use Rattle.market_spec.specs.LineValues.{line_text, line_fits}
+use Rattle.market_spec.specs.LineValues.{line_text}
 
 abbrev pub value_bytes : Value → List ℕ
 value_bytes Fixed = []

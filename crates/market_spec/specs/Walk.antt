@@ -2,17 +2,16 @@
 -- answers.
 -- `At`: the columns before a place stand right. `Walked`: so do the header and k lines before a
 -- place, where the next line begins.
-use Rattle.std.specs.Prelude.{ℕ, zero, suc, ◌+◌, ◌-◌, ◌<◌, ◌≤◌, ◌≡◌, refl, Bool, true, false, not, ◌&&◌, ◌⊎◌, ◌↔◌, List, [], ◌∷◌, ◌++◌, leb, ltb, eqb, length, get_or, take, drop}
-use Rattle.std.proofs.Common.{sym, ap, ◌∙◌, inl, inr, ⊎_elim, arith, leb-true}
-use Rattle.terms.specs.Paper.{Paper, answer, pick}
-use Rattle.terms.specs.Cases.{two, less, same, clash}
+use Rattle.std.specs.Prelude.{ℕ, ◌+◌, ◌-◌, ◌<◌, ◌≤◌, ◌≡◌, refl, true, false, List, [], ◌∷◌, leb, length, get_or, take, drop}
+use Rattle.std.proofs.Common.{◌∙◌, ⊎_elim, arith, leb-true}
+use Rattle.terms.specs.Paper.{Paper}
+use Rattle.terms.specs.Cases.{two, less}
 use Rattle.digits.specs.Laws.{both}
 use Rattle.market_columns.specs.Columns.{Column, header, wide, column_ok}
-use Rattle.market_spec.specs.File.{fault, fine, place_of, and_then, end_of, line_fault, type_at, layout_of, marks, mark_ok, tail_fault, left_over, count_ok, sum_ok, closing, trailer_fault, lines_fault, fault_of}
-use Rattle.market_spec.specs.Files.{then_fine, then_fault, layout_some, tail_cut, tail_wrong, tail_on, lines_trailer, lines_cut, lines_type, lines_line, close_sum, close_fine}
-use Rattle.market_spec.specs.Types.{left_none, trailer_wrong, trailer_fine, file_large, file_header, file_lines, type_most}
-use Rattle.market_spec.specs.Told.{Told, at_place, refused, not_fine}
-use Rattle.market_spec.specs.LinesValues.{is_line, is_line_holds}
+use Rattle.market_spec.specs.File.{fault, fine, and_then, end_of, line_fault, type_at, layout_of, marks, mark_ok, tail_fault, count_ok, sum_ok, lines_fault, fault_of}
+use Rattle.market_spec.specs.Files.{tail_cut, tail_wrong, tail_on, lines_line}
+use Rattle.market_spec.specs.Told.{Told, at_place, refused}
+use Rattle.market_spec.specs.LinesValues.{is_line}
 
 -- A ROW OF COLUMNS from the place p0 on: those before p stand right, each with the byte behind it;
 -- cs are left

@@ -1,31 +1,30 @@
 -- CR 10, both round trips over bytes: what is written from the values of a sound file is that file;
 -- and the values of a file that was
 -- written are those that it was written from.
-use Rattle.std.specs.Prelude.{ℕ, zero, suc, ◌+◌, ◌-◌, ◌<◌, ◌≤◌, ◌^◌, ◌/◌, ◌≡◌, refl, Bool, true, false, not, ◌&&◌, ◌⊎◌, List, [], ◌∷◌, ◌++◌, leb, ltb, eqb, length, get_or, take, drop}
-use Rattle.std.proofs.Common.{sym, ap, ◌∙◌, inl, inr, ⊎_elim, append_assoc, add-zero, zero-add, div-one, arith, lit<, lit≤, length-append, length-drop}
-use borrow.Author.Tests.{le-leb, leb-true, lt-ltb, le-ltb, ne_eqb}
-use Rattle.terms.specs.Paper.{Paper, answer, pick}
-use Rattle.terms.specs.Cases.{two, less, same, clash}
-use Rattle.octets.specs.Octets.{be, bytes_of, sum8, Bytes}
+use Rattle.std.specs.Prelude.{ℕ, ◌+◌, ◌<◌, ◌≤◌, ◌^◌, ◌/◌, ◌≡◌, refl, true, List, [], ◌∷◌, ◌++◌, ltb, length}
+use Rattle.std.proofs.Common.{sym, ap, ◌∙◌, ⊎_elim, div-one, arith, lit≤, length-append}
+use borrow.Author.Tests.{le-leb, lt-ltb, le-ltb, ne_eqb}
+use Rattle.terms.specs.Paper.{pick}
+use Rattle.terms.specs.Cases.{less}
+use Rattle.octets.specs.Octets.{sum8, Bytes}
 use Rattle.digits.specs.Digits.{width_of, decimal_of}
 use Rattle.digits.specs.Widths.{width_of_lem, width_most}
 use Rattle.digits.specs.Laws.{both, length_decimal}
-use Rattle.market_columns.specs.Numbers.{number_fits, number_text}
-use Rattle.market_columns.specs.NumberLaws.{NumberFits, number_fits_lem}
+use Rattle.market_columns.specs.Numbers.{number_fits}
+use Rattle.market_columns.specs.NumberLaws.{number_fits_lem}
 use Rattle.market_columns.specs.NumberPut.{text_long}
-use Rattle.market_columns.specs.Columns.{Column, header}
-use Rattle.market_columns.specs.Values.{Value, Fixed, Number, Text, fits}
+use Rattle.market_columns.specs.Columns.{header}
+use Rattle.market_columns.specs.Values.{fits}
 use Rattle.market_spec.specs.File.{fault, fine, place_of, and_then, fault_of}
 use Rattle.market_spec.specs.Files.{then_fine, then_fault}
-use Rattle.market_spec.specs.Told.{Told, at_place, refused, not_fine, Then, then_both}
+use Rattle.market_spec.specs.Told.{Told, at_place, refused, not_fine, then_both}
 use Rattle.market_spec.specs.LineValues.{line_fits, line_text_long}
-use Rattle.market_spec.specs.LinesValues.{Line, lines_fit, lines_text}
+use Rattle.market_spec.specs.LinesValues.{lines_fit, lines_text}
 use Rattle.market_spec.specs.TrailerText.{sum_text}
 use Rattle.market_spec.specs.Sound.{Values, head_values, head_text, body_of, file_of, values_fit, values_of, Sound, body_long, lines_few}
-use Rattle.market_spec.specs.Walk.{Finding, finding_told}
 use Rattle.market_spec.specs.ValueBytes.{row_bytes, taken_of, taken_line, taken_fault}
 use Rattle.market_spec.specs.TakenBack.{row_told, row_fits_lem, row_made, row_bytes_lem}
-use Rattle.market_spec.specs.FileBytes.{own, own_values, own_of, lines_bytes, values_bytes, values_answer, lines_taken, values_taken, lines_given, values_given, written_answer}
+use Rattle.market_spec.specs.FileBytes.{own, own_values, lines_bytes, values_bytes, values_answer, lines_taken, values_taken, values_given, written_answer}
 use Rattle.market_spec.specs.BytesBack.{lines_fit_lem, lines_bytes_lem, lines_read, lines_short, taken_told, fine_0}
 
 -- THE HEADER: its own values, and the count

@@ -2,7 +2,6 @@
 use Rattle.entries.specs.Outcomes.{entry_short, entry_long}
 use Rattle.entries.specs.Places.{size_short, size_long}
 use mathlib.Core.Path.{sym}
-use borrow.Author.Rules.{rules}
 use Rattle.entries.proofs.entry_at.Goals as goal
 
 pub returns-then-w-eq10 : goal.returns-then-w-eq10

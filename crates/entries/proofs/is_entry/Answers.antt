@@ -3,7 +3,6 @@ use native.Mathlib.Omega.{arith}
 use Rattle.octets.specs.Octets.{be}
 use Rattle.entries.specs.Places.{size_pos, divided_stands, before_73, beyond_end}
 use mathlib.Core.Path.{sym}
-use borrow.Author.Rules.{rules}
 use Rattle.entries.proofs.is_entry.Goals as goal
 
 pub returns-then-place-lt73 : goal.returns-then-place-lt73

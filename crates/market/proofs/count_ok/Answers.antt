@@ -1,13 +1,15 @@
--- `count_ok`: by what the header's column says. Assumes nothing.
-use borrow.Author.Rules.{rules}
-use mathlib.Core.Path.{◌≡◌, sym, ap, ◌∙◌}
-use Rattle.market_columns.specs.Numbers.{amount_paper}
-use Rattle.market_spec.specs.Files.{count_lacks}
-use Rattle.market_spec.proofs.Files.{count_there}
+-- `count_ok`: what the header's column says, compared. Assumes nothing.
+use mathlib.Core.Path.{refl, ap, ◌∙◌}
+use Prim.Native.Nat.{ℕ}
+use mathlib.Core.List.{[], ◌∷◌}
+use Rattle.terms.specs.Paper.{Paper}
+use Rattle.market_columns.specs.Numbers.{number_at}
+use Rattle.market_columns.specs.Columns.{alike}
+use Rattle.market.proofs.Tests.{counted}
 use Rattle.market.proofs.count_ok.Goals as goal
 
-pub returns-in-Nothing : goal.returns-in-Nothing
-returns-in-Nothing c = sym (count_lacks _ _ (sym c.number_at.ensures ∙ ap amount_paper c.in-Nothing.is))
-
-pub returns-in-Units : goal.returns-in-Units
-returns-in-Units c = sym (count_there _ _ _ _ (sym c.number_at.ensures ∙ ap amount_paper c.in-Units.is))
+pub returns : goal.returns
+returns c =
+    let a = c.args in
+    c.eq.ensures ∙ counted _ (λ v k. refl) (λ v k. refl) a.k c.number_at.result
+    ∙ ap (λ (p : Paper). alike p.values (0 ∷ a.k ∷ [])) (c.number_at.ensures ∙ ap (λ (w : ℕ). number_at 27 w c.column.result.decimals a.s.now) c.column.ensures.0.width_is ∙ ap (λ (d : ℕ). number_at 27 5 d a.s.now) c.column.ensures.0.decimals_is)

@@ -1,15 +1,16 @@
--- `sum_ok`: by what the three digits say. Assumes nothing.
-use borrow.Author.Rules.{rules}
-use mathlib.Core.Path.{◌≡◌, sym, ap, ◌∙◌}
-use Rattle.digits.specs.Digits.{decimal_paper}
-use Rattle.market_spec.specs.Files.{sum_lacks}
-use Rattle.market_spec.proofs.Files.{sum_there}
+-- `sum_ok`: what the three digits say, compared. Assumes nothing.
+use mathlib.Core.Path.{ap, ◌∙◌}
+use Prim.Native.Nat.{ℕ, ◌+◌}
+use mathlib.Core.List.{[], ◌∷◌}
+use Rattle.terms.specs.Paper.{Paper}
+use Rattle.digits.specs.Digits.{digits_at}
+use Rattle.market_columns.specs.Columns.{alike}
+use Rattle.market.proofs.Tests.{summed}
 use Rattle.market.proofs.sum_ok.Goals as goal
 
-pub returns-in-NoNumber : goal.returns-in-NoNumber
-returns-in-NoNumber c = sym (sum_lacks _ _ (sym c.digits_at.ensures ∙ ap decimal_paper c.in-NoNumber.is))
-
-pub returns-in-Number : goal.returns-in-Number
-returns-in-Number c =
-    let e = c.wide.ensures ∙ c.sum.ensures in
-    rw e (sym (sum_there _ _ _ (sym c.digits_at.ensures ∙ ap decimal_paper c.in-Number.is)))
+pub returns : goal.returns
+returns c =
+    let a = c.args in
+    c.eq.ensures ∙ summed c.from.result c.digits_at.result
+    ∙ ap (λ (p : Paper). alike p.values (c.from.result ∷ [])) c.digits_at.ensures
+    ∙ ap (λ (n : ℕ). alike (digits_at (a.at + 8) 3 a.s.now).values (n ∷ [])) (c.from.ensures ∙ c.sum.ensures)
