@@ -1,3 +1,4 @@
 pub mod Entries
 pub mod OneAnswer
 pub mod RuledOut
+pub mod First

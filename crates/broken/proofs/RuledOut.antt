@@ -4,6 +4,7 @@ use Prim.Native.Nat.{ℕ}
 use mathlib.Core.Path.{refl, ap}
 use mathlib.Core.List.{List, [], ◌∷◌, ◌++◌}
 use lib.ListN.{replicate}
+use Rattle.std.specs.Prelude.{Option, Some, None}
 use Rattle.terms.specs.Letters.{spelled}
 use Rattle.terms.specs.RuledOut.{Row, ◌never◌, ◌only◌, Kept, RulesOut, ruled, lists}
 use Rattle.octets.specs.Octets.{numeral, digits_of}
@@ -17,8 +18,9 @@ use Rattle.broken.proofs.broken_field.Reads as broken-field
 use Rattle.broken.proofs.broken_field.Kinds as broken-field-kinds
 
 -- found or not, place, length, number, entry
-abbrev shown : Broken → List ℕ
-shown r = r.found ∷ r.place ∷ r.len ∷ r.index ∷ r.entry ∷ []
+abbrev shown : Option Broken → List ℕ
+shown (Some r) = 1 ∷ r.place ∷ r.len ∷ r.index ∷ r.entry ∷ []
+shown None = 0 ∷ 0 ∷ 0 ∷ 0 ∷ 0 ∷ []
 
 abbrev nothing : List ℕ
 nothing = 0 ∷ 0 ∷ 0 ∷ 0 ∷ 0 ∷ []

@@ -1,7 +1,7 @@
 -- Which field breaks a rule. Document 01's field rules once more, a line for each field in the
 -- order of its widths: a rule stands with the field of which it is said. Meaning.antt has that
 -- together they are the rules.
-use Rattle.std.specs.Prelude.{ℕ, zero, suc, ◌+◌, ◌*◌, ◌-◌, Bool, true, ◌&&◌, ◌||◌, List, [], ◌∷◌, ◌++◌, eqb, ltb, leb, length}
+use Rattle.std.specs.Prelude.{ℕ, zero, suc, ◌+◌, ◌*◌, ◌-◌, Bool, true, ◌&&◌, ◌||◌, List, [], ◌∷◌, ◌++◌, eqb, ltb, leb, length, Option, Some, None}
 use Rattle.terms.specs.Paper.{pick}
 use Rattle.terms.specs.Letters.{spelled}
 use Rattle.rules.specs.declared.Kind.{Kind}
@@ -130,19 +130,19 @@ fields_of M201 b = fixed_fields M201 b ++ extension b
 fields_of Unknown b = []
 
 -- WHAT IS TOLD: the first field whose rule is broken, or none
-abbrev pub none : Broken
-none = record { found = 0; place = 0; len = 0; index = 0; entry = 0 }
+abbrev pub none : Option Broken
+none = None
 
-abbrev pub broken_at : ℕ → ℕ → ℕ → ℕ → Broken
-broken_at place len index entry = record { found = 1; place = place; len = len; index = index; entry = entry }
+abbrev pub broken_at : ℕ → ℕ → ℕ → ℕ → Option Broken
+broken_at place len index entry = Some (record { place = place; len = len; index = index; entry = entry })
 
-abbrev pub told : Field → Broken
+abbrev pub told : Field → Option Broken
 told f = broken_at f.place f.len f.index f.entry
 
 -- the first of these, else what is told of the fields behind them
-unfoldable pub lowest_from : List Field → Broken → Broken
+unfoldable pub lowest_from : List Field → Option Broken → Option Broken
 lowest_from [] rest = rest
 lowest_from (f ∷ fs) rest = pick f.holds (lowest_from fs rest) (told f)
 
-unfoldable pub broken_of : Kind → List ℕ → Broken
+unfoldable pub broken_of : Kind → List ℕ → Option Broken
 broken_of k b = lowest_from (fields_of k b) none

@@ -1,7 +1,8 @@
 -- What is told is the lowest field that breaks a rule, and none exactly where the field rules hold;
 -- it lies within a body whose length suits the type.
-use Rattle.std.specs.Prelude.{ℕ, zero, suc, ◌+◌, ◌*◌, ◌-◌, ◌<◌, ◌≤◌, ◌≡◌, refl, Bool, true, false, ◌&&◌, ◌||◌, ◌⊎◌, ◌↔◌, List, [], ◌∷◌, ◌++◌, eqb, ltb, leb, length, take}
+use Rattle.std.specs.Prelude.{ℕ, zero, suc, ◌+◌, ◌*◌, ◌-◌, ◌<◌, ◌≤◌, ◌≡◌, refl, Bool, true, false, ◌&&◌, ◌||◌, ◌⊎◌, ◌↔◌, List, [], ◌∷◌, ◌++◌, eqb, ltb, leb, length, take, Option, Some, None, IfSome}
 use Rattle.std.proofs.Common.{sym, ap, ap₂, ◌∙◌, inl, inr, ⊎_elim, arith, eqb-true, leb-true}
+use Rattle.std.proofs.lemmas.Option.{none-some}
 use Rattle.terms.specs.Cases.{two, clash, and_false}
 use Rattle.terms.specs.Letters.{spelled}
 use Rattle.terms.specs.Says.{Says, says_eq, says_or}
@@ -24,7 +25,7 @@ all_hold [] = true
 all_hold (f ∷ fs) = f.holds && all_hold fs
 
 -- THE LOWEST: all before it hold, and it does not
-pub record Lowest (fs : List Field) (r : Broken) : Type 0 where
+pub record Lowest (fs : List Field) (r : Option Broken) : Type 0 where
   pub before : List Field
   pub it : Field
   pub behind : List Field
@@ -44,7 +45,7 @@ pub stopped : (f : Field) (fs : List Field) → f.holds ≡ false → lowest_fro
 unfolding lowest_from
 stopped f fs h = rw h
 
-further : (f : Field) (fs : List Field) (q r : Broken) → f.holds ≡ true → q ≡ r → Lowest fs r → Lowest (f ∷ fs) q
+further : (f : Field) (fs : List Field) (q r : Option Broken) → f.holds ≡ true → q ≡ r → Lowest fs r → Lowest (f ∷ fs) q
 further f fs q r h e l = record { before = f ∷ l.before; it = l.it; behind = l.behind; order = ap (λ (x : List Field). f ∷ x) l.order; hold = rw h l.hold; breaks = l.breaks; told_so = e ∙ l.told_so }
 
 abbrev pub AllHold : List Field → Type 0
@@ -182,11 +183,14 @@ all_fields_lem Unknown b h = absurd (clash h refl)
 
 -- ======== THE PROMISE IN WORDS
 
--- none is told exactly where the field rules of document 01 hold
-nothing : (fs : List Field) (r : Broken) → Lowest fs r → r ≡ none → ⊥
-nothing fs r l e = let z : ◌≡◌ {A = ℕ} 1 0 = ap (λ (x : Broken). x.found) (sym l.told_so ∙ e) in omega arith
+some_none : {x : Broken} → ◌≡◌ {A = Option Broken} (Some x) None → ⊥
+some_none e = absurd (none-some _ (sym e))
 
-pub lowest_breaks : (fs : List Field) (r : Broken) → Lowest fs r → all_hold fs ≡ true → ⊥
+-- none is told exactly where the field rules of document 01 hold
+nothing : (fs : List Field) (r : Option Broken) → Lowest fs r → r ≡ none → ⊥
+nothing fs r l e = some_none (sym l.told_so ∙ e)
+
+pub lowest_breaks : (fs : List Field) (r : Option Broken) → Lowest fs r → all_hold fs ≡ true → ⊥
 lowest_breaks fs r l a =
     let e : all_hold fs ≡ false = ap all_hold l.order ∙ all_joined l.before (l.it ∷ l.behind) ∙ rw (l.hold, l.breaks) in
     clash a e
@@ -216,11 +220,8 @@ broken_lowest k b ne =
 pub none_found : (fs : List Field) → all_hold fs ≡ true → lowest_from fs none ≡ none
 none_found fs h = ⊎_elim (λ (a : AllHold fs). a.1) (λ (l : Lowest fs (lowest_from fs none)). absurd (lowest_breaks fs (lowest_from fs none) l h)) (lowest_or fs)
 
-pub all_passed : (fs : List Field) → (lowest_from fs none).found ≡ 0 → all_hold fs ≡ true
-all_passed fs h =
-    ⊎_elim (λ (a : AllHold fs). a.0)
-    (λ (l : Lowest fs (lowest_from fs none)). let e : (lowest_from fs none).found ≡ 1 = ap (λ (x : Broken). x.found) l.told_so in absurd (omega (arith, e, h)))
-    (lowest_or fs)
+pub all_passed : (fs : List Field) → lowest_from fs none ≡ none → all_hold fs ≡ true
+all_passed fs h = ⊎_elim (λ (a : AllHold fs). a.0) (λ (l : Lowest fs (lowest_from fs none)). absurd (nothing fs _ l h)) (lowest_or fs)
 
 -- fields behind others: looked at only where all those hold
 pub behind_all : (xs ys : List Field) → all_hold xs ≡ true → lowest_from (xs ++ ys) none ≡ lowest_from ys none
@@ -231,12 +232,12 @@ behind_all (f ∷ xs) ys h =
     (λ (n : f.holds ≡ false). absurd (clash (rw n at h) refl))
     (two f.holds)
 
-pub before_one : (xs ys : List Field) → ((lowest_from xs none).found ≡ 0 → ⊥) → lowest_from (xs ++ ys) none ≡ lowest_from xs none
+pub before_one : (xs ys : List Field) → (lowest_from xs none ≡ none → ⊥) → lowest_from (xs ++ ys) none ≡ lowest_from xs none
 unfolding lowest_from
 before_one [] ys ne = absurd (ne refl)
 before_one (f ∷ xs) ys ne =
     ⊎_elim
-    (λ (t : f.holds ≡ true). passed f (xs ++ ys) t ∙ before_one xs ys (λ (z : (lowest_from xs none).found ≡ 0). ne (ap (λ (x : Broken). x.found) (passed f xs t) ∙ z)) ∙ sym (passed f xs t))
+    (λ (t : f.holds ≡ true). passed f (xs ++ ys) t ∙ before_one xs ys (λ (z : lowest_from xs none ≡ none). ne (passed f xs t ∙ z)) ∙ sym (passed f xs t))
     (λ (n : f.holds ≡ false). stopped f (xs ++ ys) n ∙ sym (stopped f xs n))
     (two f.holds)
 
@@ -259,9 +260,13 @@ unfolding entries_fields
 entries_within zero n w b x h = omega arith
 entries_within (suc i) n w b x h = within_joined (73 + n * w) (entries_fields i w b) (entry_fields w (73 + i * w) (i + 1) b) (entries_within i n w b x (omega arith)) (entry_within i n w b x (omega arith))
 
-lowest_within : (n : ℕ) (fs : List Field) → AllWithin n fs → (lowest_from fs none).place + (lowest_from fs none).len ≤ n
+-- a field that is told lies there
+abbrev pub Within : ℕ → Option Broken → Type 0
+Within n r = IfSome r (λ f. f.place + f.len ≤ n)
+
+lowest_within : (n : ℕ) (fs : List Field) → AllWithin n fs → Within n (lowest_from fs none)
 unfolding lowest_from
-lowest_within n [] h = h
+lowest_within n [] h = tt
 lowest_within n (f ∷ fs) h =
     ⊎_elim (λ (t : f.holds ≡ true). rw (passed f fs t) (lowest_within n fs h.1)) (λ (e : f.holds ≡ false). rw (stopped f fs e) h.0) (two f.holds)
 
@@ -290,9 +295,6 @@ m201_within n b e =
 count_broken : (b : List ℕ) → count_ok b ≡ false → all_hold (fixed_fields M102 b) ≡ false
 count_broken b f = all_joined (take 12 (fixed_fields M102 b)) (field_at 71 2 12 0 (count_ok b) ∷ []) ∙ rw f (and_false (all_hold (take 12 (fixed_fields M102 b))))
 
-abbrev pub Within : ℕ → Broken → Type 0
-Within n r = r.place + r.len ≤ n
-
 counted_within : (b : List ℕ) → 73 ≤ length b → Within (length b) (lowest_from (fields_of M102 b) none)
 counted_within b h =
     ⊎_elim
@@ -310,13 +312,13 @@ suited : (k : Kind) (b : List ℕ) → suits k (length b) ≡ true → Within (l
 unfolding suits lowest_from
 suited S001 b s = lowest_within (length b) (fixed_fields S001 b) (s001_within (length b) b (eqb-true (length b) 74 s))
 suited S002 b s = lowest_within (length b) (fixed_fields S002 b) (s002_within (length b) b (eqb-true (length b) 260 s))
-suited S003 b s = omega arith
+suited S003 b s = tt
 suited P001 b s = lowest_within (length b) (fixed_fields P001 b) (p001_within (length b) b (eqb-true (length b) 12 s))
 suited P002 b s = lowest_within (length b) (fixed_fields P002 b) (p002_within (length b) b (eqb-true (length b) 52 s))
-suited M101 b s = omega arith
+suited M101 b s = tt
 suited M102 b s = counted_within b (leb-true 73 (length b) s)
 suited M201 b s = lowest_within (length b) (fields_of M201 b) (m201_within (length b) b (leb-true 45 (length b) s))
-suited Unknown b s = omega arith
+suited Unknown b s = tt
 
 measured_fine : (k : Kind) (n : ℕ) → Measured k n 0 → suits k n ≡ true
 measured_fine k n (m_type e h) = absurd (omega arith)

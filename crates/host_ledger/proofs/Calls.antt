@@ -4,17 +4,17 @@ use Prim.Native.Nat.{ℕ}
 use mathlib.Core.Path.{◌≡◌, ap, ap₂, ◌∙◌}
 use mathlib.Core.List.{List}
 use Rattle.terms.specs.declared.ChannelNumber.{ChannelNumber}
-use Rattle.terms.specs.declared.TickNumber.{TickNumber}
 use Rattle.terms.specs.declared.Refusal.{Refusal}
 use Rattle.terms.specs.Paper.{Paper, answer, refusal, one_number}
 use Rattle.terms.specs.Refusals.{number_of}
 use Rattle.terms.specs.Counters.{channel_of}
 use Rattle.ledger_spec.specs.Calls.{Call, answer_to, open_number, open_of}
 use Rattle.ledger.specs.declared.Ledger.{Ledger}
-use Rattle.ledger.specs.State.{book_of, ledger_of, next_in, laid_from}
-use Rattle.ledger.specs.Papers.{reply_paper}
-use Rattle.ledger.specs.declared.ReplyAnswer.TheVariants.{Cleared}
-use Rattle.tick_map.specs.declared.Map.{Map}
+use Rattle.std.specs.Prelude.{⊤, refl, Result, Ok, Err}
+use Rattle.terms.specs.Verdicts.{verdict_number}
+use Rattle.ledger.specs.declared.Settled.{Settled}
+use Rattle.ledger.specs.State.{book_of, ledger_of, next_in}
+use Rattle.ledger.specs.Papers.{reply_paper, laid_reply, paper_of}
 use Rattle.host_words.specs.Told.{Tells, retold, tells_done, tells_why}
 use Rattle.host_words.specs.Words.{ledger_in}
 use Rattle.host_words.specs.Calls.{kept_by, call_told, words_after}
@@ -34,26 +34,31 @@ module _ (w : List ℕ) {l next : Ledger} {given call : Call} (le : l ≡ ledger
       → (n ≡ (call_told w call).number) × (row ≡ words_after w call)
   answers pe ne e = (ne ∙ one_number (pe ∙ paper_is), words_are (ne ∙ one_number pe) e)
 
-  -- one that tells something, refused
-  pub refuses : (why : Refusal) (was : List ℕ) {n : ℕ} {row : List ℕ} → refusal (number_of why) ≡ answer_to (book_of l) given → n ≡ number_of why → row ≡ kept_by n next w
-      → Tells (call_told w call) was n was × (row ≡ words_after w call)
-  refuses why was pe ne e = (tells_why _ was why _ ne (one_number (pe ∙ paper_is)), words_are (ne ∙ one_number pe) e)
+  -- one that tells something, refused: m is the number answered, n the one that the words are kept by
+  pub refuses : (why : Refusal) (was : List ℕ) {m n : ℕ} {row : List ℕ} → refusal (number_of why) ≡ answer_to (book_of l) given → m ≡ number_of why → n ≡ number_of why → row ≡ kept_by n next w
+      → Tells (call_told w call) was m was × (row ≡ words_after w call)
+  refuses why was pe me ne e = (tells_why _ was why _ me (one_number (pe ∙ paper_is)), words_are (ne ∙ one_number pe) e)
 
   -- and done
-  pub tells : (vs was : List ℕ) {row : List ℕ} → answer 0 vs ≡ answer_to (book_of l) given → row ≡ kept_by 0 next w
+  pub tells : (vs was : List ℕ) {n : ℕ} {row : List ℕ} → answer 0 vs ≡ answer_to (book_of l) given → n ≡ 0 → row ≡ kept_by n next w
       → Tells (call_told w call) was 0 vs × (row ≡ words_after w call)
-  tells vs was pe e = (tells_done _ was vs (pe ∙ paper_is), words_are (one_number pe) e)
+  tells vs was pe ne e = (tells_done _ was vs (pe ∙ paper_is), words_are (ne ∙ one_number pe) e)
 
   -- a reply, whose sets are told as words: refused, and done
-  pub reply_refuses : (why : Refusal) (was : List ℕ) {n : ℕ} {row : List ℕ} → number_of why ≡ (answer_to (book_of l) given).number → n ≡ number_of why → row ≡ kept_by n next w
-      → Tells (reply_told w call) was n was × (row ≡ words_after w call)
-  reply_refuses why was pe ne e = (tells_why _ was why _ ne (pe ∙ one_number paper_is), words_are (ne ∙ pe) e)
+  pub reply_refuses : (why : Refusal) (was : List ℕ) {m n : ℕ} {row : List ℕ} → reply_paper (Err why) ≡ answer_to (book_of l) given → m ≡ number_of why → n ≡ number_of why → row ≡ kept_by n next w
+      → Tells (reply_told w call) was m was × (row ≡ words_after w call)
+  reply_refuses why was pe me ne e = (tells_why _ was why _ me (one_number (pe ∙ paper_is)), words_are (ne ∙ one_number pe) e)
 
-  pub reply_tells : (f : TickNumber) (m p : Map) (was : List ℕ) {told row : List ℕ} → reply_paper Cleared f m p ≡ answer_to (book_of l) given
-      → m ≡ laid_from f m → p ≡ laid_from f p → told ≡ row_of f.0 m p → row ≡ kept_by 0 next w
+  pub reply_tells : (s : Settled) (was : List ℕ) {told row : List ℕ} {n : ℕ} → reply_paper (Ok s) ≡ answer_to (book_of l) given
+      → Ok s ≡ laid_reply (Ok s) → told ≡ row_of s.first.0 s.given_up s.passed → n ≡ 0 → row ≡ kept_by n next w
       → Tells (reply_told w call) was 0 told × (row ≡ words_after w call)
-  reply_tells f m p was pe me ge te e =
-      (rw (te ∙ settled_row_lem f m p me ge) (tells_done (reply_told w call) was _ (ap (retold settled_row) (pe ∙ paper_is))), words_are (one_number pe) e)
+  reply_tells s was pe le te ne e =
+      (rw (te ∙ settled_row_lem s le) (tells_done (reply_told w call) was _ (ap (retold settled_row) (pe ∙ paper_is))), words_are (ne ∙ one_number pe) e)
+
+-- the number of an answer that tells nothing
+pub plain_number : (a : Result ⊤ Refusal) → verdict_number a ≡ (paper_of a).number
+plain_number (Ok _) = refl
+plain_number (Err why) = refl
 
 -- opening
 pub opened_words : (was : List ℕ) {channel : ℕ} {k : ChannelNumber} {n : ℕ} {next : Ledger} {row : List ℕ} → k ≡ channel_of channel → n ≡ open_number channel

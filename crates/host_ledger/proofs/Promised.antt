@@ -36,8 +36,8 @@ use Rattle.ledger_spec.proofs.Numbers.{checked_facts, checked_test}
 use Rattle.ledger_spec.proofs.Rules.{rules_facts, rules_test}
 use Rattle.ledger_spec.proofs.Steps.{reach_near, rules_kept}
 use Rattle.ledger.specs.declared.Ledger.{Ledger}
-use Rattle.ledger.specs.declared.Pending.{Pending}
-use Rattle.ledger.specs.declared.Pending.TheVariants.{Nothing, Range}
+use Rattle.std.specs.Prelude.{Option, Some, None}
+use Rattle.ledger.specs.declared.Range.{Range}
 use Rattle.ledger.specs.State.{asked_of, book_of, ledger_of, topped}
 use Rattle.ledger.proofs.Seam.{laid_of, done_by, far_by, question_next}
 use Rattle.host_words.specs.Told.{Tells, told_by, seen}
@@ -232,9 +232,9 @@ renew_new_session κs a x s p r =
 
 -- ======== What a ledger has to tell
 
-asked_numbers_lem : (p : Pending) → first_asked p ∷ last_asked p ∷ [] ≡ asked_numbers (asked_of p)
-asked_numbers_lem Nothing = refl
-asked_numbers_lem (Range first last) = refl
+asked_numbers_lem : (p : Option Range) → first_asked p ∷ last_asked p ∷ [] ≡ asked_numbers (asked_of p)
+asked_numbers_lem None = refl
+asked_numbers_lem (Some r) = refl
 
 module _ (w : List ℕ) where
   row_is : number_to (book_in w) (Ask Missing) ≡ 0 → (ledger_told w).values ≡ book_numbers (book_in w)

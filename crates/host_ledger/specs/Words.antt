@@ -1,14 +1,18 @@
 -- What opening a ledger leaves of its nine words, and what they have to tell.
-use Rattle.std.specs.Prelude.{ℕ, ◌≡◌, List, [], ◌∷◌, ◌++◌, get_or}
-use Rattle.std.proofs.Common.{ap₂}
+use Rattle.std.specs.Prelude.{ℕ, ◌≡◌, refl, List, [], ◌∷◌, ◌++◌, get_or, Result, Ok, Err}
+use Rattle.std.specs.Result.{result_unwrap_or}
+use Rattle.std.proofs.Common.{sym, ap, ◌∙◌}
+use Rattle.terms.specs.Verdicts.{verdict_number}
+use Rattle.terms.specs.declared.Refusal.{Refusal}
 use Rattle.terms.specs.Paper.{Paper, answer}
-use Rattle.terms.specs.declared.TickNumber.{TickNumber}
-use Rattle.tick_map.specs.Bits.{bits_in, map_of}
-use Rattle.tick_map.specs.Ring.{rotated, laid}
+use Rattle.tick_map.specs.Bits.{map_of}
+use Rattle.tick_map.specs.Ring.{laid}
 use Rattle.tick_map.specs.declared.Map.{Map}
 use Rattle.ledger_spec.specs.Calls.{Call, Ask, Missing, Held, answer_to, open_number, open_of}
 use Rattle.ledger.specs.declared.Ledger.{Ledger}
-use Rattle.ledger.specs.State.{book_of, ledger_of, laid_from}
+use Rattle.ledger.specs.declared.Settled.{Settled}
+use Rattle.ledger.specs.State.{book_of, ledger_of}
+use Rattle.ledger.specs.Papers.{reply_paper, laid_reply, count_paper}
 use Rattle.host_words.specs.Words.{first_asked, last_asked, ledger_in}
 use Rattle.host_words.specs.Told.{retold}
 use Rattle.host_words.specs.Calls.{kept_by, call_told}
@@ -43,12 +47,24 @@ reply_told w call = retold settled_row (call_told w call)
 -- PROOFS
 
 -- maps that are laid as they are read
-pub settled_row_lem : (f : TickNumber) (m p : Map) → m ≡ laid_from f m → p ≡ laid_from f p
-    → row_of f.0 m p ≡ settled_row (f.0 ∷ rotated f.0 (bits_in m) ∷ rotated f.0 (bits_in p) ∷ [])
+pub settled_row_lem : (s : Settled) → Ok s ≡ laid_reply (Ok s) → row_of s.first.0 s.given_up s.passed ≡ settled_row (reply_paper (Ok s)).values
 unfolding settled_row
-settled_row_lem f m p e g = ap₂ (row_of f.0) e g
+settled_row_lem s e = ap row_in e
+  where
+    row_in : Result Settled Refusal → List ℕ
+    row_in (Ok r) = row_of r.first.0 r.given_up r.passed
+    row_in (Err why) = []
 
-pub ledger_told_lem : (w : List ℕ) (l : Ledger) (n m held missing : ℕ) → l ≡ ledger_in w → answer n (missing ∷ []) ≡ answer_to (book_of l) (Ask Missing) → answer m (held ∷ []) ≡ answer_to (book_of l) (Ask Held)
-    → answer n (l.channel.0 ∷ l.floor.0 ∷ l.top.0 ∷ missing ∷ held ∷ first_asked l.pending ∷ last_asked l.pending ∷ []) ≡ ledger_told w
+-- a count by its number, 0 beside a refusal
+count_beside : (a : Result ℕ Refusal) → count_paper a ≡ answer (verdict_number a) (result_unwrap_or a 0 ∷ [])
+count_beside (Ok n) = refl
+count_beside (Err why) = refl
+
+pub ledger_told_lem : (w : List ℕ) (l : Ledger) (n missing : ℕ) (held : Result ℕ Refusal) → l ≡ ledger_in w → answer n (missing ∷ []) ≡ answer_to (book_of l) (Ask Missing) → count_paper held ≡ answer_to (book_of l) (Ask Held)
+    → answer n (l.channel.0 ∷ l.floor.0 ∷ l.top.0 ∷ missing ∷ result_unwrap_or held 0 ∷ first_asked l.pending ∷ last_asked l.pending ∷ []) ≡ ledger_told w
 unfolding ledger_told
-ledger_told_lem w l n m held missing e f g = rw (← e, ← f, ← g)
+ledger_told_lem w l n missing held e f g = rw (← e, ← f, ← (sym (count_beside held) ∙ g))
+
+pub ledger_told_number : (w : List ℕ) (l : Ledger) (n missing : ℕ) → l ≡ ledger_in w → answer n (missing ∷ []) ≡ answer_to (book_of l) (Ask Missing) → n ≡ (ledger_told w).number
+unfolding ledger_told
+ledger_told_number w l n missing e f = rw (← e, ← f)

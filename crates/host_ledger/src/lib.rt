@@ -9,19 +9,16 @@ ghost use Rattle.host_words.specs.Told.{Tells};
 ghost use Rattle.host_words.specs.Calls.{call_told, words_after};
 ghost use Rattle.host_ledger.specs.Words.{open_words, ledger_told, row_of, reply_told};
 
-use ledger::{Ledger, ReplyAnswer, RequestAnswer, TickAnswer};
+use ledger::{Ledger, Settled};
 use terms::{ChannelNumber, TickNumber};
-use tick_map::Map;
 
 // A fresh ledger for a channel; or 10, and the words stay as they were.
 pub fn rk_ledger_open(channel: u16, state: &mut [u64; 9]) -> u32
     ensures { (result ≡ open_number channel) × (state.new ≡ open_words channel state.old) }
 {
     let opened = Ledger::opened(ChannelNumber::new(channel));
-    let fresh = opened.next;
-    let given = opened.answer;
-    let answer = host_words::number_of(given);
-    host_words::keep(state, answer, fresh);
+    let answer = terms::number_of(opened.answer);
+    host_words::keep(state, answer, opened.next);
     answer
 }
 
@@ -35,19 +32,13 @@ pub fn rk_ledger_tick(state: &mut [u64; 9], channel: u16, number: u64, told: &mu
         ChannelNumber::new(channel),
         TickNumber::new(number),
     );
-    let next = ticked.next;
-    let answer = ticked.answer;
-    match answer {
-        TickAnswer::Refused(why) => {
-            let n = why.number();
-            host_words::keep(state, n, next);
-            n
-        }
-        TickAnswer::Passed { first, count } => {
-            host_words::keep(state, 0, next);
-            *told = [first.value(), count];
+    host_words::keep(state, terms::number_of(ticked.answer), ticked.next);
+    match ticked.answer {
+        Ok(passed) => {
+            *told = [passed.first.value(), passed.count];
             0
         }
+        Err(why) => u32::from(why),
     }
 }
 
@@ -60,10 +51,8 @@ pub fn rk_ledger_announce(state: &mut [u64; 9], channel: u16, last: u64) -> u32
         ChannelNumber::new(channel),
         TickNumber::new(last),
     );
-    let next = noted.next;
-    let given = noted.answer;
-    let answer = host_words::number_of(given);
-    host_words::keep(state, answer, next);
+    let answer = terms::number_of(noted.answer);
+    host_words::keep(state, answer, noted.next);
     answer
 }
 
@@ -73,30 +62,24 @@ pub fn rk_ledger_request(state: &mut [u64; 9], channel: u16, told: &mut [u64; 2]
         × (state.new ≡ words_after state.old (Request channel)) }
 {
     let asked = host_words::ledger_in(state).request(ChannelNumber::new(channel));
-    let asking = asked.next;
-    let answer = asked.answer;
-    match answer {
-        RequestAnswer::Refused(why) => {
-            let n = why.number();
-            host_words::keep(state, n, asking);
-            n
-        }
-        RequestAnswer::Granted { first, last } => {
-            host_words::keep(state, 0, asking);
-            *told = [first.value(), last.value()];
+    host_words::keep(state, terms::number_of(asked.answer), asked.next);
+    match asked.answer {
+        Ok(range) => {
+            *told = [range.first.value(), range.last.value()];
             0
         }
+        Err(why) => u32::from(why),
     }
 }
 
 // A reply's two sets as nine words.
-fn settled_row(first: TickNumber, given_up: Map, passed: Map) -> [u64; 9]
-    ensures { result ≡ row_of first.0 given_up passed }
+fn settled_row(settled: Settled) -> [u64; 9]
+    ensures { result ≡ row_of settled.first.0 settled.given_up settled.passed }
 {
-    let g = given_up.words;
-    let p = passed.words;
+    let g = settled.given_up.words;
+    let p = settled.passed.words;
     [
-        first.value(),
+        settled.first.value(),
         g[0],
         g[1],
         g[2],
@@ -126,22 +109,13 @@ pub fn rk_ledger_reply(
         TickNumber::new(first),
         status,
     );
-    let next = replied.next;
-    let from = replied.first;
-    let given_up = replied.given_up;
-    let passed = replied.passed;
-    let answer = replied.answer;
-    match answer {
-        ReplyAnswer::Refused(why) => {
-            let n = why.number();
-            host_words::keep(state, n, next);
-            n
-        }
-        ReplyAnswer::Cleared => {
-            host_words::keep(state, 0, next);
-            *told = settled_row(from, given_up, passed);
+    host_words::keep(state, terms::number_of(replied.answer), replied.next);
+    match replied.answer {
+        Ok(settled) => {
+            *told = settled_row(settled);
             0
         }
+        Err(why) => u32::from(why),
     }
 }
 
@@ -151,10 +125,8 @@ pub fn rk_ledger_renew(state: &mut [u64; 9]) -> u32
         × (state.new ≡ words_after state.old Renew) }
 {
     let noted = host_words::ledger_in(state).renewed();
-    let next = noted.next;
-    let given = noted.answer;
-    let answer = host_words::number_of(given);
-    host_words::keep(state, answer, next);
+    let answer = terms::number_of(noted.answer);
+    host_words::keep(state, answer, noted.next);
     answer
 }
 
@@ -164,26 +136,21 @@ pub fn rk_ledger_told(state: &[u64; 9], told: &mut [u64; 7]) -> u32
     ensures { Tells (ledger_told state.now) told.old result told.new }
 {
     let ledger = host_words::ledger_in(state);
-    let missing = ledger.missing();
-    let held = ledger.held();
-    let given = missing.answer;
-    let answer = host_words::number_of(given);
-    let channel = ledger.channel;
-    let floor = ledger.floor;
-    let top = ledger.top;
-    let pending = ledger.pending;
-    if answer == 0 {
-        *told = [
-            channel.value() as u64,
-            floor.value(),
-            top.value(),
-            missing.count,
-            held.count,
-            host_words::first_asked(pending),
-            host_words::last_asked(pending),
-        ];
+    match ledger.missing().answer {
+        Ok(missing) => {
+            *told = [
+                u64::from(ledger.channel.value()),
+                ledger.floor.value(),
+                ledger.top.value(),
+                missing,
+                ledger.held().answer.unwrap_or(0),
+                host_words::first_asked(ledger.pending),
+                host_words::last_asked(ledger.pending),
+            ];
+            0
+        }
+        Err(why) => u32::from(why),
     }
-    answer
 }
 
 // How many numbers from a to b, both counted, are missing. Told: the count.
@@ -195,10 +162,11 @@ pub fn rk_ledger_missing(state: &[u64; 9], channel: u16, a: u64, b: u64, told: &
         TickNumber::new(a),
         TickNumber::new(b),
     );
-    let given = counted.answer;
-    let answer = host_words::number_of(given);
-    if answer == 0 {
-        *told = counted.count;
+    match counted.answer {
+        Ok(count) => {
+            *told = count;
+            0
+        }
+        Err(why) => u32::from(why),
     }
-    answer
 }

@@ -6,14 +6,21 @@ use mathlib.Core.List.{List, [], ◌∷◌}
 use Rattle.terms.specs.RuledOut.{Row, ◌never◌, ◌only◌, Kept, RulesOut, ruled, lists}
 use Rattle.rules.specs.declared.Layout.{Layout}
 use Rattle.rules.specs.declared.Layout.TheVariants.{Order, Trade, Other}
+use Rattle.terms.specs.Paper.{pick}
+use Rattle.tails.specs.declared.Content.{Content}
+use Rattle.tails.specs.declared.Content.TheVariants.{Letters, Number}
 use Rattle.tails.specs.declared.TailField.{TailField}
 use Rattle.tails.specs.Fields.{tail_fields, field_at}
 use Rattle.tails.proofs.tail_field.Reads as tail-field
 use Rattle.tails.proofs.tail_field.Kinds as tail-field-kinds
 
 -- place, length, letters or number, private or not
+abbrev letters : Content → ℕ
+letters Letters = 1
+letters Number = 0
+
 abbrev shown : TailField → List ℕ
-shown f = f.place ∷ f.len ∷ f.text ∷ f.hidden ∷ []
+shown f = f.place ∷ f.len ∷ letters f.content ∷ pick f.is_private 1 0 ∷ []
 
 -- a layout, the length of a body, and the number of a field
 abbrev pub tail_field_wrong : List (Row (Layout × (ℕ × ℕ)) (List ℕ))

@@ -2,51 +2,55 @@
 // whether it is private.
 #![tactic(auto)]
 
-ghost use Rattle.std.specs.Prelude.{◌≡◌};
+ghost use Rattle.std.specs.Prelude.{◌≡◌, true, false};
+ghost use Rattle.tails.specs.declared.Content.TheVariants.{Letters, Number};
 ghost use Rattle.tails.specs.Fields.{field_of, order_fields, trade_fields, all_behind, tail_fields, field_at};
 
 use rules::Layout;
 
-// A field: its place in the body and how many bytes it has; 1 where it holds letters, 0 for a
-// number; 1 where it is private, else 0.
-#[derive(Clone, Copy)]
+// What a field holds.
+#[derive(Clone, Copy, Debug, PartialEq, Eq)]
+pub enum Content {
+    Letters,
+    Number,
+}
+
+// A field: its place in the body and how many bytes it has, what it holds, and whether it is
+// private.
+#[derive(Clone, Copy, Debug, PartialEq, Eq)]
 pub struct TailField {
     pub place: usize,
     pub len: usize,
-    pub text: u64,
-    pub hidden: u64,
+    pub content: Content,
+    pub is_private: bool,
 }
 
 fn letters(place: usize, len: usize) -> TailField
-    ensures { result ≡ field_of place len 1 0 }
+    ensures { result ≡ field_of place len Letters false }
 {
     TailField {
         place,
         len,
-        text: 1,
-        hidden: 0,
+        content: Content::Letters,
+        is_private: false,
     }
 }
 
 fn hidden(place: usize, len: usize) -> TailField
-    ensures { result ≡ field_of place len 1 1 }
+    ensures { result ≡ field_of place len Letters true }
 {
     TailField {
-        place,
-        len,
-        text: 1,
-        hidden: 1,
+        is_private: true,
+        ..letters(place, len)
     }
 }
 
 fn number(place: usize, len: usize) -> TailField
-    ensures { result ≡ field_of place len 0 0 }
+    ensures { result ≡ field_of place len Number false }
 {
     TailField {
-        place,
-        len,
-        text: 0,
-        hidden: 0,
+        content: Content::Number,
+        ..letters(place, len)
     }
 }
 
@@ -94,13 +98,11 @@ fn trade_field(i: usize) -> TailField
 fn all_behind(n: usize, i: usize) -> TailField
     ensures { result ≡ field_at i (all_behind n) }
 {
-    if i != 0 {
-        return number(0, 0);
+    if i == 0 {
+        hidden(45, n.saturating_sub(45))
+    } else {
+        number(0, 0)
     }
-    if n < 45 {
-        return hidden(45, 0);
-    }
-    hidden(45, n - 45)
 }
 
 // Field number i of the extension of an M201 body of n bytes, laid out so, counted from 0; from the

@@ -10,7 +10,6 @@ use Rattle.rules.specs.Sizes.{size_small, size_wide, entries_small, same_whole}
 use Rattle.rules.specs.Fields.{entry_size}
 use Rattle.broken.specs.Broken.{Field, field_at, count_ok, entries_fields, entries_of, none, lowest_from}
 use Rattle.broken.specs.Meaning.{passed, stopped}
-use borrow.Author.Rules.{rules}
 use Rattle.broken.proofs.m102_counted.Goals as goal
 use Rattle.broken.proofs.m102_counted.Goals.{After-entry_size-w}
 
@@ -37,7 +36,7 @@ pub overflow_add-n : goal.overflow_add-n
 overflow_add-n c = omega (arith, small (goal.at.overflow_add-n c).After-entry_size-w)
 
 pub returns-then-b-n : goal.returns-then-b-n
-returns-then-b-n c = let e = c in c.breaks.ensures ∙ sym (stopped (count (text (goal.at.returns-then-b-n c).After-entry_size-w)) (entries_of (text (goal.at.returns-then-b-n c).After-entry_size-w)) (ne_eqb _ _ (λ z. c.if-b-n.true (z ∙ sym (whole (goal.at.returns-then-b-n c).After-entry_size-w)))))
+returns-then-b-n c = c.unless.ensures ∙ sym (stopped (count (text (goal.at.returns-then-b-n c).After-entry_size-w)) (entries_of (text (goal.at.returns-then-b-n c).After-entry_size-w)) (ne_eqb _ _ (λ z. c.if-b-n.true (z ∙ sym (whole (goal.at.returns-then-b-n c).After-entry_size-w)))))
 
 pub entries_broken-requires : goal.entries_broken-requires
 entries_broken-requires c = (rw c.entry_size-w.ensures (size_wide _), c.if-b-n.false)
