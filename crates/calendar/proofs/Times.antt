@@ -1,12 +1,11 @@
 -- A number taken apart into a time's seven numbers and put together again; and what the test of a
 -- time says, both ways.
-use Rattle.std.specs.Prelude.{ℕ, ◌+◌, ◌*◌, ◌/◌, ◌%◌, ◌^◌, ◌<◌, ◌≤◌, ◌≡◌, refl, Bool, true, false, ◌&&◌, ◌||◌, leb, eqb}
-use Rattle.std.proofs.Common.{sym, ap, ◌∙◌, arith, div-add-mod', le-leb}
+use Rattle.std.specs.Prelude.{ℕ, ◌/◌, ◌%◌, ◌^◌, ◌≤◌, ◌≡◌, refl, Bool, true, false, ◌&&◌}
+use Rattle.std.proofs.Common.{sym, ap, ◌∙◌, arith}
 use Rattle.std.proofs.Math.Nat.{div-div-eq-div-mul}
 use Rattle.std.proofs.lemmas.Bool.{lt-leb}
-use Rattle.terms.specs.Paper.{pick}
 use Rattle.terms.specs.Says.{Says, says_le, says_and, says_as}
-use Rattle.calendar.specs.Calendar.{leap, days_in, Parts, time_of, TimeRules, RealTime, date_ok, clock_ok, time_ok, real_parts, real_time}
+use Rattle.calendar.specs.Calendar.{days_in, Parts, TimeRules, RealTime, date_ok, clock_ok, time_ok, real_parts, real_time}
 use Rattle.calendar.specs.Times.{time_back, parts_back}
 
 -- THE TEST

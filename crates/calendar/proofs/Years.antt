@@ -1,8 +1,7 @@
 -- The calendar in its own words, and its figures: a wrong table or a wrong rule of leap
 -- years fails here.
-use Rattle.std.specs.Prelude.{ℕ, zero, suc, ◌+◌, ◌*◌, ◌/◌, ◌%◌, ◌^◌, ◌≡◌, refl, Bool, true, false, not, ◌⊎◌, List, [], ◌∷◌, map, eqb, replicate}
-use Rattle.std.proofs.Common.{sym, ap, ◌∙◌, arith, div-add-mod', ne_eqb}
-use Rattle.std.proofs.lemmas.Bool.{eqb-false, not-true}
+use Rattle.std.specs.Prelude.{ℕ, zero, suc, ◌+◌, ◌*◌, ◌/◌, ◌%◌, ◌≡◌, refl, Bool, true, false, [], ◌∷◌, map, eqb, replicate}
+use Rattle.std.proofs.Common.{ap, ◌∙◌, arith}
 use Rattle.terms.specs.Paper.{pick}
 use Rattle.terms.specs.Says.{Says, says_eq, says_and, says_or, says_not, says_as}
 use Rattle.calendar.specs.Calendar.{leap, days_in, real_parts, real_time}

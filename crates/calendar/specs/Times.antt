@@ -3,10 +3,8 @@
 use Rattle.std.specs.Prelude.{ℕ, ◌+◌, ◌*◌, ◌/◌, ◌%◌, ◌^◌, ◌<◌, ◌≤◌, ◌≡◌, refl, Bool, true, false, ◌&&◌, ◌||◌, leb, eqb}
 use Rattle.std.proofs.Common.{sym, ap, ◌∙◌, arith, div-add-mod', le-leb}
 use Rattle.std.proofs.Math.Nat.{div-div-eq-div-mul}
-use Rattle.std.proofs.lemmas.Bool.{lt-leb}
 use Rattle.terms.specs.Paper.{pick}
-use Rattle.terms.specs.Says.{Says, says_le, says_and, says_as}
-use Rattle.calendar.specs.Calendar.{leap, days_in, Parts, time_of, TimeRules, RealTime, date_ok, clock_ok, time_ok, real_parts, real_time}
+use Rattle.calendar.specs.Calendar.{leap, days_in, Parts, time_of, TimeRules, clock_ok, real_parts}
 
 -- DIGITS: two more of a number's digits, from either side
 two_more : (t k : ℕ) → t / (k * 100) * 100 + t / k % 100 ≡ t / k

@@ -1,11 +1,8 @@
 -- The calendar in its own words, and its figures: a wrong table or a wrong rule of leap
 -- years fails here.
-use Rattle.std.specs.Prelude.{ℕ, zero, suc, ◌+◌, ◌*◌, ◌/◌, ◌%◌, ◌^◌, ◌≡◌, refl, Bool, true, false, not, ◌⊎◌, List, [], ◌∷◌, map, eqb, replicate}
-use Rattle.std.proofs.Common.{sym, ap, ◌∙◌, arith, div-add-mod', ne_eqb}
-use Rattle.std.proofs.lemmas.Bool.{eqb-false, not-true}
+use Rattle.std.specs.Prelude.{ℕ, zero, suc, ◌+◌, ◌*◌, ◌^◌, ◌≡◌, ◌⊎◌, List, [], ◌∷◌}
 use Rattle.terms.specs.Paper.{pick}
-use Rattle.terms.specs.Says.{Says, says_eq, says_and, says_or, says_not, says_as}
-use Rattle.calendar.specs.Calendar.{leap, days_in, real_parts, real_time}
+use Rattle.calendar.specs.Calendar.{leap, days_in}
 
 -- LEAP YEARS: divisible by 4 and not by 100, or by 400
 abbrev pub Divides : ℕ → ℕ → Type 0

@@ -6,6 +6,7 @@ ghost use Rattle.std.specs.Prelude.{◌≡◌, ◌/◌, ◌%◌, ◌^◌};
 ghost use Rattle.calendar.specs.Calendar.{leap, days_in, date_ok, clock_ok, real_time};
 
 // Whether a year has 29 February.
+#[tactic(auto, unfolding(crate::specs::Calendar::leap))]
 fn leap_year(y: u32) -> bool
     ensures { result ≡ leap y }
 {
@@ -13,30 +14,23 @@ fn leap_year(y: u32) -> bool
 }
 
 // How many days a month has; one that is none of the twelve has 31, and who calls refuses it.
+#[tactic(auto, unfolding(crate::specs::Calendar::days_in))]
 fn days_in(y: u32, m: u32) -> u32
     ensures { result ≡ days_in y m }
 {
-    if m == 2 {
-        if leap_year(y) {
-            return 29;
-        }
-        return 28;
+    match m {
+        2 => if leap_year(y) { 29 } else { 28 },
+        4 | 6 | 9 | 11 => 30,
+        _ => 31,
     }
-    if (m == 4) | (m == 6) | (m == 9) | (m == 11) {
-        return 30;
-    }
-    31
 }
 
 // Whether YYYYMMDD is a day from the year 2000 to 9999.
 fn real_date(date: u32) -> bool
     ensures { result ≡ date_ok (date / 10 ^ 4) (date / 10 ^ 2 % 100) (date % 100) }
 {
-    let y = date / 10000;
-    let m = date / 100 % 100;
-    let d = date % 100;
-    let last = days_in(y, m);
-    (2000 <= y) & (y <= 9999) & (1 <= m) & (m <= 12) & (1 <= d) & (d <= last)
+    let (y, m, d) = (date / 10000, date / 100 % 100, date % 100);
+    matches!(y, 2000..=9999) & matches!(m, 1..=12) & (1 <= d) & (d <= days_in(y, m))
 }
 
 // Whether HHMMSSsss is a time of day. Three digits of milliseconds are never too many.
@@ -48,6 +42,7 @@ fn real_clock(clock: u32) -> bool
 
 // Whether a time is real. Date and clock are taken apart once, each below 2^32: a date of more than
 // eight digits is none.
+#[tactic(auto, using(crate::proofs::Times::date_too_long, crate::proofs::Times::in_halves))]
 pub fn is_real(time: u64) -> bool
     ensures { result ≡ real_time time }
 {
@@ -55,7 +50,5 @@ pub fn is_real(time: u64) -> bool
     if 100000000 <= date {
         return false;
     }
-    let day = real_date(date as u32);
-    let hour = real_clock((time % 1000000000) as u32);
-    day & hour
+    real_date(date as u32) & real_clock((time % 1000000000) as u32)
 }

@@ -3,28 +3,29 @@
 // never used: a call that is about no place turns to it.
 #![tactic(auto)]
 
-ghost use Rattle.std.specs.Prelude.{◌≡◌, true, [], ◌∷◌, ◌≤◌, ◌<◌, ◌^◌, min, eqb};
+ghost use Rattle.std.specs.Prelude.{◌≡◌, true, [], ◌∷◌, ◌≤◌, ◌<◌, ◌^◌, min};
 ghost use Rattle.std.specs.Int.Count.{count_trailing_zeros};
 ghost use Rattle.terms.specs.Paper.{answer, refusal};
+ghost use Rattle.terms.specs.Refusals.{number_of};
+ghost use Rattle.terms.specs.Verdicts.{verdict_number};
 ghost use Rattle.tick_map.specs.Bits.{is_set};
 ghost use Rattle.ledger_spec.specs.State.{sound_of};
-ghost use Rattle.ledger_spec.specs.Calls.{Tick, Announce, Reply, Ask, Between, Renew, is_pending};
-ghost use Rattle.ledger.specs.Papers.{tick_paper, paper_of, count_paper, reply_paper, request_paper};
-ghost use Rattle.ledger.specs.State.{asked_of, book_of};
+ghost use Rattle.ledger_spec.specs.Calls.{Tick, Announce, Reply, Ask, Between, Renew};
+ghost use Rattle.ledger.specs.Papers.{tick_paper, paper_of, count_paper, reply_paper, laid_reply, request_paper};
+ghost use Rattle.ledger.specs.State.{book_of};
 ghost use Rattle.host_words.specs.Words.{ledger_in, book_in};
 ghost use Rattle.host_words.specs.Told.{retold};
-ghost use Rattle.host_ledger.specs.Words.{row_of as setsRow, settled_row};
+ghost use Rattle.host_ledger.specs.Words.{settled_row};
 ghost use Rattle.channels_spec.specs.Table.{holds, misses};
 ghost use Rattle.channels_spec.specs.Calls.{told_of};
 ghost use Rattle.channels.specs.Index.{with_bit, place_from, free_in, steps_in, turn_in, open_at, index_sound};
 ghost use Rattle.channels.specs.Turn.{asked_or_turn, opening_turn, turned_at, turned_of};
-ghost use Rattle.channels.specs.Told.{padded, told_as, named_paper, agree, index_at};
-ghost use Rattle.channels.specs.Answered.{row_in, row_fits, refused_of, stored_of, left_of, plain, said_of, none_there, status_in, opened_at, closed_at, taken_of, opened_of, closed_of, last_at, moved_of, requested_of, telling_of, served_of, answered_of};
+ghost use Rattle.channels.specs.Told.{padded, told_as, named_paper, index_at};
+ghost use Rattle.channels.specs.Answered.{row_in, row_fits, kept_of, refused_of, stored_of, left_of, plain, said_of, none_there, status_in, opened_at, closed_at, taken_of, opened_of, closed_of, last_at, moved_of, requested_of, telling_of, served_of, answered_of};
 ghost use Rattle.channels.specs.Serves.{empty_channels};
 
-use ledger::{Answer, Ledger, Pending, ReplyAnswer, RequestAnswer, TickAnswer};
-use terms::{ChannelNumber, TickNumber};
-use tick_map::Map;
+use ledger::{Ledger, Passed, Range, Settled};
+use terms::{ChannelNumber, Refusal, TickNumber};
 
 // A bit of `used` for each open place, and of `lacking` for each open place with something missing;
 // the place whose request is pending, or 32; the place last asked, 31 at first. The fields are
@@ -100,11 +101,20 @@ pub struct Answered {
     pub told: ChannelTold,
 }
 
+// A place that a call is about: its row, the index, and the turn to it.
+#[derive(Clone, Copy)]
+struct Place {
+    row: Row,
+    index: Index,
+    turn: Turn,
+    ghost within: { turn.at < 32 },
+}
+
 // The lowest set digit of a word, or 64.
 fn zeros_in(w: u64) -> u64
     ensures { (result ≡ count_trailing_zeros 64 w) × (result ≤ 64) }
 {
-    u64::trailing_zeros(w) as u64
+    u64::from(w.trailing_zeros())
 }
 
 fn bit_in(w: u64, i: u64) -> bool
@@ -114,44 +124,29 @@ fn bit_in(w: u64, i: u64) -> bool
     w >> i & 1 == 1
 }
 
-fn bit_of(i: u64) -> u64
-    requires { i < 64 }
-    ensures { result ≡ 2 ^ i }
-{
-    1u64 << i
-}
-
 fn with_bit(w: u64, i: u64, on: bool) -> u64
     requires { i < 64 }
     ensures { result ≡ with_bit on w i }
 {
-    let b = bit_of(i);
-    if on {
-        return w | b;
-    }
-    w & !b
+    let bit = 1 << i;
+    if on { w | bit } else { w & !bit }
 }
 
 // Whether a place is open.
 fn open_at(used: u64, i: u64) -> bool
     ensures { result ≡ open_at used i }
 {
-    if i >= 32 {
-        return false;
-    }
-    bit_in(used, i)
+    i < 32 && bit_in(used, i)
 }
 
 // The first open place of a channel at or behind `from`, or 32. Where no higher place is open, the
 // search ends.
+#[tactic(auto, unfolding(crate::specs::Index::place_from))]
 fn place_from(channels: &[u64; 33], used: u64, channel: u64, from: usize) -> usize
     requires { from ≤ 33 }
     ensures { (result ≡ place_from channels.now used channel from) × (result ≤ 32) }
 {
-    let mut i: usize = from;
-    while i < 32 {
-        let at = i;
-        i += 1;
+    for at in from..32 {
         if used >> at as u64 == 0 {
             return 32;
         }
@@ -166,13 +161,11 @@ fn place_from(channels: &[u64; 33], used: u64, channel: u64, from: usize) -> usi
 fn at_most_32(n: u64) -> usize
     ensures { (result ≡ min n 32) × (result ≤ 32) }
 {
-    if n < 32 {
-        return n as usize;
-    }
-    32
+    n.min(32) as usize
 }
 
 // The lowest free place, or 32: the lowest digit that is not set.
+#[tactic(auto, using(crate::proofs::Turns::free_is))]
 fn free_place(used: u64) -> usize
     ensures { (result ≡ free_in used) × (result ≤ 32) }
 {
@@ -181,6 +174,7 @@ fn free_place(used: u64) -> usize
 
 // How many places with nothing missing lie behind the place last asked, counted round, or 32: the
 // digits twice over, and those up to the place last asked shifted out.
+#[tactic(auto, using(crate::proofs::Turns::steps_is))]
 fn steps(lacking: u64, last: u64) -> usize
     requires { (lacking < 2 ^ 32) × (last < 32) }
     ensures { (result ≡ steps_in lacking last) × (result ≤ 32) }
@@ -189,154 +183,105 @@ fn steps(lacking: u64, last: u64) -> usize
     at_most_32(zeros_in(twice >> last + 1))
 }
 
-fn told(number: u64, a: u64, b: u64, c: u64) -> ChannelTold
-    ensures { result ≡ told_as (answer number (a ∷ b ∷ c ∷ [])) }
-{
-    ChannelTold {
-        answer: number,
-        values: [a, b, c, 0, 0, 0, 0, 0, 0],
+impl ChannelTold {
+    // An answer of 0 with up to three values.
+    fn done(a: u64, b: u64, c: u64) -> ChannelTold
+        ensures { result ≡ told_as (answer 0 (a ∷ b ∷ c ∷ [])) }
+    {
+        ChannelTold {
+            answer: 0,
+            values: [a, b, c, 0, 0, 0, 0, 0, 0],
+        }
+    }
+
+    fn refused(why: Refusal) -> ChannelTold
+        ensures { result ≡ told_as (refusal (number_of why)) }
+    {
+        ChannelTold {
+            answer: u64::from(u32::from(why)),
+            values: [0; 9],
+        }
+    }
+
+    fn tick(answer: Result<Passed, Refusal>) -> ChannelTold
+        ensures { result ≡ told_as (tick_paper answer) }
+    {
+        match answer {
+            Ok(passed) => ChannelTold::done(passed.first.value(), passed.count, 0),
+            Err(why) => ChannelTold::refused(why),
+        }
+    }
+
+    fn plain(answer: Result<(), Refusal>) -> ChannelTold
+        ensures { result ≡ told_as (paper_of answer) }
+    {
+        match answer {
+            Ok(()) => ChannelTold::done(0, 0, 0),
+            Err(why) => ChannelTold::refused(why),
+        }
+    }
+
+    fn count(answer: Result<u64, Refusal>) -> ChannelTold
+        ensures { result ≡ told_as (count_paper answer) }
+    {
+        match answer {
+            Ok(count) => ChannelTold::done(count, 0, 0),
+            Err(why) => ChannelTold::refused(why),
+        }
+    }
+
+    // A reply's two sets.
+    fn reply(answer: Result<Settled, Refusal>) -> ChannelTold
+        requires { answer ≡ laid_reply answer }
+        ensures { result ≡ told_as (retold settled_row (reply_paper answer)) }
+    {
+        match answer {
+            Ok(settled) => ChannelTold {
+                answer: 0,
+                values: host_ledger::settled_row(settled),
+            },
+            Err(why) => ChannelTold::refused(why),
+        }
+    }
+
+    // A granted request names its channel first.
+    fn request(channel: ChannelNumber, answer: Result<Range, Refusal>) -> ChannelTold
+        ensures { result ≡ told_as (named_paper channel.0 (request_paper answer)) }
+    {
+        match answer {
+            Ok(range) => ChannelTold::done(
+                u64::from(channel.value()),
+                range.first.value(),
+                range.last.value(),
+            ),
+            Err(why) => ChannelTold::refused(why),
+        }
     }
 }
 
-fn why(n: u32) -> ChannelTold
-    ensures { result ≡ told_as (refusal n) }
-{
-    ChannelTold {
-        answer: n as u64,
-        values: [0; 9],
-    }
-}
-
-fn tick_told(a: TickAnswer) -> ChannelTold
-    ensures { result ≡ told_as (tick_paper a) }
-{
-    match a {
-        TickAnswer::Refused(w) => why(w.number()),
-        TickAnswer::Passed { first, count } => told(0, first.value(), count, 0),
-    }
-}
-
-fn noted_told(a: Answer) -> ChannelTold
-    ensures { result ≡ told_as (paper_of a) }
-{
-    match a {
-        Answer::Refused(w) => why(w.number()),
-        Answer::Done => why(0),
-    }
-}
-
-fn count_told(a: Answer, count: u64) -> ChannelTold
-    ensures { result ≡ told_as (count_paper a count) }
-{
-    match a {
-        Answer::Refused(w) => told(w.number() as u64, count, 0, 0),
-        Answer::Done => told(0, count, 0, 0),
-    }
-}
-
-// A reply's two sets, beside its number.
-fn sets_told(number: u64, first: TickNumber, given_up: Map, passed: Map) -> ChannelTold
-    ensures { result ≡ told_as (answer number (setsRow first.0 given_up passed)) }
-{
-    let g = given_up.words;
-    let p = passed.words;
-    ChannelTold {
-        answer: number,
-        values: [
-            first.value(),
-            g[0],
-            g[1],
-            g[2],
-            g[3],
-            p[0],
-            p[1],
-            p[2],
-            p[3],
-        ],
-    }
-}
-
-fn reply_told(a: ReplyAnswer, first: TickNumber, given_up: Map, passed: Map) -> ChannelTold
-    ensures { result ≡ told_as (answer (reply_paper a first given_up passed).number (setsRow first.0 given_up passed)) }
-{
-    match a {
-        ReplyAnswer::Refused(w) => sets_told(w.number() as u64, first, given_up, passed),
-        ReplyAnswer::Cleared => sets_told(0, first, given_up, passed),
-    }
-}
-
-fn request_told(channel: ChannelNumber, a: RequestAnswer) -> ChannelTold
-    ensures { result ≡ told_as (named_paper channel.0 (request_paper a)) }
-{
-    match a {
-        RequestAnswer::Refused(w) => why(w.number()),
-        RequestAnswer::Granted { first, last } => told(
-            0,
-            channel.value() as u64,
-            first.value(),
-            last.value(),
-        ),
-    }
-}
-
-fn asks(pending: Pending) -> bool
-    ensures { result ≡ is_pending (asked_of pending) }
-{
-    match pending {
-        Pending::Nothing => false,
-        Pending::Range { first: _, last: _ } => true,
-    }
-}
-
+#[tactic(auto, unfolding(ledger::specs::State::book_of))]
 fn lacks(ledger: Ledger) -> bool
     ensures { result ≡ misses (holds (book_of ledger)) }
 {
-    let floor = ledger.floor;
-    let top = ledger.top;
-    top.value() != floor.value()
-}
-
-// Whether two tests agree.
-fn agree(a: bool, b: bool) -> bool
-    ensures { result ≡ agree a b }
-{
-    if a {
-        return b;
-    }
-    !b
-}
-
-// Whether an answer is 0.
-fn done(a: Answer) -> bool
-    ensures { result ≡ eqb (paper_of a).number 0 }
-{
-    match a {
-        Answer::Done => true,
-        Answer::Refused(_) => false,
-    }
+    ledger.top != ledger.floor
 }
 
 // A status above a byte is none.
 fn status_in(second: u64) -> u8
     ensures { result ≡ status_in second }
 {
-    if second < 255 {
-        return second as u8;
-    }
-    255
+    u8::try_from(second).unwrap_or(u8::MAX)
 }
 
 // What a call is answered that finds no place: a request 15, a new session 0, any other 18.
-fn none_there(code: u64) -> u32
-    ensures { result ≡ none_there code }
+fn none_there(code: u64) -> Result<(), Refusal>
+    ensures { verdict_number result ≡ none_there code }
 {
-    if code == 4 {
-        return 15;
+    match code {
+        4 => Err(Refusal::Whole),
+        7 => Ok(()),
+        _ => Err(Refusal::Channel),
     }
-    if code == 7 {
-        return 0;
-    }
-    18
 }
 
 // A turn to a row.
@@ -353,43 +298,39 @@ fn turned(channels: &[u64; 33], at: usize, once: bool) -> Turn
 
 impl Index {
     // Bits within bits, and places in range.
+    #[tactic(auto, unfolding(crate::specs::Index::index_sound))]
     fn sound(self) -> bool
         ensures { result ≡ index_sound self }
     {
-        let used = self.used;
-        let lacking = self.lacking;
-        let asked = self.asked;
-        let right = (used < 4294967296) & ((lacking | used) == used) & (self.last < 32);
-        right & ((asked == 32) | open_at(used, asked))
+        let within = (self.used < 4294967296)
+            & ((self.lacking | self.used) == self.used)
+            & (self.last < 32);
+        within & ((self.asked == 32) | open_at(self.used, self.asked))
     }
 
     // The place whose turn it is, or 32.
+    #[tactic(auto, unfolding(crate::specs::Index::turn_in))]
     fn turn(self) -> usize
         ensures { (result ≡ turn_in self) × (result ≤ 32) }
     {
-        let lacking = self.lacking;
-        let last = self.last;
-        if lacking >= 4294967296 {
+        if self.lacking >= 4294967296 || self.last >= 32 {
             return 32;
         }
-        if last >= 32 {
-            return 32;
-        }
-        let k = steps(lacking, last);
+        let k = steps(self.lacking, self.last);
         if k >= 32 {
             return 32;
         }
-        (last as usize + 1 + k) % 32
+        (self.last as usize + 1 + k) % 32
     }
 
     // A request is about the place whose request is pending, which answers 14, or else about the
     // place whose turn it is.
+    #[tactic(auto, unfolding(crate::specs::Turn::asked_or_turn))]
     fn asked_or_turn(self) -> usize
         ensures { (result ≡ asked_or_turn self) × (result ≤ 32) }
     {
-        let asked = self.asked;
-        if asked < 32 {
-            return asked as usize;
+        if self.asked < 32 {
+            return self.asked as usize;
         }
         self.turn()
     }
@@ -408,37 +349,35 @@ impl Index {
     // The row that a call is about, or 32: a request's and a new session's by the index, any other
     // call's by the channel that it names. The names are lent: a copy of them costs more than a
     // request.
+    #[tactic(auto, using(crate::proofs::Turns::place_first), unfolding(crate::specs::Turn::turn_of, crate::specs::Turn::once_of))]
     pub fn turn_to(self, names: &[u64; 33], call: ChannelCall) -> Turn
         ensures { (result ≡ turned_of self names.now call) × (result.at ≤ 32) }
     {
-        let code = call.code;
-        if code == 4 {
+        if call.code == 4 {
             return turned(names, self.asked_or_turn(), true);
         }
-        if code == 7 {
+        if call.code == 7 {
             return turned(names, at_most_32(self.asked), true);
         }
         let own = place_from(names, self.used, call.channel, 0);
         let second = place_from(names, self.used, call.channel, own + 1);
         let once = second >= 32;
-        if code == 0 {
+        if call.code == 0 {
             return turned(names, self.opening(own), once);
         }
         turned(names, own, once)
     }
 
     // The index after the ledger at a place has come to `next`.
+    #[tactic(auto, using(crate::proofs::Seam::asks_is), unfolding(crate::specs::Told::index_at, ledger::specs::State::book_of))]
     fn kept(mut self, at: usize, next: Ledger) -> Index
         requires { at < 32 }
         ensures { result ≡ index_at self at (book_of next) }
     {
-        let pending = next.pending;
         self.lacking = with_bit(self.lacking, at as u64, lacks(next));
-        if asks(pending) {
+        if next.pending.is_some() {
             self.asked = at as u64;
-            return self;
-        }
-        if self.asked == at as u64 {
+        } else if self.asked == at as u64 {
             self.asked = 32;
         }
         self
@@ -453,6 +392,7 @@ impl Index {
     }
 
     // Its own pending request is cleared; another's stays.
+    #[tactic(auto, unfolding(crate::specs::Answered::closed_at))]
     fn closed_at(mut self, at: usize) -> Index
         requires { at < 32 }
         ensures { result ≡ closed_at self at }
@@ -477,29 +417,215 @@ impl Index {
 }
 
 impl Answered {
-    fn moved(self, at: usize) -> Answered
+    fn moved(mut self, at: usize) -> Answered
         ensures { result ≡ moved_of self at }
     {
-        let index = self.index;
-        let row = self.row;
-        let told = self.told;
+        self.index = self.index.asked_at(at, self.told.answer);
+        self
+    }
+}
+
+impl Place {
+    fn ledger(self) -> Ledger
+        ensures { result ≡ ledger_in self.row.words }
+    {
+        host_words::ledger_in(&self.row.words)
+    }
+
+    // Whether row and index agree on the place: a ledger of the channel beside it, its bit right,
+    // its request pending exactly where `asked` says.
+    #[tactic(auto, using(crate::proofs::Seam::asks_is), unfolding(crate::specs::Answered::row_fits, ledger::specs::State::book_of))]
+    fn fits(self) -> bool
+        ensures { result ≡ row_fits (book_in self.row.words) self.index self.turn }
+    {
+        let ledger = self.ledger();
+        let at = self.turn.at as u64;
+        let own = self.turn.name == u64::from(ledger.channel.value());
+        let lacking = bit_in(self.index.lacking, at) == lacks(ledger);
+        let waiting = ledger.pending.is_some() == (self.index.asked == at);
+        own & lacking & waiting
+    }
+
+    // Whether the ledger keeps its own rules.
+    #[tactic(auto, using(crate::proofs::Seam::sound_is))]
+    fn sound(self) -> bool
+        ensures { result ≡ sound_of (book_in self.row.words) }
+    {
+        self.ledger().missing().answer.is_ok()
+    }
+
+    // Index, name and row stay as they were.
+    fn kept(self, told: ChannelTold) -> Answered
+        ensures { result ≡ kept_of self.row self.index self.turn told }
+    {
+        self.row.kept(self.index, self.turn, told)
+    }
+
+    fn refused(self, why: Refusal) -> Answered
+        ensures { result ≡ refused_of self.row self.index self.turn (number_of why) }
+    {
+        self.kept(ChannelTold::refused(why))
+    }
+
+    // The ledger that stands beside an answer, stored.
+    fn stored(self, next: Ledger, told: ChannelTold) -> Answered
+        ensures { result ≡ stored_of self.index self.turn next told }
+    {
         Answered {
-            index: index.asked_at(at, told.answer),
-            name: self.name,
-            row,
+            index: self.index.kept(self.turn.at, next),
+            name: self.turn.name,
+            row: Row::of(next),
             told,
+        }
+    }
+
+    // What the ledger's call leaves: 0 and 12 store the ledger that stands beside the answer, any
+    // other refusal leaves all as it was.
+    #[tactic(auto, unfolding(crate::specs::Answered::left_of))]
+    fn left(self, next: Ledger, told: ChannelTold) -> Answered
+        ensures { result ≡ left_of self.row self.index self.turn next told }
+    {
+        if told.answer == 0 || told.answer == 12 {
+            return self.stored(next, told);
+        }
+        self.kept(told)
+    }
+
+    #[tactic(auto, unfolding(ledger::specs::State::book_of))]
+    fn ticked(self, number: u64) -> Answered
+        ensures { result ≡ said_of plain self.row self.index self.turn (Tick (book_in self.row.words).channel number) }
+    {
+        let ledger = self.ledger();
+        let called = ledger.tick(ledger.channel, TickNumber::new(number));
+        self.left(called.next, ChannelTold::tick(called.answer))
+    }
+
+    #[tactic(auto, unfolding(ledger::specs::State::book_of))]
+    fn announced(self, number: u64) -> Answered
+        ensures { result ≡ said_of plain self.row self.index self.turn (Announce (book_in self.row.words).channel number) }
+    {
+        let ledger = self.ledger();
+        let called = ledger.announce(ledger.channel, TickNumber::new(number));
+        self.left(called.next, ChannelTold::plain(called.answer))
+    }
+
+    // Beside 0 two sets: what is given up, and what is handed out.
+    #[tactic(auto, unfolding(ledger::specs::State::book_of))]
+    fn replied(self, first: u64, status: u64) -> Answered
+        ensures { result ≡ said_of (retold settled_row) self.row self.index self.turn (Reply (book_in self.row.words).channel first (status_in status)) }
+    {
+        let ledger = self.ledger();
+        let called = ledger.reply(ledger.channel, TickNumber::new(first), status_in(status));
+        self.left(called.next, ChannelTold::reply(called.answer))
+    }
+
+    // How many numbers from a to b are missing.
+    #[tactic(auto, unfolding(ledger::specs::State::book_of))]
+    fn between(self, a: u64, b: u64) -> Answered
+        ensures { result ≡ said_of plain self.row self.index self.turn (Ask (Between (book_in self.row.words).channel a b)) }
+    {
+        let ledger = self.ledger();
+        let called = ledger.missing_between(ledger.channel, TickNumber::new(a), TickNumber::new(b));
+        self.left(called.next, ChannelTold::count(called.answer))
+    }
+
+    // A new session: what is pending no longer is.
+    fn renewed(self) -> Answered
+        ensures { result ≡ said_of plain self.row self.index self.turn Renew }
+    {
+        let called = self.ledger().renewed();
+        self.left(called.next, ChannelTold::plain(called.answer))
+    }
+
+    // Granted, the place was asked last. 14, 15.
+    #[tactic(auto, unfolding(ledger::specs::State::book_of))]
+    fn requested(self) -> Answered
+        ensures { result ≡ requested_of self.row self.index self.turn }
+    {
+        let ledger = self.ledger();
+        let called = ledger.request(ledger.channel);
+        let left = self.left(
+            called.next,
+            ChannelTold::request(ledger.channel, called.answer),
+        );
+        left.moved(self.turn.at)
+    }
+
+    // An opening of a channel that is open. 13, 10, 22.
+    #[tactic(auto, unfolding(crate::specs::Answered::taken_of))]
+    fn taken(self, channel: u64) -> Answered
+        ensures { result ≡ taken_of self.row self.index self.turn channel }
+    {
+        if !(self.fits() & self.sound()) {
+            return self.refused(Refusal::State);
+        }
+        if 9999 < channel {
+            return self.refused(Refusal::Range);
+        }
+        self.refused(Refusal::Open)
+    }
+
+    // The place is free, its row blank.
+    #[tactic(auto, unfolding(crate::specs::Answered::closed_of))]
+    fn closed(self) -> Answered
+        ensures { result ≡ closed_of self.row self.index self.turn }
+    {
+        if !self.sound() {
+            return self.refused(Refusal::State);
+        }
+        Answered {
+            index: self.index.closed_at(self.turn.at),
+            name: 0,
+            row: Row { words: [0; 9] },
+            told: ChannelTold::done(0, 0, 0),
+        }
+    }
+
+    // Floor, top, how many numbers are missing and held, the pending request's first and last
+    // number, or 0 and 0. 13.
+    #[tactic(auto, unfolding(crate::specs::Answered::telling_of))]
+    fn telling(self) -> Answered
+        ensures { result ≡ telling_of self.row self.index self.turn }
+    {
+        let ledger = self.ledger();
+        match ledger.missing().answer {
+            Ok(missing) => self.kept(ChannelTold {
+                answer: 0,
+                values: [
+                    ledger.floor.value(),
+                    ledger.top.value(),
+                    missing,
+                    ledger.held().answer.unwrap_or(0),
+                    host_words::first_asked(ledger.pending),
+                    host_words::last_asked(ledger.pending),
+                    0,
+                    0,
+                    0,
+                ],
+            }),
+            Err(why) => self.refused(why),
+        }
+    }
+
+    // A call on the ledger of an open channel.
+    #[tactic(auto, unfolding(crate::specs::Answered::served_of))]
+    fn served(self, call: ChannelCall) -> Answered
+        ensures { result ≡ served_of self.row self.index self.turn call }
+    {
+        match call.code {
+            1 => self.closed(),
+            2 => self.ticked(call.number),
+            3 => self.announced(call.number),
+            4 => self.requested(),
+            5 => self.replied(call.number, call.second),
+            6 => self.between(call.number, call.second),
+            7 => self.renewed(),
+            _ => self.telling(),
         }
     }
 }
 
 impl Row {
-    fn ledger(self) -> Ledger
-        ensures { result ≡ ledger_in self.words }
-    {
-        let w = self.words;
-        host_words::ledger_in(&w)
-    }
-
     fn of(ledger: Ledger) -> Row
         ensures { result ≡ row_in ledger }
     {
@@ -508,297 +634,76 @@ impl Row {
         }
     }
 
-    // Whether row and index agree on a place: a ledger of the channel beside it, its bit right, its
-    // request pending exactly where `asked` says.
-    fn fits(self, index: Index, turn: Turn) -> bool
-        requires { turn.at < 32 }
-        ensures { result ≡ row_fits (book_in self.words) index turn }
+    // Index, name and row stay as they were.
+    fn kept(self, index: Index, turn: Turn, told: ChannelTold) -> Answered
+        ensures { result ≡ kept_of self index turn told }
     {
-        let l = self.ledger();
-        let channel = l.channel;
-        let pending = l.pending;
-        let at = turn.at as u64;
-        let own = turn.name == channel.value() as u64;
-        let lacking = agree(bit_in(index.lacking, at), lacks(l));
-        let waiting = agree(asks(pending), index.asked == at);
-        own & lacking & waiting
-    }
-
-    // Whether the ledger keeps its own rules.
-    fn sound(self) -> bool
-        ensures { result ≡ sound_of (book_in self.words) }
-    {
-        let counted = self.ledger().missing();
-        let given = counted.answer;
-        done(given)
+        Answered {
+            index,
+            name: turn.name,
+            row: self,
+            told,
+        }
     }
 
     // A refusal leaves all as it was.
-    fn refused(self, index: Index, turn: Turn, n: u32) -> Answered
-        ensures { result ≡ refused_of self index turn n }
+    fn refused(self, index: Index, turn: Turn, why: Refusal) -> Answered
+        ensures { result ≡ refused_of self index turn (number_of why) }
     {
-        Answered {
-            index,
-            name: turn.name,
-            row: self,
-            told: why(n),
-        }
-    }
-
-    // The ledger that stands beside an answer, stored.
-    fn stored(next: Ledger, index: Index, turn: Turn, told: ChannelTold) -> Answered
-        requires { turn.at < 32 }
-        ensures { result ≡ stored_of index turn next told }
-    {
-        Answered {
-            index: index.kept(turn.at, next),
-            name: turn.name,
-            row: Row::of(next),
-            told,
-        }
-    }
-
-    // What the ledger's call leaves: 0 and 12 store the ledger that stands beside the answer, any
-    // other refusal leaves all as it was.
-    fn left(self, index: Index, turn: Turn, next: Ledger, told: ChannelTold) -> Answered
-        requires { turn.at < 32 }
-        ensures { result ≡ left_of self index turn next told }
-    {
-        if told.answer == 0 {
-            return Row::stored(next, index, turn, told);
-        }
-        if told.answer == 12 {
-            return Row::stored(next, index, turn, told);
-        }
-        Answered {
-            index,
-            name: turn.name,
-            row: self,
-            told,
-        }
-    }
-
-    fn ticked(self, index: Index, turn: Turn, number: u64) -> Answered
-        requires { turn.at < 32 }
-        ensures { result ≡ said_of plain self index turn (Tick (book_in self.words).channel number) }
-    {
-        let l = self.ledger();
-        let channel = l.channel;
-        let t = l.tick(channel, TickNumber::new(number));
-        let next = t.next;
-        let a = t.answer;
-        self.left(index, turn, next, tick_told(a))
-    }
-
-    fn announced(self, index: Index, turn: Turn, number: u64) -> Answered
-        requires { turn.at < 32 }
-        ensures { result ≡ said_of plain self index turn (Announce (book_in self.words).channel number) }
-    {
-        let l = self.ledger();
-        let channel = l.channel;
-        let t = l.announce(channel, TickNumber::new(number));
-        let next = t.next;
-        let a = t.answer;
-        self.left(index, turn, next, noted_told(a))
-    }
-
-    // Beside 0 two sets: what is given up, and what is handed out.
-    fn replied(self, index: Index, turn: Turn, first: u64, status: u64) -> Answered
-        requires { turn.at < 32 }
-        ensures { result ≡ said_of (retold settled_row) self index turn (Reply (book_in self.words).channel first (status_in status)) }
-    {
-        let l = self.ledger();
-        let channel = l.channel;
-        let t = l.reply(channel, TickNumber::new(first), status_in(status));
-        let next = t.next;
-        let a = t.answer;
-        let from = t.first;
-        let given_up = t.given_up;
-        let passed = t.passed;
-        self.left(index, turn, next, reply_told(a, from, given_up, passed))
-    }
-
-    // How many numbers from a to b are missing.
-    fn between(self, index: Index, turn: Turn, a: u64, b: u64) -> Answered
-        requires { turn.at < 32 }
-        ensures { result ≡ said_of plain self index turn (Ask (Between (book_in self.words).channel a b)) }
-    {
-        let l = self.ledger();
-        let channel = l.channel;
-        let t = l.missing_between(channel, TickNumber::new(a), TickNumber::new(b));
-        let next = t.next;
-        let given = t.answer;
-        self.left(index, turn, next, count_told(given, t.count))
-    }
-
-    // A new session: what is pending no longer is.
-    fn renewed(self, index: Index, turn: Turn) -> Answered
-        requires { turn.at < 32 }
-        ensures { result ≡ said_of plain self index turn Renew }
-    {
-        let t = self.ledger().renewed();
-        let next = t.next;
-        let a = t.answer;
-        self.left(index, turn, next, noted_told(a))
-    }
-
-    // Granted, the place was asked last. 14, 15.
-    fn requested(self, index: Index, turn: Turn) -> Answered
-        requires { turn.at < 32 }
-        ensures { result ≡ requested_of self index turn }
-    {
-        let l = self.ledger();
-        let channel = l.channel;
-        let t = l.request(channel);
-        let next = t.next;
-        let a = t.answer;
-        let left = self.left(index, turn, next, request_told(channel, a));
-        left.moved(turn.at)
-    }
-
-    // An opening of a channel that is open. 13, 10, 22.
-    fn taken(self, index: Index, turn: Turn, channel: u64) -> Answered
-        requires { turn.at < 32 }
-        ensures { result ≡ taken_of self index turn channel }
-    {
-        if !(self.fits(index, turn) & self.sound()) {
-            return self.refused(index, turn, 13);
-        }
-        if 9999 < channel {
-            return self.refused(index, turn, 10);
-        }
-        self.refused(index, turn, 22)
+        self.kept(index, turn, ChannelTold::refused(why))
     }
 
     // The lowest free place takes a fresh ledger. 13, 10, 22, 21.
+    #[tactic(auto, using(crate::proofs::Seam::opens_fresh), unfolding(crate::specs::Answered::opened_of))]
     fn opened(self, index: Index, turn: Turn, channel: u64) -> Answered
         ensures { result ≡ opened_of self index turn channel }
     {
         if open_at(index.used, turn.at as u64) {
-            return self.taken(index, turn, channel);
+            let place = Place {
+                row: self,
+                index,
+                turn,
+            };
+            return place.taken(channel);
         }
         if 9999 < channel {
-            return self.refused(index, turn, 10);
+            return self.refused(index, turn, Refusal::Range);
         }
         if turn.at >= 32 {
-            return self.refused(index, turn, 21);
+            return self.refused(index, turn, Refusal::Full);
         }
-        let noted = Ledger::opened(ChannelNumber::new(channel as u16));
-        let fresh = noted.next;
         Answered {
             index: index.opened_at(turn.at),
             name: channel,
-            row: Row::of(fresh),
-            told: why(0),
+            row: Row::of(Ledger::opened(ChannelNumber::new(channel as u16)).next),
+            told: ChannelTold::done(0, 0, 0),
         }
-    }
-
-    // The place is free, its row blank.
-    fn closed(self, index: Index, turn: Turn) -> Answered
-        requires { turn.at < 32 }
-        ensures { result ≡ closed_of self index turn }
-    {
-        if !self.sound() {
-            return self.refused(index, turn, 13);
-        }
-        Answered {
-            index: index.closed_at(turn.at),
-            name: 0,
-            row: Row { words: [0; 9] },
-            told: why(0),
-        }
-    }
-
-    // Floor, top, how many numbers are missing and held, the pending request's first and last
-    // number, or 0 and 0.
-    fn shown(self) -> [u64; 9]
-        ensures { sound_of (book_in self.words) ≡ true → result ≡ padded (told_of (book_in self.words)) }
-    {
-        let l = self.ledger();
-        let floor = l.floor;
-        let top = l.top;
-        let pending = l.pending;
-        let missing = l.missing();
-        let held = l.held();
-        [
-            floor.value(),
-            top.value(),
-            missing.count,
-            held.count,
-            host_words::first_asked(pending),
-            host_words::last_asked(pending),
-            0,
-            0,
-            0,
-        ]
-    }
-
-    fn telling(self, index: Index, turn: Turn) -> Answered
-        ensures { result ≡ telling_of self index turn }
-    {
-        if !self.sound() {
-            return self.refused(index, turn, 13);
-        }
-        Answered {
-            index,
-            name: turn.name,
-            row: self,
-            told: ChannelTold {
-                answer: 0,
-                values: self.shown(),
-            },
-        }
-    }
-
-    // A call on the ledger of an open channel.
-    fn served(self, index: Index, turn: Turn, call: ChannelCall) -> Answered
-        requires { turn.at < 32 }
-        ensures { result ≡ served_of self index turn call }
-    {
-        let code = call.code;
-        if code == 1 {
-            return self.closed(index, turn);
-        }
-        if code == 2 {
-            return self.ticked(index, turn, call.number);
-        }
-        if code == 3 {
-            return self.announced(index, turn, call.number);
-        }
-        if code == 4 {
-            return self.requested(index, turn);
-        }
-        if code == 5 {
-            return self.replied(index, turn, call.number, call.second);
-        }
-        if code == 6 {
-            return self.between(index, turn, call.number, call.second);
-        }
-        if code == 7 {
-            return self.renewed(index, turn);
-        }
-        self.telling(index, turn)
     }
 
     // What a call answers that is about this row, at this place; 32 is no place. 13; 10, 22, 21 of
     // an opening; 15 of a request, 18 of any other call but a new session; then the ledger's own.
+    #[tactic(auto, unfolding(crate::specs::Answered::answered_of))]
     pub fn answered(self, index: Index, turn: Turn, call: ChannelCall) -> Answered
         ensures { result ≡ answered_of self index turn call }
     {
-        let code = call.code;
         if !(index.sound() & turn.once) {
-            return self.refused(index, turn, 13);
+            return self.refused(index, turn, Refusal::State);
         }
-        if code == 0 {
+        if call.code == 0 {
             return self.opened(index, turn, call.channel);
         }
         if turn.at >= 32 {
-            return self.refused(index, turn, none_there(code));
+            return self.kept(index, turn, ChannelTold::plain(none_there(call.code)));
         }
-        if !self.fits(index, turn) {
-            return self.refused(index, turn, 13);
+        let place = Place {
+            row: self,
+            index,
+            turn,
+        };
+        if !place.fits() {
+            return place.refused(Refusal::State);
         }
-        self.served(index, turn, call)
+        place.served(call)
     }
 }
 
@@ -807,18 +712,15 @@ impl Channels {
     pub fn none() -> Channels
         ensures { result ≡ empty_channels }
     {
-        let names = Names { channels: [0; 33] };
-        let index = Index {
-            used: 0,
-            lacking: 0,
-            asked: 32,
-            last: 31,
-        };
-        let row = Row { words: [0; 9] };
         Channels {
-            names,
-            index,
-            rows: [row; 33],
+            names: Names { channels: [0; 33] },
+            index: Index {
+                used: 0,
+                lacking: 0,
+                asked: 32,
+                last: 31,
+            },
+            rows: [Row { words: [0; 9] }; 33],
         }
     }
 }

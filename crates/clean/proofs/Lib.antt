@@ -1,5 +1,4 @@
-mod Keeps
 mod PassLaws
 pub mod OneAnswer
 pub mod RuledOut
-mod Eights
+mod Parts

@@ -6,7 +6,7 @@ use mathlib.Core.List.{List, [], ◌∷◌, ◌++◌}
 use lib.ListN.{length, replicate}
 use Rattle.terms.specs.Paper.{Paper, answer}
 use Rattle.terms.specs.Refusals.{refusal_of}
-use Rattle.terms.specs.RuledOut.{Row, ◌never◌, ◌only◌, Kept, RulesOut, ruled, lists, papers, Left, left, lefts, left_is}
+use Rattle.terms.specs.RuledOut.{Row, ◌never◌, ◌only◌, Kept, RulesOut, ruled, papers, Left, left, lefts, left_is}
 use Rattle.octets.specs.Octets.{numeral, digits_of, laid, sum8, sum_of}
 use Rattle.calendar.specs.Calendar.{leap, days_in, real_parts, real_time}
 use Rattle.rules.specs.Table.{kind_of, suits, measure_of}

@@ -1,37 +1,35 @@
 -- What one pass counted, and what cleaning then answers and leaves; and each answer told
 -- from its paper.
-use Rattle.std.specs.Prelude.{ℕ, ◌≤◌, ◌≡◌, refl, true, List, [], ◌∷◌, length}
-use Rattle.std.proofs.Common.{sym, ◌∙◌}
+use Rattle.std.specs.Prelude.{ℕ, ◌≤◌, ◌≡◌, refl, true, List, [], ◌∷◌, length, Result, Ok, Err, Option, Some, None}
+use Rattle.std.proofs.Common.{sym, ◌∙◌, ⊎_elim}
 use Rattle.std.proofs.Math.Path.{ap}
 use Rattle.std.proofs.Math.Dec.{leb}
+use Rattle.terms.specs.Cases.{two}
 use Rattle.terms.specs.Paper.{Paper, answer, one_number}
+use Rattle.terms.specs.Refusals.{number_of, refusal_not_0, refusal_pos, told}
+use Rattle.terms.proofs.Refusals.{refusal_back}
+use Rattle.terms.specs.declared.Refusal.{Refusal}
 use Rattle.octets.specs.Octets.{laid}
 use Rattle.ledger_spec.specs.Words.{value_at}
-use Rattle.ledger.specs.declared.Answer.{Answer}
-use Rattle.ledger.specs.Papers.{count_paper_one}
 use Rattle.walk_spec.specs.Walk.{sights, frames_of}
-use Rattle.walk_spec.specs.Answers.{Refusing, refusing_leaves}
 use Rattle.clean.specs.declared.Cleaned.{Cleaned}
-use Rattle.clean.specs.declared.Check.{Check}
-use Rattle.clean.specs.declared.Check.TheVariants.{Clean, Changed}
-use Rattle.clean.specs.declared.Passed.{Passed}
 use Rattle.clean_spec.specs.Clean.{clean_of, found_of, fits_in, clean_answer, clean_leaves}
-use Rattle.clean.specs.Papers.{clean_paper, check_paper}
-use Rattle.clean.specs.Passes.{passed_of}
+use Rattle.clean.specs.Papers.{clean_paper, places_of, check_paper}
+use Rattle.clean.specs.Passes.{cleaned_of}
 use Rattle.clean_spec.specs.Answers.{fits_room, left_kept, answer_done}
 
-module _ (s : List ℕ) (x : Passed) (e : x ≡ passed_of s) where
+module _ (s : List ℕ) (x : Cleaned) (e : x ≡ cleaned_of s) where
   bytes_is : x.bytes ≡ length (clean_of s)
-  unfolding passed_of
-  bytes_is = ap (λ (y : Passed). y.bytes) e
+  unfolding cleaned_of
+  bytes_is = ap (λ (y : Cleaned). y.bytes) e
 
   frames_is : x.frames ≡ frames_of (sights s)
-  unfolding passed_of
-  frames_is = ap (λ (y : Passed). y.frames) e
+  unfolding cleaned_of
+  frames_is = ap (λ (y : Cleaned). y.frames) e
 
   found_is : x.after_damage ≡ found_of s
-  unfolding passed_of
-  found_is = ap (λ (y : Passed). y.after_damage) e
+  unfolding cleaned_of
+  found_is = ap (λ (y : Cleaned). y.after_damage) e
 
   pub fits_counted : (room : ℕ) → leb x.bytes room ≡ fits_in s room
   unfolding fits_in
@@ -45,31 +43,36 @@ module _ (s : List ℕ) (x : Passed) (e : x ≡ passed_of s) where
 
 -- ONE PAPER, ONE ANSWER
 
-same : (a b : Answer) (i j k m n o : ℕ) → a ≡ b → i ≡ j → k ≡ m → n ≡ o
-    → ◌≡◌ {A = Cleaned} (record { answer = a; bytes = i; frames = k; after_damage = n }) (record { answer = b; bytes = j; frames = m; after_damage = o })
-same a b i j k m n o p q r s = cc
+-- the answer told from its paper
+cleaned_told : Paper → Result Cleaned Refusal
+cleaned_told p = told (λ (vs : List ℕ). Ok (record { bytes = value_at p 0; frames = value_at p 1; after_damage = value_at p 2 })) Err p
 
-pub cleaned_one : (x y : Cleaned) → clean_paper x ≡ clean_paper y → x ≡ y
-cleaned_one x y e =
-    let a : x.answer ≡ y.answer = (count_paper_one x.answer y.answer _ _ (ap (λ (p : Paper). answer p.number (value_at p 0 ∷ [])) e)).0 in
-    same _ _ _ _ _ _ _ _ a (ap (λ (p : Paper). value_at p 0) e) (ap (λ (p : Paper). value_at p 1) e) (ap (λ (p : Paper). value_at p 2) e)
+told_back : (r : Result Cleaned Refusal) → cleaned_told (clean_paper r) ≡ r
+unfolding cleaned_told told
+told_back (Ok c) = refl
+told_back (Err w) = rw (refusal_not_0 w, refusal_back w)
 
-abbrev check_told : List ℕ → Check
-check_told [] = Clean
-check_told (p ∷ ps) = Changed p
+pub cleaned_one : (x y : Result Cleaned Refusal) → clean_paper x ≡ clean_paper y → x ≡ y
+cleaned_one x y e = sym (told_back x) ∙ ap cleaned_told e ∙ told_back y
 
-check_told_lem : (x : Check) → check_told (check_paper x).values ≡ x
-check_told_lem Clean = refl
-check_told_lem (Changed p) = refl
+abbrev check_told : List ℕ → Option ℕ
+check_told [] = None
+check_told (p ∷ ps) = Some p
 
-pub check_one : (x y : Check) → check_paper x ≡ check_paper y → x ≡ y
+check_told_lem : (x : Option ℕ) → check_told (places_of x) ≡ x
+check_told_lem None = refl
+check_told_lem (Some p) = refl
+
+pub check_one : (x y : Option ℕ) → check_paper x ≡ check_paper y → x ≡ y
 check_one x y e = sym (check_told_lem x) ∙ ap (λ (p : Paper). check_told p.values) e ∙ check_told_lem y
 
 -- A REFUSAL LEAVES THE BUFFER AS IT WAS
 
-abbrev pub Refuses : Cleaned → Type 0
-Refuses x = Refusing x.answer
+abbrev pub Refuses : Result Cleaned Refusal → Type 0
+Refuses x = (w : Refusal) × (x ≡ Err w)
 
 module _ (s d : List ℕ) where
-  pub refused_leaves : (e : List ℕ) (x : Cleaned) → Refuses x → clean_paper x ≡ clean_answer s (length d) → e ≡ clean_leaves s d → e ≡ d
-  refused_leaves e x w p q = refusing_leaves x.answer w _ (one_number p) (fits_in s (length d)) (answer_done s d) d e (λ f. q ∙ left_kept s d f)
+  pub refused_leaves : (e : List ℕ) (x : Result Cleaned Refusal) → Refuses x → clean_paper x ≡ clean_answer s (length d) → e ≡ clean_leaves s d → e ≡ d
+  refused_leaves e x w p q =
+      let n : number_of w.0 ≡ (clean_answer s (length d)).number = sym (ap (λ (y : Result Cleaned Refusal). (clean_paper y).number) w.1) ∙ one_number p in
+      ⊎_elim (λ (f : fits_in s (length d) ≡ true). absurd (refusal_pos w.0 (n ∙ answer_done s d f))) (λ f. q ∙ left_kept s d f) (two (fits_in s (length d)))

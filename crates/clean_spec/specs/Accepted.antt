@@ -1,6 +1,6 @@
 -- The accepted frames of a capture are those of `walk_laws`, and so they are no longer than
 -- the capture.
-use Rattle.std.specs.Prelude.{ℕ, zero, suc, ◌+◌, ◌-◌, ◌≤◌, ◌≡◌, true, false, List, [], ◌∷◌, ◌++◌, eqb, take, drop}
+use Rattle.std.specs.Prelude.{ℕ, zero, suc, ◌+◌, ◌≤◌, ◌≡◌, true, false, List, [], ◌∷◌, ◌++◌, eqb, take, drop}
 use Rattle.std.proofs.Math.Path.{refl, ap}
 use Rattle.std.proofs.Common.{sym, ap₂, ◌∙◌, ⊎_elim, append_assoc, append-nil, length-append, drop-drop, eq-eqb, ne_eqb}
 use native.Mathlib.Omega.{arith}

@@ -3,6 +3,7 @@ pub mod Steps
 pub mod Differ
 pub mod Turns
 pub mod Laid
+pub mod Kept
 pub mod Accepted
 pub mod Answers
 pub mod Own

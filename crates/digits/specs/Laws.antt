@@ -1,7 +1,7 @@
 -- Laws of decimal text: what is laid is digits that say its number, and digits laid again
 -- as they stood.
-use Rattle.std.specs.Prelude.{ℕ, zero, suc, ◌+◌, ◌*◌, ◌/◌, ◌%◌, ◌-◌, ◌<◌, ◌≤◌, ◌^◌, ◌≡◌, refl, Bool, true, false, ◌&&◌, List, [], ◌∷◌, ◌++◌, map, leb, length, get_or, take, drop}
-use Rattle.std.proofs.Common.{sym, ap, ◌∙◌, ⊎_elim, add-one, zero-add, not-suc-le-zero, le_of_suc-le-suc, arith, lit<, lit≤, length-append, length-drop, take-suc, take_all, length-take-le, get_or-take, get_or-drop, leb-true, le-leb}
+use Rattle.std.specs.Prelude.{ℕ, zero, suc, ◌+◌, ◌*◌, ◌/◌, ◌%◌, ◌-◌, ◌<◌, ◌≤◌, ◌^◌, ◌≡◌, refl, Bool, true, false, ◌&&◌, List, [], ◌∷◌, ◌++◌, map, leb, length, get_or, take}
+use Rattle.std.proofs.Common.{sym, ◌∙◌, ⊎_elim, add-one, zero-add, not-suc-le-zero, le_of_suc-le-suc, arith, lit<, lit≤, length-append, take-suc, take_all, length-take-le, leb-true, le-leb}
 use Rattle.std.proofs.Math.Bool.{and_assoc}
 use Rattle.std.proofs.lemmas.List.{map-append, length-map, get_or_at}
 use Rattle.std.proofs.Math.Nat.{pow-le-pow_right}
@@ -123,30 +123,25 @@ decimal_said t h =
     let l : length (map (λ (x : ℕ). x - 48) t) ≡ length t = length-map t (λ (x : ℕ). x - 48) in
     rw (digits_numeral 10 (lit< tt) (length t) 0 (map (λ (x : ℕ). x - 48) t) (values_below t h) (omega arith), take_all (length t) (map (λ (x : ℕ). x - 48) t) (omega arith)) (ascii_values t h)
 
--- FROM A PLACE ON
+-- FROM THE FRONT
 
-module _ (s : List ℕ) (at i : ℕ) where
-  piece_more : at + i < length s → take (i + 1) (drop at s) ≡ take i (drop at s) ++ (get_or s (at + i) 0 ∷ [])
-  piece_more h =
-      let l : i < length (drop at s) = simp length-drop (omega arith) in
-      rw (add-one i, take-suc (drop at s) i 0 l, get_or-drop at s i 0)
+module _ (t : List ℕ) (i : ℕ) (within : i < length t) where
+  piece_more : take (i + 1) t ≡ take i t ++ (get_or t i 0 ∷ [])
+  piece_more = rw add-one (take-suc t i 0 within)
 
   -- one digit more
-  pub all_on : at + i < length s → all_digits (take i (drop at s)) ≡ true → is_digit (get_or s (at + i) 0) ≡ true → all_digits (take (i + 1) (drop at s)) ≡ true
-  all_on h k l = rw (piece_more h) (all_more (take i (drop at s)) (get_or s (at + i) 0) k l)
+  pub all_on : all_digits (take i t) ≡ true → is_digit (get_or t i 0) ≡ true → all_digits (take (i + 1) t) ≡ true
+  all_on k l = rw piece_more (all_more (take i t) (get_or t i 0) k l)
 
-  pub said_on : at + i < length s → said_by (take (i + 1) (drop at s)) ≡ said_by (take i (drop at s)) * 10 + (get_or s (at + i) 0 - 48)
-  said_on h = rw (piece_more h) (said_more (take i (drop at s)) (get_or s (at + i) 0))
+  pub said_on : said_by (take (i + 1) t) ≡ said_by (take i t) * 10 + (get_or t i 0 - 48)
+  said_on = rw piece_more (said_more (take i t) (get_or t i 0))
 
   -- eighteen digits leave room for one more
-  pub said_room : at + i ≤ length s → i ≤ 18 → all_digits (take i (drop at s)) ≡ true → said_by (take i (drop at s)) < 10 ^ 18
-  said_room h k d =
-      let l : length (take i (drop at s)) ≡ i = length-take-le i (drop at s) (simp length-drop (omega arith)) in
-      omega (arith, rw l at (said_below (take i (drop at s)) d), pow-le-pow_right {n = 10} (lit< tt) {i = i} {j = 18} k)
+  pub said_room : length t ≤ 19 → all_digits (take i t) ≡ true → said_by (take i t) < 10 ^ 18
+  said_room k d =
+      let l : length (take i t) ≡ i = length-take-le i t (omega arith) in
+      omega (arith, rw l at (said_below (take i t) d), pow-le-pow_right {n = 10} (lit< tt) {i = i} {j = 18} (omega arith))
 
   -- a byte that is none
-  pub said_stops : (n : ℕ) → i < n → at + n ≤ length s → is_digit (get_or s (at + i) 0) ≡ false → all_digits (take n (drop at s)) ≡ false
-  said_stops n h k f =
-      let l : length (take n (drop at s)) ≡ n = length-take-le n (drop at s) (simp length-drop (omega arith)) in
-      let e : get_or (take n (drop at s)) i 0 ≡ get_or s (at + i) 0 = get_or-take n (drop at s) i 0 h ∙ get_or-drop at s i 0 in
-      ⊎_elim (λ (t : all_digits (take n (drop at s)) ≡ true). absurd (clash (ap is_digit (sym e) ∙ all_each (take n (drop at s)) i t (omega arith)) f)) (λ (g : all_digits (take n (drop at s)) ≡ false). g) (two (all_digits (take n (drop at s))))
+  pub said_stops : is_digit (get_or t i 0) ≡ false → all_digits t ≡ false
+  said_stops f = ⊎_elim (λ (h : all_digits t ≡ true). absurd (clash (all_each t i h within) f)) (λ (g : all_digits t ≡ false). g) (two (all_digits t))

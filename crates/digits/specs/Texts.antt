@@ -1,7 +1,7 @@
 -- Reading decimal text: a number is given exactly when the bytes say one, what is laid is read, and
 -- what is read is laid again as it stood. And no zero is needless.
 use Rattle.std.specs.Prelude.{ℕ, ◌+◌, ◌-◌, ◌<◌, ◌≤◌, ◌^◌, ◌≡◌, Bool, true, false, not, ◌&&◌, ◌||◌, List, [], ◌∷◌, leb, eqb, length, get_or, take, drop}
-use Rattle.std.proofs.Common.{sym, ap, ◌∙◌, inl, inr, ⊎_elim, add-zero, zero-add, zero-mul, one-mul, mul-le-mul_right, arith, lit<, lit≤, length-drop, length-take-le, get_or-take, get_or-drop, leb-true, eqb-true, le-leb, eq-eqb, ne_eqb}
+use Rattle.std.proofs.Common.{sym, ap, ◌∙◌, inl, inr, ⊎_elim, add-zero, zero-add, zero-mul, one-mul, mul-le-mul_right, arith, lit<, lit≤, length-drop, length-take-le, take_all, refl, get_or-take, get_or-drop, leb-true, eqb-true, le-leb, eq-eqb, ne_eqb}
 use Rattle.std.proofs.Math.Bool.{false-or, or-true}
 use Rattle.std.proofs.Math.Nat.{pow-le-pow_right}
 use Rattle.std.proofs.lemmas.Bool.{eqb-false, not-true}
@@ -78,6 +78,12 @@ pub said_there : (t : List ℕ) → all_digits t ≡ true → said_if_digits t �
 unfolding said_if_digits
 said_there t h = rw h
 
+-- where the front of a text is all of it
+pub said_whole : (t : List ℕ) (i v : ℕ) → length t ≤ i → all_digits (take i t) ≡ true → v ≡ said_by (take i t) → number v ≡ said_if_digits t
+said_whole t i v h d e =
+    let a : take i t ≡ t = take_all i t h in
+    ap number (e ∙ ap said_by a) ∙ sym (said_there t (ap all_digits (sym a) ∙ d))
+
 pub said_lacks : (t : List ℕ) → all_digits t ≡ false → said_if_digits t ≡ nothing
 unfolding said_if_digits
 said_lacks t h = rw h
@@ -89,6 +95,21 @@ digits_there at n s h = rw h
 pub digits_lack : (at n : ℕ) (s : List ℕ) → readable at n (length s) ≡ false → digits_at at n s ≡ nothing
 unfolding digits_at
 digits_lack at n s h = rw h
+
+-- the test of a needless zero
+module _ (n b first : ℕ) (e : b ≡ first) where
+  unless : (x y : Bool) → not (not x && y) ≡ x || not y
+  unless true y = refl
+  unless false y = refl
+
+  test : plain n first ≡ not (not (eqb n 1) && eqb b 48)
+  test = rw e (sym (unless (eqb n 1) (eqb first 48)))
+
+  pub plain_tested : not (eqb n 1) && eqb b 48 ≡ false → plain n first ≡ true
+  plain_tested h = test ∙ ap not h
+
+  pub needless_tested : not (eqb n 1) && eqb b 48 ≡ true → plain n first ≡ false
+  needless_tested h = test ∙ ap not h
 
 pub plain_there : (at n : ℕ) (s : List ℕ) → plain n (get_or s at 0) ≡ true → decimal_at at n s ≡ digits_at at n s
 unfolding decimal_at

@@ -1,8 +1,9 @@
 -- How many digits a number has: what `width_of` means, that there is one such width, and how a
 -- loop counts it.
-use Rattle.std.specs.Prelude.{ℕ, zero, suc, ◌+◌, ◌/◌, ◌-◌, ◌<◌, ◌≤◌, ◌^◌, ◌≡◌, refl, ◌⊎◌}
+use Rattle.std.specs.Prelude.{ℕ, zero, suc, ◌+◌, ◌/◌, ◌-◌, ◌*◌, ◌<◌, ◌≤◌, ◌^◌, ◌≡◌, refl, max, ◌⊎◌}
 use Rattle.std.proofs.Common.{inl, inr, ⊎_elim, add-one, pow-suc, div-lt_iff_lt-mul, le-div_iff_mul-le, le_antisymm, arith, lit<, lit≤, lt-ltb, le-ltb}
 use Rattle.std.proofs.Math.Nat.{pow-le-pow_right}
+use Rattle.std.proofs.Common.{ap, ◌∙◌, pow_pos}
 use Rattle.terms.specs.Cases.{less}
 use Rattle.digits.specs.Digits.{width_in, width_of}
 
@@ -53,46 +54,15 @@ width_most {v} {w} a u p h =
 pub width_one : {v a b : ℕ} → Width v a → Width v b → a ≡ b
 width_one {v} {a} {b} p q = le_antisymm (width_most b p q.some q.below) (width_most a q p.some p.below)
 
--- counting: n - 1 digits are taken off, x is what is left of a number of w digits, and `left` more
--- are room enough
-pub record Counted (n x w : ℕ) : Type 0 where
-  pub left : ℕ
-  pub room : n + left ≡ 20
-  pub fits : x < 10 ^ suc left
-  pub whole : n + width_in (suc left) x ≡ w + 1
+-- and each number of w digits, or of any number if w is 1, has this width
+pub width_at : (w v : ℕ) → v < 10 ^ 20 → 1 ≤ w → v < 10 ^ w → (w ≡ 1) ⊎ (10 ^ (w - 1) ≤ v) → w ≡ width_of v
+width_at w v h some below least = width_one (record { some = some; below = below; least = least }) (width_of_lem v h)
 
-pub counted_first : (v : ℕ) → v < 10 ^ 20 → Counted 1 v (width_of v)
-counted_first v h = record { left = 19; room = refl; fits = h; whole = omega arith }
-
-counted_in : (f n x w : ℕ) → n + f ≡ 20 → x < 10 ^ suc f → n + width_in (suc f) x ≡ w + 1 → 9 < x → Counted (n + 1) (x / 10) w
-counted_in zero n x w r h e l = absurd (omega arith)
-counted_in (suc f) n x w r h e l = record { left = f; room = omega arith; fits = tenth (suc f) x h; whole = omega (arith, width_large (suc f) x l) }
-
-pub counted_next : {n x w : ℕ} → Counted n x w → 9 < x → Counted (n + 1) (x / 10) w
-counted_next {n} {x} {w} c l = counted_in c.left n x w c.room c.fits c.whole l
-
-pub counted_last : {n x w : ℕ} → Counted n x w → x ≤ 9 → n ≡ w
-counted_last {n} {x} {w} c l = omega (arith, width_small c.left x l, c.whole)
-
--- two, three and four digits left, and more
-module _ {n x w : ℕ} (c : Counted n x w) where
-  pub counted_two : 9 < x → x < 100 → n + 1 ≡ w
-  counted_two l h = counted_last (counted_next c l) (omega arith)
-
-  counted_second : 99 < x → Counted (n + 1 + 1) (x / 10 / 10) w
-  counted_second l = counted_next (counted_next c (omega arith)) (omega arith)
-
-  pub counted_three : 99 < x → x < 1000 → n + 2 ≡ w
-  counted_three l h = let e : n + 1 + 1 ≡ w = counted_last (counted_second l) (omega arith) in omega arith
-
-  counted_third : 999 < x → Counted (n + 1 + 1 + 1) (x / 10 / 10 / 10) w
-  counted_third l = counted_next (counted_second (omega arith)) (omega arith)
-
-  pub counted_four : 999 < x → x < 10000 → n + 3 ≡ w
-  counted_four l h = let e : n + 1 + 1 + 1 ≡ w = counted_last (counted_third l) (omega arith) in omega arith
-
-  pub counted_on : 9999 < x → Counted (n + 4) (x / 10000) w
-  counted_on l =
-      let e : n + 1 + 1 + 1 + 1 ≡ n + 4 = omega arith in
-      let q : x / 10 / 10 / 10 / 10 ≡ x / 10000 = omega arith in
-      rw (e, q) at (counted_next (counted_third (omega arith)) (omega arith))
+-- one more than the largest power of ten that v, or 1 in place of 0, is not below
+pub width_log : (k v : ℕ) → v < 10 ^ 20 → 10 ^ k ≤ max v 1 → max v 1 < 10 * 10 ^ k → k + 1 ≡ width_of v
+width_log zero v h low high = width_at 1 v h (omega arith) (omega arith) (inl refl)
+width_log (suc k) v h low high =
+    let e : suc k + 1 - 1 ≡ suc k = omega arith in
+    let p : 10 ^ suc k ≡ 10 ^ k * 10 = pow-suc 10 k in
+    let q : 10 ^ (suc k + 1) ≡ 10 ^ suc k * 10 = ap (λ (n : ℕ). 10 ^ n) (add-one (suc k)) ∙ pow-suc 10 (suc k) in
+    width_at (suc k + 1) v h (omega arith) (omega (arith, q)) (inr (rw e (omega (arith, p, pow_pos k))))

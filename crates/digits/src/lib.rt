@@ -8,6 +8,7 @@ ghost use Rattle.octets.specs.Octets.{laid};
 ghost use Rattle.octets.specs.Papers.{written_paper, room_for, laid_if_room};
 ghost use Rattle.digits.specs.Digits.{decimal_of, shown_of, width_of, is_digit, said_if_digits, readable, digits_at, decimal_at, decimal_paper};
 
+use octets::Number;
 use terms::Refusal;
 
 // Stores the n lowest decimal digits of v from at on.
@@ -16,11 +17,9 @@ fn store_digits(d: &mut [u8], at: usize, n: usize, v: u64)
     ensures { d.new ≡ laid at (decimal_of n v) d.old }
 {
     let mut x = v;
-    let mut k = n;
-    while 0 < k {
-        k -= 1;
-        d[at + k] = (x % 10) as u8 + 48;
-        x = x / 10;
+    for k in (0..n).rev() {
+        d[at + k] = (x % 10) as u8 + b'0';
+        x /= 10;
     }
 }
 
@@ -39,23 +38,7 @@ pub fn put_digits(d: &mut [u8], at: usize, n: usize, v: u64) -> Result<usize, Re
 pub fn width(v: u64) -> usize
     ensures { result ≡ width_of v }
 {
-    let mut x = v;
-    let mut n: usize = 1;
-    // four digits at a time
-    while 9999 < x {
-        x = x / 10000;
-        n += 4;
-    }
-    if x < 10 {
-        return n;
-    }
-    if x < 100 {
-        return n + 1;
-    }
-    if x < 1000 {
-        return n + 2;
-    }
-    n + 3
+    v.max(1).ilog10() as usize + 1
 }
 
 // Writes v over d from at on as all its digits, with no needless zero in front, and returns how
@@ -64,26 +47,13 @@ pub fn put_decimal(d: &mut [u8], at: usize, v: u64) -> Result<usize, Refusal>
     ensures { (written_paper result ≡ room_for at (width_of v) (length d.old)) × (d.new ≡ laid_if_room at (shown_of v) d.old) }
 {
     // of a constant number of digits the compiler makes no loop
-    if v < 10 {
-        return put_digits(d, at, 1, v);
+    match v {
+        0..=9 => put_digits(d, at, 1, v),
+        10..=99 => put_digits(d, at, 2, v),
+        100..=999 => put_digits(d, at, 3, v),
+        1000..=9999 => put_digits(d, at, 4, v),
+        _ => put_digits(d, at, width(v), v),
     }
-    if v < 100 {
-        return put_digits(d, at, 2, v);
-    }
-    if v < 1000 {
-        return put_digits(d, at, 3, v);
-    }
-    if v < 10000 {
-        return put_digits(d, at, 4, v);
-    }
-    put_digits(d, at, width(v), v)
-}
-
-// Whether a byte is an ASCII digit.
-fn digit(b: u8) -> bool
-    ensures { result ≡ is_digit b }
-{
-    (48 <= b) & (b <= 57)
 }
 
 // The number that the n bytes of s from at on say, if all of them are digits. Nineteen digits
@@ -93,24 +63,13 @@ fn said(s: &[u8], at: usize, n: usize) -> Option<u64>
     ensures { decimal_paper result ≡ said_if_digits (take n (drop at s.now)) }
 {
     let mut v: u64 = 0;
-    let mut i: usize = 0;
-    while i < n {
-        let b = s[at + i];
-        if !digit(b) {
+    for b in &s[at..at + n] {
+        if !b.is_ascii_digit() {
             return None;
         }
-        v = v * 10 + (b - 48) as u64;
-        i += 1;
+        v = v * 10 + u64::from(*b - b'0');
     }
     Some(v)
-}
-
-// Whether n bytes from at on, of len bytes, can say a number: they are one to nineteen, and none
-// lies past the end.
-fn can_say(len: usize, at: usize, n: usize) -> bool
-    ensures { result ≡ readable at n len }
-{
-    (1 <= n) & (n <= 19) & octets::has_room(len, at, n)
 }
 
 // The number that the n bytes of s from at on say: one to nineteen digits, all within s. Else there
@@ -118,7 +77,7 @@ fn can_say(len: usize, at: usize, n: usize) -> bool
 pub fn digits_at(s: &[u8], at: usize, n: usize) -> Option<u64>
     ensures { decimal_paper result ≡ digits_at at n s.now }
 {
-    if !can_say(s.len(), at, n) {
+    if !((1 <= n) & (n <= 19) & octets::has_room(s.len(), at, n)) {
         return None;
     }
     said(s, at, n)
@@ -128,11 +87,8 @@ pub fn digits_at(s: &[u8], at: usize, n: usize) -> Option<u64>
 pub fn decimal_at(s: &[u8], at: usize, n: usize) -> Option<u64>
     ensures { decimal_paper result ≡ decimal_at at n s.now }
 {
-    if !can_say(s.len(), at, n) {
+    if (n != 1) & (u8::at(s, at) == b'0') {
         return None;
     }
-    if !((n == 1) | (s[at] != 48)) {
-        return None;
-    }
-    said(s, at, n)
+    digits_at(s, at, n)
 }

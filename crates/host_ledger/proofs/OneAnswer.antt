@@ -7,6 +7,8 @@ use Rattle.terms.specs.OneAnswer.{OneAnswer}
 use Rattle.terms.specs.OneBuffer.{OneBuffer, RefusedKeeps}
 use Rattle.host_words.specs.Told.{both, Refuses, tells_kept}
 use Rattle.host_ledger.proofs.Kept.{call_kept, announce_kept, request_kept, reply_kept, renew_kept, open_kept}
+use Rattle.host_ledger.proofs.settled_row.Reads as settled-row
+use Rattle.host_ledger.proofs.settled_row.Kinds as settled-row-kinds
 use Rattle.host_ledger.proofs.rk_ledger_open.Reads as rk-ledger-open
 use Rattle.host_ledger.proofs.rk_ledger_open.Kinds as rk-ledger-open-kinds
 use Rattle.host_ledger.proofs.rk_ledger_tick.Reads as rk-ledger-tick
@@ -71,6 +73,9 @@ rk_ledger_reply_one_buffer κs a x y s t p q = ap₂ both (p.0.told ∙ sym q.0.
 
 pub rk_ledger_reply_refused_keeps : RefusedKeeps _ rk-ledger-reply-kinds.ps rk-ledger-reply-kinds.r rk-ledger-reply.Post (λ κs x. Refuses x) (λ κs a. both a.1.1.1.1.0.now a.0.now) (λ κs s. both s.1.1.1.1.0.now s.0.now)
 rk_ledger_reply_refused_keeps κs a x s p w = ap₂ both (tells_kept p.0 w) (p.1 ∙ reply_kept _ _ _ _ (λ z. w (p.0.answered ∙ z)))
+
+pub settled_row_one_answer : OneAnswer _ settled-row-kinds.ps settled-row-kinds.r settled-row.Post
+settled_row_one_answer κs a x y s t p q = p ∙ sym q
 
 pub rk_ledger_renew_one_answer : OneAnswer _ rk-ledger-renew-kinds.ps rk-ledger-renew-kinds.r rk-ledger-renew.Post
 rk_ledger_renew_one_answer κs a x y s t p q = p.0 ∙ sym q.0

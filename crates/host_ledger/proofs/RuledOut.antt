@@ -12,11 +12,15 @@ use Rattle.tick_map.specs.Bits.{value_of, map_of, run}
 use Rattle.tick_map.specs.Ring.{rotated}
 use Rattle.ledger_spec.specs.State.{has, range_rules, map_rules, sound_of}
 use Rattle.ledger_spec.specs.Calls.{Call, Tick, Announce, Request, Reply, Ask, Between, Renew, open_number, own_number, checked_of, number_to, passes, taken, reach, leaps, gave_up, handed, replied, raised, waiting, asked, done, missing_count, held_count, between_count, values_of, answer_to, fresh, open_of}
+use Rattle.terms.specs.Counters.{tick_of}
+use Rattle.ledger.specs.declared.Settled.{Settled}
 use Rattle.ledger.specs.State.{book_of, ledger_of, next_by}
 use Rattle.host_words.specs.Words.{words_of, pending_in, ledger_in}
 use Rattle.host_words.specs.Calls.{kept_by, call_told, words_after}
 use Rattle.host_words.specs.Told.{told_by, Tells}
-use Rattle.host_ledger.specs.Words.{open_words, ledger_told, settled_row, reply_told}
+use Rattle.host_ledger.specs.Words.{open_words, ledger_told, row_of, settled_row, reply_told}
+use Rattle.host_ledger.proofs.settled_row.Reads as settled-row
+use Rattle.host_ledger.proofs.settled_row.Kinds as settled-row-kinds
 use Rattle.host_ledger.proofs.rk_ledger_open.Reads as rk-open
 use Rattle.host_ledger.proofs.rk_ledger_open.Kinds as rk-open-kinds
 use Rattle.host_ledger.proofs.rk_ledger_tick.Reads as rk-tick
@@ -130,6 +134,21 @@ rk_ledger_reply_wrong =
 pub rk_ledger_reply_rules_out : RulesOut (Kept _ rk-reply-kinds.ps rk-reply-kinds.r rk-reply.Post) (λ c. (c.args.0.now, (Reply c.args.1.0 c.args.1.1.0 c.args.1.1.1.0, c.args.1.1.1.1.0.now))) (λ c. shown c.result c.exit.1.1.1.1.0.now c.exit.0.now) rk_ledger_reply_wrong
 unfolding book_of ledger_of next_by rotated map_of value_of number_to own_number checked_of sound_of map_rules range_rules has passes taken reach leaps gave_up handed replied raised waiting asked done missing_count held_count values_of answer_to fresh open_of run count_trailing_zeros ones words_of pending_in ledger_in kept_by words_after told_by open_words ledger_told settled_row
 rk_ledger_reply_rules_out = ruled (beside numbers (beside lists lists)) (λ (i : Input). tells (reply_told i.0 i.1.0) i.1.1 (words_after i.0 i.1.0)) (λ c p. said p) _ refl
+
+-- SETTLED_ROW: a reply's two sets
+abbrev settled : ℕ → ℕ → ℕ → Settled
+settled first given_up passed = record { first = tick_of first; given_up = map_of given_up; passed = map_of passed }
+
+abbrev pub settled_row_wrong : List (Row Settled (List ℕ))
+settled_row_wrong =
+    settled 3 (2 ^ 3 + 2 ^ 70) (2 ^ 4) never (3 ∷ 2 ^ 4 ∷ 0 ∷ 0 ∷ 0 ∷ 2 ^ 3 ∷ 2 ^ 6 ∷ 0 ∷ 0 ∷ [])  -- the received numbers named as given up
+    ∷ settled 3 (2 ^ 3 + 2 ^ 70) (2 ^ 4) never (0 ∷ 2 ^ 3 ∷ 2 ^ 6 ∷ 0 ∷ 0 ∷ 2 ^ 4 ∷ 0 ∷ 0 ∷ 0 ∷ [])  -- without the number that they count from
+    ∷ settled 3 (2 ^ 3 + 2 ^ 70) (2 ^ 4) only (3 ∷ 2 ^ 3 ∷ 2 ^ 6 ∷ 0 ∷ 0 ∷ 2 ^ 4 ∷ 0 ∷ 0 ∷ 0 ∷ [])
+    ∷ []
+
+pub settled_row_rules_out : RulesOut (Kept _ settled-row-kinds.ps settled-row-kinds.r settled-row.Post) (λ c. c.args.0) (λ c. c.result) settled_row_wrong
+unfolding map_of
+settled_row_rules_out = ruled lists (λ (s : Settled). row_of s.first.0 s.given_up s.passed) (λ c p. p) _ refl
 
 -- A NEW SESSION: the words
 abbrev pub rk_ledger_renew_wrong : List (Row (List ℕ) Outcome)

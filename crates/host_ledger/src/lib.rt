@@ -72,8 +72,8 @@ pub fn rk_ledger_request(state: &mut [u64; 9], channel: u16, told: &mut [u64; 2]
     }
 }
 
-// A reply's two sets as nine words.
-fn settled_row(settled: Settled) -> [u64; 9]
+// A reply's two sets as nine words: the number that both count from, and four words of each.
+pub fn settled_row(settled: Settled) -> [u64; 9]
     ensures { result ≡ row_of settled.first.0 settled.given_up settled.passed }
 {
     let g = settled.given_up.words;

@@ -1,6 +1,6 @@
 -- A finding in CR 10's numbers: its number, and the place or count beside it.
-use Rattle.std.specs.Prelude.{ℕ, ◌≡◌, refl, List, [], ◌∷◌, get_or}
-use Rattle.std.proofs.Common.{sym, ap, ◌∙◌}
+use Rattle.std.specs.Prelude.{ℕ, ◌≡◌, [], ◌∷◌, get_or}
+use Rattle.std.proofs.Common.{ap}
 use Rattle.terms.specs.Paper.{Paper, answer}
 use Rattle.host_market.specs.declared.Finding.{Finding}
 

@@ -1,5 +1,5 @@
 -- What stands at a line's start, and a line's type, as `type_at` has them.
-use Rattle.std.specs.Prelude.{ℕ, ◌≡◌, refl, eqb}
+use Rattle.std.specs.Prelude.{ℕ, ◌≡◌, ◌≤◌, refl, eqb}
 use Rattle.std.proofs.Common.{sym, ap, ◌∙◌, arith}
 use Rattle.terms.specs.Paper.{pick}
 use Rattle.market.specs.declared.LineType.{LineType}
@@ -18,6 +18,12 @@ start_number (Line l) = line_number l
 start_number Trailer = 5
 start_number Cut = 6
 start_number Other = 0
+
+pub line_most : (l : LineType) → line_number l ≤ 4
+line_most Md401 = omega arith
+line_most Md404 = omega arith
+line_most Md405 = omega arith
+line_most Md406 = omega arith
 
 -- a line's type is no trailer, nothing cut short, and something
 pub line_not : (l : LineType) → (line_number l ≡ 5 → ⊥) × (line_number l ≡ 6 → ⊥) × (line_number l ≡ 0 → ⊥)

@@ -4,15 +4,12 @@
 use Prim.Native.Nat.{ℕ}
 use mathlib.Core.Path.{◌≡◌, sym, ap, ◌∙◌}
 use mathlib.Core.List.{List}
-use mathlib.Core.Bool.{false}
-use lib.Dec.{eqb}
 use borrow.Author.Tests.{ne_eqb}
 use Rattle.terms.specs.Paper.{Paper}
 use Rattle.terms.specs.OneAnswer.{OneAnswer}
 use Rattle.terms.specs.OneBuffer.{OneBuffer, RefusedKeeps}
-use Rattle.market.specs.declared.Fault.{Fault}
-use Rattle.market.specs.declared.Verdict.{Verdict}
-use Rattle.market.specs.declared.Verdict.TheVariants.{Refused}
+use Rattle.std.specs.Prelude.{Result, Err}
+use Rattle.market.specs.declared.Wrong.{Wrong}
 use Rattle.market.specs.Papers.{fault_number, fault_some, verdict_paper}
 use Rattle.market.specs.OneFault.{verdict_one}
 use Rattle.market_spec.specs.FileBytes.{laid_if0}
@@ -22,14 +19,14 @@ use Rattle.market_values.proofs.written.Reads as written
 use Rattle.market_values.proofs.written.Kinds as written-kinds
 
 -- an answer that is a refusal
-abbrev pub Refuses : Verdict → Type 0
-Refuses x = (f : Fault) × ((p : ℕ) × (x ≡ Refused f p))
+abbrev pub Refuses : Result ℕ Wrong → Type 0
+Refuses x = (w : Wrong) × (x ≡ Err w)
 
 -- it leaves the buffer
-kept : (x : Verdict) (p : Paper) (b d e : List ℕ) → Refuses x → verdict_paper x ≡ p → e ≡ laid_if0 p b d → e ≡ d
-kept x p b d e (f, (q, r)) h l =
-    let z : p.number ≡ fault_number f = ap (λ (y : Paper). y.number) (sym h ∙ ap verdict_paper r) in
-    l ∙ rw (ne_eqb p.number 0 (λ w. fault_some f (sym z ∙ w)))
+kept : (x : Result ℕ Wrong) (p : Paper) (b d e : List ℕ) → Refuses x → verdict_paper x ≡ p → e ≡ laid_if0 p b d → e ≡ d
+kept x p b d e (f, r) h l =
+    let z : p.number ≡ fault_number f.fault = ap (λ (y : Paper). y.number) (sym h ∙ ap verdict_paper r) in
+    l ∙ rw (ne_eqb p.number 0 (λ w. fault_some f.fault (sym z ∙ w)))
 
 pub values_one_answer : OneAnswer _ values-kinds.ps values-kinds.r values.Post
 values_one_answer κs a x y s t p q = verdict_one x y (p.0 ∙ sym q.0)

@@ -1,10 +1,9 @@
 -- For each public function: wrong answers that its promise rules out, as tables of what is given
 -- and what is then wrong. Assumes nothing.
-use Prim.Native.Nat.{ℕ, ◌+◌, ◌<◌}
+use Prim.Native.Nat.{ℕ, ◌<◌}
 use mathlib.Core.Path.{◌≡◌, refl, sym, ap, ◌∙◌}
 use mathlib.Core.List.{List, [], ◌∷◌, ◌++◌}
 use lib.ListN.{length, take, replicate}
-use Rattle.terms.specs.Paper.{Paper}
 use Rattle.terms.specs.RuledOut.{Row, ◌never◌, ◌only◌, Kept, Holds, no_other, RulesOut, ruled, Left, left, lefts, left_is}
 use Rattle.octets.specs.Octets.{numeral, digits_of, laid, sum_of, sum8}
 use Rattle.digits.specs.Digits.{decimal_of, width_in, all_digits, said_by, said_if_digits, digits_at, decimal_at}
@@ -51,6 +50,7 @@ written_wrong =
     ∷ (take 140 sample_values, replicate 219 7) only left (fault 40 140) (replicate 219 7)
     ∷ (head_values_bytes ++ (1 ∷ 146 ∷ []), replicate 219 7) only left (fault 42 38) (replicate 219 7)  -- 402
     ∷ (head_values_bytes ++ line_values_with odd_name (number 1 0 0), replicate 219 7) only left (fault 43 101) (replicate 219 7)  -- minus zero
+    ∷ (head_values_bytes ++ line_values_with odd_name (number 2 1 244), replicate 219 7) only left (fault 43 101) (replicate 219 7)  -- a sign that is neither 0 nor 1
     ∷ (sample_values, replicate 218 7) only left (fault 8 0) (replicate 218 7)
     ∷ []
 

@@ -2,18 +2,18 @@
 -- sound, and its values are the bytes that it was written from; and what is written from the values
 -- that `values` took out is the file. Assumes nothing.
 use Prim.Native.Nat.{ℕ, ◌≤◌}
-use mathlib.Core.Path.{◌≡◌, refl, sym, ap, ◌∙◌}
+use mathlib.Core.Path.{◌≡◌, sym, ap, ◌∙◌}
 use mathlib.Core.List.{List}
 use lib.ListN.{length, take}
 use Rattle.terms.specs.RuledOut.{Call, Kept}
 use Rattle.octets.specs.Octets.{laid}
 use Rattle.octets.specs.Overlays.{take_front}
-use Rattle.market.specs.declared.Verdict.TheVariants.{Fine}
+use Rattle.std.specs.Prelude.{Ok}
 use Rattle.market.specs.Papers.{verdict_paper}
-use Rattle.market_spec.specs.File.{fine, fault_of}
+use Rattle.market_spec.specs.File.{fine}
 use Rattle.market_spec.specs.Sound.{Sound, file_of, values_of}
-use Rattle.market_spec.specs.FileBytes.{values_bytes, values_answer, laid_if0, values_given, written_answer}
-use Rattle.market_spec.specs.WrittenAgain.{Made, made, Again}
+use Rattle.market_spec.specs.FileBytes.{values_bytes, values_answer, values_given, written_answer}
+use Rattle.market_spec.specs.WrittenAgain.{made}
 use Rattle.market_spec.proofs.WrittenAgain.{values_again, written_again, taken_out}
 use Rattle.market_values.proofs.values.Reads as values
 use Rattle.market_values.proofs.values.Kinds as values-kinds
@@ -29,7 +29,7 @@ pub record WrittenSound (c : Call _ written-kinds.ps written-kinds.r) (n : ℕ) 
   pub sound : Sound (take n c.exit.1.0.now)
   pub same_bytes : values_bytes (values_of (take n c.exit.1.0.now)) ≡ c.args.0.now
 
-pub values_of_written_call : (c : Call _ written-kinds.ps written-kinds.r) (n : ℕ) → Kept _ written-kinds.ps written-kinds.r written.Post c → c.result ≡ Fine n → WrittenSound c n
+pub values_of_written_call : (c : Call _ written-kinds.ps written-kinds.r) (n : ℕ) → Kept _ written-kinds.ps written-kinds.r written.Post c → c.result ≡ Ok n → WrittenSound c n
 values_of_written_call c n p r =
     let a : written_answer (length c.args.1.0.now) c.args.0.now ≡ fine n = sym p.0 ∙ ap verdict_paper r in
     let m = made (length c.args.1.0.now) n c.args.0.now a in
@@ -39,7 +39,7 @@ values_of_written_call c n p r =
     record { sound = rw f b.sound; same_bytes = rw f (b.same_bytes p.1.1) }
 
 -- what is written from values that were taken out, for any buffer with room
-pub written_of_values_call : (c : Call _ values-kinds.ps values-kinds.r) (n room : ℕ) → Kept _ values-kinds.ps values-kinds.r values.Post c → c.result ≡ Fine n → length c.args.0.now ≤ room
+pub written_of_values_call : (c : Call _ values-kinds.ps values-kinds.r) (n room : ℕ) → Kept _ values-kinds.ps values-kinds.r values.Post c → c.result ≡ Ok n → length c.args.0.now ≤ room
     → (written_answer room (take n c.exit.1.0.now) ≡ fine (length c.args.0.now)) × (file_of (values_given (take n c.exit.1.0.now)) ≡ c.args.0.now)
 written_of_values_call c n room p r h =
     let a : values_answer (length c.args.1.0.now) c.args.0.now ≡ fine n = sym p.0 ∙ ap verdict_paper r in

@@ -1,14 +1,14 @@
 -- How values are taken out of a line and of a file, a turn of each loop at a time.
-use Rattle.std.specs.Prelude.{ℕ, zero, suc, ◌+◌, ◌-◌, ◌≤◌, ◌<◌, ◌≡◌, Bool, true, false, not, ◌&&◌, leb, eqb, get_or, take, drop, set}
+use Rattle.std.specs.Prelude.{ℕ, zero, suc, ◌+◌, ◌-◌, ◌≤◌, ◌<◌, ◌≡◌, true, false, ◌&&◌, leb, eqb, take, drop, set}
 use Rattle.std.proofs.Math.Path.{refl, sym, ap}
-use Rattle.std.proofs.Common.{◌∙◌, ⊎_elim, arith, add-zero, add_assoc, lit≤, length-set, drop-drop, le-leb, ne_eqb}
-use mathlib.Core.List.{List, [], ◌∷◌, ◌++◌, append_assoc}
+use Rattle.std.proofs.Common.{◌∙◌, ⊎_elim, arith, add_assoc, lit≤, length-set, drop-drop, le-leb, ne_eqb}
+use mathlib.Core.List.{List, [], ◌∷◌, ◌++◌}
 use Rattle.std.proofs.Math.ListN.{length, length-append}
 use Rattle.std.proofs.lemmas.Bool.{lt-leb}
-use Rattle.terms.specs.Paper.{Paper, pick}
-use Rattle.terms.specs.Cases.{two, less, same, clash}
+use Rattle.terms.specs.Paper.{Paper}
+use Rattle.terms.specs.Cases.{two, same, clash}
 use Rattle.digits.specs.Digits.{nothing}
-use Rattle.octets.specs.Octets.{be, bytes_of, laid, sum8}
+use Rattle.octets.specs.Octets.{bytes_of, laid, sum8}
 use Rattle.octets.specs.Numerals.{length_digits}
 use Rattle.octets.specs.Overlays.{laid_append, length_laid, laid_one, laid_nil, laid_next}
 use Rattle.octets.specs.Papers.{laid_if_room, laid_there}
@@ -16,24 +16,28 @@ use Rattle.market_columns.specs.Numbers.{amount, number_in}
 use Rattle.market_columns.specs.Pieces.{column_length}
 use Rattle.market_columns.specs.Columns.{Column, K, S, N, C, U, header, row_of, columns, wide, kind_of, decimals_of, FormIs, column_ok}
 use Rattle.market_columns.proofs.ColumnLaws.{ok_number}
-use Rattle.market_columns.specs.Values.{Value, value_in, fits}
+use Rattle.market_columns.specs.Values.{Value, value_in}
 use Rattle.market_columns.proofs.Values.{column_reads}
 use Rattle.market_columns.specs.Tables.{length_of}
-use Rattle.market_spec.specs.File.{fault, fine, and_then, line_fault, lines_fault, type_at, layout_of, fault_of}
-use Rattle.market_spec.specs.Files.{lines_trailer, lines_cut, lines_type, lines_line}
+use Rattle.market.specs.Starts.{start_number}
+use Rattle.market.specs.declared.LineType.{LineType}
+use Rattle.market.specs.declared.Start.{Start}
+use Rattle.market.specs.declared.Start.TheVariants.{Line as AtLine, Trailer, Cut, Other}
+use Rattle.market_spec.specs.File.{fault, fine, and_then, line_fault, lines_fault, type_at, layout_of}
+use Rattle.market_spec.specs.Files.{lines_type, lines_line}
 use Rattle.market_spec.proofs.Files.{line_long}
-use Rattle.market_spec.specs.Told.{not_fine, Then, then_both}
+use Rattle.market_spec.specs.Told.{not_fine, then_both}
 use Rattle.market_spec.proofs.Told.{line_told}
 use Rattle.market_spec.specs.Types.{type_most}
-use Rattle.market_spec.specs.LinesValues.{Line, is_line, lines_fit, lines_text, lines_values, is_line_holds}
-use Rattle.market_spec.specs.Sound.{Values, Sound, head_values, body_of, file_of, values_of, values_fit, Parts, file_parts}
+use Rattle.market_spec.specs.LinesValues.{Line, lines_fit, lines_text, lines_values, is_line_holds}
+use Rattle.market_spec.specs.Sound.{Sound, head_values, body_of, file_of, values_of, values_fit, file_parts}
 use Rattle.market_spec.proofs.Sound.{parts, sound_exactly}
 use Rattle.market_spec.specs.TrailerText.{trailer_text}
 use Rattle.market_spec.specs.WrittenAgain.{own_fits}
 use Rattle.digits.specs.Laws.{both}
 use Rattle.market_spec.specs.FileBytes.{own, own_values, type_number, line_bytes, lines_bytes, values_bytes, laid_if0}
 use Rattle.market_spec.specs.Lines.{columns_next, columns_none}
-use Rattle.market_spec.specs.LineValues.{line_values, line_fits, Passed, line_values_lem}
+use Rattle.market_spec.specs.LineValues.{line_values, line_fits, line_values_lem}
 use Rattle.market_spec.proofs.LineValues.{line_passed, line_reads}
 use Rattle.market_spec.specs.ValueBytes.{value_bytes, row_bytes, size_of}
 use Rattle.market_spec.specs.TakenBack.{sizes_of, value_long, row_long}
@@ -195,6 +199,18 @@ end_fuel s p (suc f) h = rw (lt-leb (type_at p s) 4 h, le-leb 1 (type_at p s) (o
 
 pub lines_end : (s : List ℕ) (p : ℕ) (ls : List Line) → Lines s p ls → 4 < type_at p s → ls ≡ []
 lines_end s p ls l h = sym l.are ∙ end_fuel s p l.fuel h
+
+no_other : (s : List ℕ) (p f k n : ℕ) → lines_fault f k p s ≡ fine n → type_at p s ≡ 0 → ⊥
+unfolding lines_fault
+no_other s p zero k n g z = not_fine 40 (length s) n (λ q. omega arith) g
+no_other s p (suc f) k n g z = not_fine 42 p n (λ q. omega arith) (sym (lines_type (suc f) k p s (omega arith) z) ∙ g)
+
+-- the code stops where no line stands
+pub lines_stop : (s : List ℕ) (p : ℕ) (ls : List Line) → Lines s p ls → (x : Start) → start_number x ≡ type_at p s → ((t : LineType) → x ≡ AtLine t → ⊥) → 4 < type_at p s
+lines_stop s p ls l (AtLine t) e n = absurd (n t refl)
+lines_stop s p ls l Trailer e n = omega (arith, e)
+lines_stop s p ls l Cut e n = omega (arith, e)
+lines_stop s p ls l Other e n = absurd (no_other s p l.fuel l.count l.total l.good (sym e))
 
 -- the header's own columns, and the lines behind it
 pub own_right : (s : List ℕ) → Sound s → Right own 49 s

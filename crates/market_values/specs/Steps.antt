@@ -1,17 +1,48 @@
--- How the functions go by a column's numbers.
-use Rattle.std.specs.Prelude.{ℕ, ◌+◌, ◌≤◌, ◌<◌, ◌≡◌, refl, Bool, true, false, ◌&&◌, List, leb, length, get_or, take, drop}
-use Rattle.std.proofs.Common.{sym, ap, ◌∙◌, arith, add-zero, get_or-drop, le-leb}
-use Rattle.terms.specs.Paper.{pick}
+-- How the functions go by a column's numbers, and a line's type by its number.
+use Rattle.std.specs.Prelude.{Option, Some, None, ℕ, ◌+◌, ◌≤◌, ◌<◌, ◌≡◌, refl, Bool, true, false, ◌&&◌, ◌⊎◌, List, leb, length, get_or, take, drop}
+use Rattle.std.proofs.Common.{sym, ap, ◌∙◌, ⊎_elim, lit<, lit≤, arith, add-zero, get_or-drop, le-leb}
+use Rattle.terms.specs.Paper.{Paper, pick}
+use Rattle.terms.specs.Cases.{and_false}
+use Rattle.digits.specs.Digits.{nothing}
 use Rattle.octets.specs.Octets.{be, laid}
 use Rattle.octets.specs.Numerals.{numeral_drop}
 use Rattle.octets.specs.Papers.{laid_if_room, laid_there}
-use Rattle.market_columns.specs.Numbers.{number_fits, column_text}
+use Rattle.market.specs.Starts.{line_number}
+use Rattle.market.specs.declared.LineType.{LineType}
+use Rattle.market_columns.specs.Numbers.{amount, number_fits, column_text}
 use Rattle.market_columns.specs.Pieces.{column_length}
-use Rattle.market_columns.specs.Columns.{row_of, wide, kind_of, decimals_of, FormIs, ok_at, column_ok, is_fixed, fixed_text}
+use Rattle.market_columns.specs.Columns.{row_of, wide, kind_of, kind_number, FormIs, ok_at, is_fixed, fixed_text}
+use Rattle.market_columns.specs.declared.Kind.{Kind}
+use Rattle.market_columns.specs.declared.Kind.TheVariants.{Constant, Blank, Text, Name}
 use Rattle.market_columns.specs.ColumnLaws.{ok_there}
-use Rattle.market_columns.specs.Values.{Value, text_of, fits}
+use Rattle.market_columns.specs.Values.{text_of, fits}
 use Rattle.market_columns.proofs.Values.{column_writes}
 use Rattle.market_spec.specs.ValueBytes.{size_of, taken_of, size_fixed, size_number, size_text, fits_fixed, fits_number, fits_text, fits_name, text_fixed, text_number, text_own}
+
+-- which kinds have no value of their own, and which their bytes
+pub fixed_kind : {k : Kind} → (k ≡ Constant) ⊎ (k ≡ Blank) → kind_number k ≤ 1
+fixed_kind e = ⊎_elim (λ q. rw q (lit≤ tt)) (λ q. rw q (lit≤ tt)) e
+
+pub own_kind : {k : Kind} → (k ≡ Text) ⊎ (k ≡ Name) → 2 < kind_number k
+own_kind e = ⊎_elim (λ q. rw q (lit< tt)) (λ q. rw q (lit< tt)) e
+
+-- what nine bytes say, where their sign is one, and where it is none
+pub nine_say : (b : Bool) (m n v u : ℕ) → amount m v ≡ pick b (amount n u) nothing → (m ≡ n) × (v ≡ u)
+nine_say true m n v u e = (ap (λ (p : Paper). get_or p.values 0 0) e, ap (λ (p : Paper). get_or p.values 1 0) e)
+nine_say false m n v u e = absurd (omega (arith, ap (λ (p : Paper). length p.values) e))
+
+pub nine_not : (b : Bool) (m v : ℕ) → nothing ≡ pick b (amount m v) nothing → b ≡ false
+nine_not true m v e = absurd (omega (arith, ap (λ (p : Paper). length p.values) e))
+nine_not false m v e = refl
+
+unfit_sign : (w d m v : ℕ) → leb m 1 ≡ false → number_fits w d m v ≡ false
+unfolding number_fits
+unfit_sign w d m v e = rw e (and_false (leb w 19))
+
+-- a line's type as `type_of` has it, 0 where there is none
+abbrev pub some_number : Option LineType → ℕ
+some_number (Some l) = line_number l
+some_number None = 0
 
 module _ (i p : ℕ) (s : List ℕ) (k w d start : ℕ) (f : FormIs (row_of i) k w d start) where
   x : List ℕ
@@ -45,6 +76,9 @@ module _ (i p : ℕ) (s : List ℕ) (k w d start : ℕ) (f : FormIs (row_of i) k
   pub step_number : k ≡ 2 → fits (row_of i) (taken_of (row_of i) (drop p s)) ≡ number_fits w d (get_or s p 0) (be 8 (p + 1) s)
   step_number h = fits_number (drop p s) (row_of i) (rw f.kind_is at h) ∙ rw (first, units, ← f.width_is, ← f.decimals_is)
 
+  pub step_sign : k ≡ 2 → leb (get_or s p 0) 1 ≡ false → fits (row_of i) (taken_of (row_of i) (drop p s)) ≡ false
+  step_sign h e = step_number h ∙ unfit_sign w d (get_or s p 0) (be 8 (p + 1) s) e
+
   module _ (r : p + w ≤ length s) where
     long : length (take (wide (row_of i)) (drop p s)) ≡ wide (row_of i)
     long = column_length s p (wide (row_of i)) (rw f.width_is at r)
@@ -74,3 +108,11 @@ module _ (i p : ℕ) (s : List ℕ) (k w d start : ℕ) (f : FormIs (row_of i) k
         let l : length t ≡ w = ap length q ∙ column_length s p w r in
         e ∙ laid_there at w t o l (le-leb (at + w) (length o) room)
         ∙ ap (λ (z : List ℕ). laid at z o) (q ∙ ap (λ (n : ℕ). take n (drop p s)) f.width_is ∙ sym (text_own (drop p s) (row_of i) (rw f.kind_is at h)))
+
+-- values of three kinds always fit
+pub step_true : (i p : ℕ) (s : List ℕ) (k : Kind) (w d start : ℕ) → FormIs (row_of i) (kind_number k) w d start → p + size_of (row_of i) ≤ length s → (k ≡ Constant) ⊎ ((k ≡ Blank) ⊎ (k ≡ Name)) → fits (row_of i) (taken_of (row_of i) (drop p s)) ≡ true
+step_true i p s k w d start f h e =
+    ⊎_elim (λ q. step_fixed i p s (kind_number k) w d start f (omega (arith, ap kind_number q)))
+    (λ r. ⊎_elim (λ q. step_fixed i p s (kind_number k) w d start f (omega (arith, ap kind_number q)))
+    (λ q. step_name i p s (kind_number k) w d start f (omega (arith, h, step_size_w i p s (kind_number k) w d start f (omega (arith, ap kind_number q)))) (omega (arith, ap kind_number q))) r)
+    e

@@ -1,14 +1,13 @@
 -- How a file is written from values, a turn of each loop at a time: judged first, then laid.
-use Rattle.std.specs.Prelude.{ℕ, zero, suc, ◌+◌, ◌-◌, ◌*◌, ◌≤◌, ◌<◌, ◌^◌, ◌≡◌, refl, Bool, true, false, not, ◌&&◌, List, [], ◌∷◌, ◌++◌, leb, eqb, get_or, take, drop, set, replicate}
+use Rattle.std.specs.Prelude.{Result, Ok, Err, ℕ, suc, ◌+◌, ◌-◌, ◌*◌, ◌≤◌, ◌<◌, ◌≡◌, refl, true, false, List, [], ◌∷◌, ◌++◌, eqb, get_or, take, drop, set, replicate}
 use Rattle.std.proofs.Math.Path.{sym}
-use Rattle.std.proofs.Common.{ap, ◌∙◌, ⊎_elim, append_assoc, append-nil, arith, add-zero, zero-add, add_assoc, lit≤, length-append, length-set, length-drop, take-append-drop, drop_of_length-le, drop-drop, drop_at, take_at, take_all, take-take, get_or-take, length-take-le, le-leb, le-ltb, ne_eqb}
+use Rattle.std.proofs.Common.{ap, ◌∙◌, ⊎_elim, append_assoc, append-nil, arith, add-zero, zero-add, add_assoc, lit≤, length-append, drop_of_length-le, drop-drop, drop_at, take-take, get_or-take, length-take-le, le-leb, le-ltb, ne_eqb}
 use Rattle.std.proofs.Math.ListN.{length}
 use Rattle.std.proofs.lemmas.List.{length-replicate}
-use Rattle.std.proofs.lemmas.Bool.{lt-leb}
-use Rattle.terms.specs.Paper.{Paper, answer, pick}
-use Rattle.terms.specs.Cases.{two, less, same, clash}
-use Rattle.octets.specs.Octets.{be, bytes_of, digits_of, laid, sum8}
-use Rattle.octets.specs.Numerals.{length_digits, numeral_take, numeral_drop, be_front}
+use Rattle.terms.specs.Paper.{Paper, answer}
+use Rattle.terms.specs.Cases.{two}
+use Rattle.octets.specs.Octets.{be, bytes_of, laid, sum8}
+use Rattle.octets.specs.Numerals.{length_digits, numeral_take}
 use Rattle.octets.specs.Overlays.{laid_append, length_laid, laid_one, laid_nil, laid_front, laid_next, take_front}
 use Rattle.octets.specs.Papers.{laid_if_room, laid_there}
 use Rattle.digits.specs.Digits.{decimal_of}
@@ -16,28 +15,28 @@ use Rattle.digits.specs.Laws.{both, length_decimal}
 use Rattle.market_columns.specs.Pieces.{take_drop}
 use Rattle.market_columns.specs.Columns.{Column, K, S, N, C, U, header, columns}
 use Rattle.market_columns.specs.Tables.{length_of}
-use Rattle.market_columns.specs.Values.{Value, Fixed, Number, Text, fits}
+use Rattle.market_columns.specs.Values.{Fixed, Number, Text, fits}
 use Rattle.market_spec.specs.File.{fault, fine, and_then, layout_of, trailer}
 use Rattle.market_spec.specs.Files.{then_fine, then_fault}
-use Rattle.market_spec.specs.Told.{Told, at_place, refused}
+use Rattle.market_spec.specs.Told.{not_fine, Told, at_place, refused}
 use Rattle.market_columns.specs.Numbers.{number_fits}
 use Rattle.market_spec.specs.LineValues.{line_text, line_fits, line_fits_both, line_text_long}
-use Rattle.market_spec.specs.LinesValues.{Line, lines_fit, lines_text, text_of_line}
-use Rattle.market_spec.specs.TrailerText.{sum_text, trailer_text}
+use Rattle.market_spec.specs.LinesValues.{Line, lines_text}
+use Rattle.market_spec.specs.TrailerText.{trailer_text}
 use Rattle.market_spec.specs.Sound.{Values, head_values, head_text, body_of, file_of, file_parts}
 use Rattle.market_spec.specs.ValueBytes.{size_of, taken_of, taken_line, taken_fault, AllFit}
 use Rattle.market_spec.specs.TakenBack.{sizes_of, row_fits_lem, RowFits, value_back}
 use Rattle.market_spec.specs.FileBytes.{own, own_values, type_of, lines_taken, values_taken, lines_given, values_given}
 use Rattle.market_spec.specs.BytesBack.{LineGiven, line_given, taken_end, taken_short, taken_type, taken_line_lem, given_end, given_on}
-use Rattle.market_spec.specs.WrittenAgain.{Given, given, sized, values_told, taken_fine, written_wrong, written_large, written_lacks, written_fine}
-use Rattle.market_values.specs.declared.Judged.{Judged}
-use Rattle.market_values.specs.declared.Judged.TheVariants.{Good, Bad}
+use Rattle.market_spec.specs.WrittenAgain.{given, sized, values_told, taken_fine}
+use Rattle.market_values.specs.declared.Good.{Good}
+use Rattle.market.specs.declared.Wrong.{Wrong}
 use Rattle.market.specs.Papers.{fault_number}
 
 -- what judging finds: the length of the file and its lines, or a fault
-abbrev pub judged_paper : Judged → Paper
-judged_paper (Good n k) = answer 0 (n ∷ k ∷ [])
-judged_paper (Bad f p) = answer (fault_number f) (p ∷ [])
+abbrev pub judged_paper : Result Good Wrong → Paper
+judged_paper (Ok g) = answer 0 (g.size ∷ g.lines ∷ [])
+judged_paper (Err w) = answer (fault_number w.fault) (w.place ∷ [])
 
 abbrev pub good_of : List Line → Paper
 good_of ls = answer 0 ((94 + length (lines_text ls)) ∷ length ls ∷ [])
@@ -287,6 +286,10 @@ module _ (s : List ℕ) (p a : ℕ) (out goal : List ℕ) (z : PutLeft s p a out
     unfolding lines_text
     split = rw x.lines
 
+    -- a line's type stands there
+    pub put_some : type_of (be 2 p s) ≡ 0 → ⊥
+    put_some e = not_fine 42 p 0 (λ q. omega arith) (sym (taken_type z.fuel p s (omega (arith, z.inside, z.enough)) h x.room e) ∙ z.good)
+
     pub put_two : p + 2 ≤ length s
     put_two = x.room
 
@@ -319,13 +322,9 @@ module _ (s : List ℕ) (p a : ℕ) (out goal : List ℕ) (z : PutLeft s p a out
 abbrev pub trailer_front : List ℕ
 trailer_front = trailer ++ (124 ∷ [])
 
-front_is : bytes_of 8 0x545241494C45527C ≡ trailer_front
-unfolding digits_of
-front_is = refl
-
-module _ (at v : ℕ) (o o1 o2 : List ℕ) (r : at + 12 ≤ length o) (p : o1 ≡ laid_if_room at (bytes_of 8 0x545241494C45527C) o) (s : v ≡ sum8 (take (at + 8) (drop 0 o1))) (q : o2 ≡ laid_if_room (at + 8) (decimal_of 3 v) o1) where
+module _ (at v : ℕ) (o o1 o2 : List ℕ) (r : at + 12 ≤ length o) (p : o1 ≡ laid_if_room at trailer_front o) (s : v ≡ sum8 (take (at + 8) (drop 0 o1))) (q : o2 ≡ laid_if_room (at + 8) (decimal_of 3 v) o1) where
   first : o1 ≡ laid at trailer_front o
-  first = p ∙ laid_there at 8 (bytes_of 8 0x545241494C45527C) o (length_digits 256 8 0x545241494C45527C) (le-leb (at + 8) (length o) (omega arith)) ∙ ap (λ (x : List ℕ). laid at x o) front_is
+  first = p ∙ laid_there at 8 trailer_front o refl (le-leb (at + 8) (length o) (omega arith))
 
   long_1 : length o1 ≡ length o
   long_1 = ap length first ∙ length_laid at trailer_front o (omega arith)

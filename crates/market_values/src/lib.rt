@@ -2,14 +2,17 @@
 // First MDTime, MDUpdateType and MktStatus, then for each line its type and its columns' values.
 #![tactic(auto)]
 
-ghost use Rattle.std.specs.Prelude.{◌≡◌, true, ◌++◌, ◌∷◌, [], ◌+◌, ◌-◌, ◌≤◌, ◌<◌, length, take, drop};
-ghost use Rattle.terms.specs.Paper.{answer};
-ghost use Rattle.octets.specs.Octets.{laid, bytes_of, sum8, Bytes};
+ghost use Rattle.std.specs.Prelude.{◌≡◌, true, ◌∷◌, ◌+◌, ◌≤◌, leb, length, get_or, take, drop};
+ghost use Rattle.terms.specs.Paper.{pick};
+ghost use Rattle.digits.specs.Digits.{nothing};
+ghost use Rattle.octets.specs.Octets.{be, laid, bytes_of, sum8, Bytes};
 ghost use Rattle.market_columns.specs.Columns.{row_of, columns, wide, column_ok};
+ghost use Rattle.market_columns.specs.Numbers.{amount, amount_paper, sign};
 ghost use Rattle.market_columns.specs.Tables.{length_of};
 ghost use Rattle.market_columns.specs.Values.{fits, text_of, value_in};
 ghost use Rattle.market.specs.Papers.{verdict_paper};
-ghost use Rattle.market_spec.specs.File.{end_of, fault_of, layout_of, fine};
+ghost use Rattle.market.specs.Starts.{line_number};
+ghost use Rattle.market_spec.specs.File.{layout_of, fine};
 ghost use Rattle.market_spec.specs.LineValues.{line_text, line_values};
 ghost use Rattle.market_spec.specs.ValueBytes.{size_of, taken_of, taken_line, taken_fault, AllFit, value_bytes, row_bytes};
 ghost use Rattle.market_spec.specs.TakenBack.{sizes_of};
@@ -18,25 +21,42 @@ ghost use Rattle.market_spec.specs.Sound.{Sound, values_of, head_text, file_of};
 ghost use Rattle.market_spec.specs.LinesValues.{lines_text};
 ghost use Rattle.market_spec.specs.TrailerText.{trailer_text};
 ghost use Rattle.market_values.specs.Giving.{Right};
+ghost use Rattle.market_values.specs.Steps.{some_number};
 ghost use Rattle.market_values.specs.Writing.{judged_paper, lines_judged, judged_of, HeadGood, trailer_front, FileGood};
 
-use market::{Fault, Verdict};
-use market_columns::Amount;
+use market::{Fault, LineType, Rows, Start, Wrong};
+use market_columns::{Amount, Kind};
 use octets::Number;
+
+// The rows of the header's own values.
+const OWN: Rows = Rows { first: 6, last: 9 };
 
 // How many bytes the value of row i's column has.
 fn size(i: usize) -> usize
     ensures { result ≡ size_of (row_of i) }
 {
-    let f = market_columns::column(i);
-    let kind = f.kind;
-    if kind <= 1 {
-        return 0;
+    let form = market_columns::column(i);
+    match form.kind {
+        Kind::Constant | Kind::Blank => 0,
+        Kind::Number => 9,
+        Kind::Text | Kind::Name => form.width,
     }
-    if kind == 2 {
-        return 9;
-    }
-    f.width
+}
+
+// The amount in the nine bytes of s from p on, a sign and the units. Only 0 and 1 are signs.
+fn amount_at(s: &[u8], p: usize) -> Option<Amount>
+    requires { p + 9 ≤ length s.now }
+    ensures { amount_paper result ≡ pick (leb (get_or s.now p 0) 1) (amount (get_or s.now p 0) (be 8 (p + 1) s.now)) nothing }
+{
+    let minus = match s[p] {
+        0 => false,
+        1 => true,
+        _ => return None,
+    };
+    Some(Amount {
+        minus,
+        units: u64::at(s, p + 1),
+    })
 }
 
 // Whether the value that stands in s from p on fits the column of row i.
@@ -44,18 +64,15 @@ fn value_fits(s: &[u8], p: usize, i: usize) -> bool
     requires { p + size_of (row_of i) ≤ length s.now }
     ensures { result ≡ fits (row_of i) (taken_of (row_of i) (drop p s.now)) }
 {
-    let f = market_columns::column(i);
-    let kind = f.kind;
-    if kind <= 1 {
-        return true;
+    let form = market_columns::column(i);
+    match form.kind {
+        Kind::Constant | Kind::Blank | Kind::Name => true,
+        Kind::Number => match amount_at(s, p) {
+            Some(amount) => market_columns::number_fits(form, amount),
+            None => false,
+        },
+        Kind::Text => market_columns::column_ok(s, p, i),
     }
-    if kind == 2 {
-        return market_columns::number_fits(f.width, f.decimals, s[p], u64::at(s, p + 1));
-    }
-    if kind == 3 {
-        return market_columns::column_ok(s, p, i);
-    }
-    true
 }
 
 // Lays the column of row i over out from at on, made of the value that stands in s from p on and
@@ -64,72 +81,74 @@ fn put_column(out: &mut [u8], at: usize, s: &[u8], p: usize, i: usize)
     requires { (at + wide (row_of i) ≤ length out.old) × ((p + size_of (row_of i) ≤ length s.now) × (fits (row_of i) (taken_of (row_of i) (drop p s.now)) ≡ true)) }
     ensures { out.new ≡ laid at (text_of (row_of i) (taken_of (row_of i) (drop p s.now))) out.old }
 {
-    let f = market_columns::column(i);
-    let kind = f.kind;
-    let w = f.width;
-    if kind <= 1 {
-        market_columns::put_fixed(out, at, i);
-        return;
+    let form = market_columns::column(i);
+    match form.kind {
+        Kind::Constant | Kind::Blank => {
+            market_columns::put_fixed(out, at, i);
+        }
+        Kind::Number => {
+            if let Some(amount) = amount_at(s, p) {
+                market_columns::put_number(out, at, form, amount);
+            }
+        }
+        Kind::Text | Kind::Name => {
+            let _ = octets::lay(out, at, &s[p..p + form.width]);
+        }
     }
-    if kind == 2 {
-        market_columns::put_number(out, at, w, f.decimals, s[p], u64::at(s, p + 1));
-        return;
-    }
-    let e = p + w;
-    octets::lay(out, at, &s[p..e]);
 }
 
-// The values of the rows from first up to last, in s from p on: the place behind them, or the first
-// that is cut short or does not fit.
-fn values_fit(s: &[u8], at: usize, first: usize, last: usize) -> Verdict
-    requires { (at ≤ length s.now) × (last ≤ 58) }
-    ensures { verdict_paper result ≡ taken_fault (columns first last) at s.now }
+// The values of some rows, in s from a place on: the place behind them, or the first that is cut
+// short or does not fit.
+fn values_fit(s: &[u8], at: usize, rows: Rows) -> Result<usize, Wrong>
+    requires { (at ≤ length s.now) × (rows.last ≤ 58) }
+    ensures { verdict_paper result ≡ taken_fault (columns rows.first rows.last) at s.now }
 {
     let mut p = at;
-    let mut i = first;
-    while i < last {
-        let z = size(i);
-        if s.len() - p < z {
-            return Verdict::Refused(Fault::CutShort, s.len());
+    for i in rows.first..rows.last {
+        let n = size(i);
+        if s.len() - p < n {
+            return Err(Wrong {
+                fault: Fault::CutShort,
+                place: s.len(),
+            });
         }
         if !value_fits(s, p, i) {
-            return Verdict::Refused(Fault::Column, p);
+            return Err(Wrong {
+                fault: Fault::Column,
+                place: p,
+            });
         }
-        p += z;
-        i += 1;
+        p += n;
     }
-    Verdict::Fine(p)
+    Ok(p)
 }
 
-// Lays the line of the rows from first up to last over out from at on, made of the values that
-// stand in s from `from` on, all of which fit.
-fn put_line(out: &mut [u8], at: usize, s: &[u8], from: usize, first: usize, last: usize)
-    requires { (last ≤ 58) × ((at + length_of (columns first last) ≤ length out.old) × AllFit (columns first last) from s.now) }
-    ensures { out.new ≡ laid at (line_text (columns first last) (taken_line (columns first last) (drop from s.now))) out.old }
+// Lays the line of some rows over out from at on, made of the values that stand in s from `from`
+// on, all of which fit.
+fn put_line(out: &mut [u8], at: usize, s: &[u8], from: usize, rows: Rows)
+    requires { (rows.last ≤ 58) × ((at + length_of (columns rows.first rows.last) ≤ length out.old) × AllFit (columns rows.first rows.last) from s.now) }
+    ensures { out.new ≡ laid at (line_text (columns rows.first rows.last) (taken_line (columns rows.first rows.last) (drop from s.now))) out.old }
 {
     let mut a = at;
     let mut p = from;
-    let mut i = first;
-    while i < last {
-        let f = market_columns::column(i);
-        let e = a + f.width;
+    for i in rows.first..rows.last {
+        let e = a + market_columns::column(i).width;
         put_column(out, a, s, p, i);
-        out[e] = market::due(i, last);
+        out[e] = market::due(i, rows.last);
         p += size(i);
         a = e + 1;
-        i += 1;
     }
 }
 
 // TAKING OUT
 
-// Lays a number's sign and units, nine bytes, over out from at on.
-fn give_number(out: &mut [u8], at: usize, m: u8, v: u64)
+// Lays an amount's sign and units, nine bytes, over out from at on.
+fn give_number(out: &mut [u8], at: usize, amount: Amount)
     requires { at + 9 ≤ length out.old }
-    ensures { out.new ≡ laid at (m ∷ bytes_of 8 v) out.old }
+    ensures { out.new ≡ laid at (sign amount.minus ∷ bytes_of 8 amount.units) out.old }
 {
-    out[at] = m;
-    octets::put(out, at + 1, 8, v);
+    out[at] = amount.minus as u8;
+    let _ = octets::put(out, at + 1, 8, amount.units);
 }
 
 // Lays the value of row i's column, which stands right in s from p on, over out from at on.
@@ -137,104 +156,80 @@ fn give_column(out: &mut [u8], at: usize, s: &[u8], p: usize, i: usize)
     requires { (at + size_of (row_of i) ≤ length out.old) × ((p + wide (row_of i) ≤ length s.now) × (column_ok (row_of i) (take (wide (row_of i)) (drop p s.now)) ≡ true)) }
     ensures { out.new ≡ laid at (value_bytes (value_in (row_of i) (take (wide (row_of i)) (drop p s.now)))) out.old }
 {
-    let f = market_columns::column(i);
-    let kind = f.kind;
-    let w = f.width;
-    if kind <= 1 {
-        return;
-    }
-    if kind == 2 {
-        match market_columns::number_at(s, p, w, f.decimals) {
-            Amount::Units(m, v) => {
-                give_number(out, at, m, v);
-                return;
+    let form = market_columns::column(i);
+    match form.kind {
+        Kind::Constant | Kind::Blank => {}
+        Kind::Number => {
+            if let Some(amount) = market_columns::number_at(s, p, form) {
+                give_number(out, at, amount);
             }
-            Amount::Nothing => return,
+        }
+        Kind::Text | Kind::Name => {
+            let _ = octets::lay(out, at, &s[p..p + form.width]);
         }
     }
-    let e = p + w;
-    octets::lay(out, at, &s[p..e]);
 }
 
-// Lays the values of the rows from first up to last, a line of s from a place on with nothing
-// wrong, over out from at on.
-fn give_line(out: &mut [u8], at: usize, s: &[u8], from: usize, first: usize, last: usize)
-    requires { (last ≤ 58) × ((at + sizes_of (columns first last) ≤ length out.old) × Right (columns first last) from s.now) }
-    ensures { out.new ≡ laid at (row_bytes (line_values (columns first last) (drop from s.now))) out.old }
+// Lays the values of some rows, a line of s from a place on with nothing wrong, over out from at
+// on.
+fn give_line(out: &mut [u8], at: usize, s: &[u8], from: usize, rows: Rows)
+    requires { (rows.last ≤ 58) × ((at + sizes_of (columns rows.first rows.last) ≤ length out.old) × Right (columns rows.first rows.last) from s.now) }
+    ensures { out.new ≡ laid at (row_bytes (line_values (columns rows.first rows.last) (drop from s.now))) out.old }
 {
     let mut a = at;
     let mut p = from;
-    let mut i = first;
-    while i < last {
-        let f = market_columns::column(i);
-        let w = f.width;
+    for i in rows.first..rows.last {
         give_column(out, a, s, p, i);
         a += size(i);
-        p += w + 1;
-        i += 1;
+        p += market_columns::column(i).width + 1;
     }
 }
 
 // The bytes of a line of a type, and those of its values with the type's own two.
-fn line_long(t: u8) -> usize
-    ensures { (result ≡ length_of (layout_of t)) × (result ≤ 227) }
+fn line_long(line: LineType) -> usize
+    ensures { (result ≡ length_of (layout_of (line_number line))) × (result ≤ 227) }
 {
-    if t == 1 {
-        return 227;
+    match line {
+        LineType::Md401 => 227,
+        LineType::Md404 => 128,
+        LineType::Md405 => 125,
+        LineType::Md406 => 149,
     }
-    if t == 2 {
-        return 128;
-    }
-    if t == 3 {
-        return 125;
-    }
-    149
 }
 
-fn line_size(t: u8) -> usize
-    ensures { (result ≡ 2 + sizes_of (layout_of t)) × (result ≤ 173) }
+fn line_size(line: LineType) -> usize
+    ensures { (result ≡ 2 + sizes_of (layout_of (line_number line))) × (result ≤ 173) }
 {
-    if t == 1 {
-        return 173;
+    match line {
+        LineType::Md401 => 173,
+        LineType::Md404 => 109,
+        LineType::Md405 => 103,
+        LineType::Md406 => 121,
     }
-    if t == 2 {
-        return 109;
-    }
-    if t == 3 {
-        return 103;
-    }
-    121
 }
 
 // The number of a line's type, and the type of a number.
-fn type_number(t: u8) -> u64
-    ensures { result ≡ type_number t }
+fn type_number(line: LineType) -> u64
+    ensures { result ≡ type_number (line_number line) }
 {
-    if t == 1 {
-        return 401;
+    match line {
+        LineType::Md401 => 401,
+        LineType::Md404 => 404,
+        LineType::Md405 => 405,
+        LineType::Md406 => 406,
     }
-    if t == 2 {
-        return 404;
-    }
-    if t == 3 {
-        return 405;
-    }
-    406
 }
 
-fn type_of(n: u16) -> u8
-    ensures { result ≡ type_of n }
+fn type_of(n: u16) -> Option<LineType>
+    ensures { some_number result ≡ type_of n }
 {
-    if n == 401 {
-        return 1;
+    match n {
+        401 => Some(LineType::Md401),
+        404 => Some(LineType::Md404),
+        405 => Some(LineType::Md405),
+        406 => Some(LineType::Md406),
+        _ => None,
     }
-    if n == 404 {
-        return 2;
-    }
-    if n == 405 {
-        return 3;
-    }
-    if n == 406 { 4 } else { 0 }
 }
 
 // How many bytes the values of a sound file have.
@@ -244,14 +239,11 @@ fn values_size(s: &[u8]) -> usize
 {
     let mut p: usize = 82;
     let mut n: usize = 38;
-    loop {
-        let t = market::line_type(s, p);
-        if 4 < t {
-            return n;
-        }
-        n += line_size(t);
-        p += line_long(t);
+    while let Start::Line(line) = market::line_type(s, p) {
+        n += line_size(line);
+        p += line_long(line);
     }
+    n
 }
 
 // Lays the values of all lines of a sound file over out, behind those of the header.
@@ -261,16 +253,11 @@ fn give_lines(out: &mut [u8], s: &[u8])
 {
     let mut a: usize = 38;
     let mut p: usize = 82;
-    loop {
-        let t = market::line_type(s, p);
-        if 4 < t {
-            return;
-        }
-        octets::put(out, a, 2, type_number(t));
-        let r = market::rows_of(t);
-        give_line(out, a + 2, s, p, r.first, r.last);
-        a += line_size(t);
-        p += line_long(t);
+    while let Start::Line(line) = market::line_type(s, p) {
+        let _ = octets::put(out, a, 2, type_number(line));
+        give_line(out, a + 2, s, p, market::rows_of(line));
+        a += line_size(line);
+        p += line_long(line);
     }
 }
 
@@ -279,76 +266,70 @@ fn give_all(out: &mut [u8], s: &[u8])
     requires { Sound s.now × (length (values_bytes (values_of s.now)) ≤ length out.old) }
     ensures { out.new ≡ laid 0 (values_bytes (values_of s.now)) out.old }
 {
-    give_line(out, 0, s, 49, 6, 9);
+    give_line(out, 0, s, 49, OWN);
     give_lines(out, s);
 }
 
 // Takes the values out of a file, and answers how many bytes they are. What the check refuses is
-// refused so,
-// and where they have no room the answer is 8; nothing is written then.
-pub fn values(file: &[u8], out: &mut [u8]) -> Verdict
+// refused so, and where they have no room the answer is 8; nothing is written then.
+pub fn values(file: &[u8], out: &mut [u8]) -> Result<usize, Wrong>
     ensures { (verdict_paper result ≡ values_answer (length out.old) file.now) × (out.new ≡ laid_if0 (values_answer (length out.old) file.now) (values_bytes (values_of file.now)) out.old) }
 {
-    match market::check(file) {
-        Verdict::Refused(f, p) => Verdict::Refused(f, p),
-        Verdict::Fine(_) => {
-            let n = values_size(file);
-            if out.len() < n {
-                return Verdict::Refused(Fault::Room, 0);
-            }
-            give_all(out, file);
-            Verdict::Fine(n)
-        }
+    market::check(file)?;
+    let n = values_size(file);
+    if out.len() < n {
+        return Err(Wrong {
+            fault: Fault::Room,
+            place: 0,
+        });
     }
+    give_all(out, file);
+    Ok(n)
 }
 
 // WRITING
 
-// What judging values finds: how long the file is that they make, and how many lines it has;
-// or what is wrong, and where.
-#[derive(Clone, Copy)]
-enum Judged {
-    Good(usize, usize),
-    Bad(Fault, usize),
+// Values with nothing wrong: how long the file is that they make, and how many lines it has.
+#[derive(Clone, Copy, Debug, PartialEq, Eq)]
+struct Good {
+    size: usize,
+    lines: usize,
 }
 
 // The lines' values, behind those of the header.
-fn judge_lines(s: &[u8]) -> Judged
+fn judge_lines(s: &[u8]) -> Result<Good, Wrong>
     requires { 38 ≤ length s.now }
     ensures { judged_paper result ≡ lines_judged s.now }
 {
     let mut p: usize = 38;
-    let mut k: usize = 0;
-    let mut n: usize = 94;
+    let mut lines: usize = 0;
+    let mut size: usize = 94;
     while p < s.len() {
         if s.len() - p < 2 {
-            return Judged::Bad(Fault::CutShort, s.len());
+            return Err(Wrong {
+                fault: Fault::CutShort,
+                place: s.len(),
+            });
         }
-        let t = type_of(u16::at(s, p));
-        if t == 0 {
-            return Judged::Bad(Fault::LineType, p);
-        }
-        let r = market::rows_of(t);
-        match values_fit(s, p + 2, r.first, r.last) {
-            Verdict::Refused(f, q) => return Judged::Bad(f, q),
-            Verdict::Fine(q) => {
-                p = q;
-                n += line_long(t);
-                k += 1;
-            }
-        }
+        let Some(line) = type_of(u16::at(s, p)) else {
+            return Err(Wrong {
+                fault: Fault::LineType,
+                place: p,
+            });
+        };
+        p = values_fit(s, p + 2, market::rows_of(line))?;
+        size += line_long(line);
+        lines += 1;
     }
-    Judged::Good(n, k)
+    Ok(Good { size, lines })
 }
 
 // All values.
-fn judge(s: &[u8]) -> Judged
+fn judge(s: &[u8]) -> Result<Good, Wrong>
     ensures { judged_paper result ≡ judged_of s.now }
 {
-    match values_fit(s, 0, 6, 9) {
-        Verdict::Refused(f, q) => Judged::Bad(f, q),
-        Verdict::Fine(_) => judge_lines(s),
-    }
+    values_fit(s, 0, OWN)?;
+    judge_lines(s)
 }
 
 // Lays the header of a file of k lines over out.
@@ -357,9 +338,9 @@ fn put_head(out: &mut [u8], s: &[u8], k: usize)
     ensures { out.new ≡ laid 0 (head_text (values_given s.now)) out.old }
 {
     let mut h = [0u8; 47];
-    octets::put(&mut h, 1, 8, k as u64);
-    octets::lay(&mut h, 9, &s[..38]);
-    put_line(out, 0, &h, 0, 0, 9);
+    let _ = octets::put(&mut h, 1, 8, k as u64);
+    let _ = octets::lay(&mut h, 9, &s[..38]);
+    put_line(out, 0, &h, 0, Rows { first: 0, last: 9 });
 }
 
 // Lays all lines over out, behind the header.
@@ -370,11 +351,12 @@ fn put_lines(out: &mut [u8], s: &[u8])
     let mut a: usize = 82;
     let mut p: usize = 38;
     while p < s.len() {
-        let t = type_of(u16::at(s, p));
-        let r = market::rows_of(t);
-        put_line(out, a, s, p + 2, r.first, r.last);
-        a += line_long(t);
-        p += line_size(t);
+        let Some(line) = type_of(u16::at(s, p)) else {
+            return;
+        };
+        put_line(out, a, s, p + 2, market::rows_of(line));
+        a += line_long(line);
+        p += line_size(line);
     }
 }
 
@@ -384,39 +366,41 @@ fn put_trailer(out: &mut [u8], at: usize)
     requires { at + 12 ≤ length out.old }
     ensures { out.new ≡ laid at (trailer_text (sum8 (take (at + 8) (laid at trailer_front out.old)))) out.old }
 {
-    octets::put(out, at, 8, 0x545241494C45527C);
+    let _ = octets::lay(out, at, b"TRAILER|");
     let v = octets::sum(out, 0, at + 8);
-    digits::put_digits(out, at + 8, 3, v as u64);
-    out[at + 11] = 10;
+    let _ = digits::put_digits(out, at + 8, 3, u64::from(v));
+    out[at + 11] = b'\n';
 }
 
-// Lays the file of n bytes and k lines over out.
-fn put_file(out: &mut [u8], s: &[u8], n: usize, k: usize)
-    requires { FileGood s.now n k × (n ≤ length out.old) }
+// Lays the file that good values make over out.
+fn put_file(out: &mut [u8], s: &[u8], good: Good)
+    requires { FileGood s.now good.size good.lines × (good.size ≤ length out.old) }
     ensures { out.new ≡ laid 0 (file_of (values_given s.now)) out.old }
 {
-    put_head(out, s, k);
+    put_head(out, s, good.lines);
     put_lines(out, s);
-    put_trailer(out, n - 12);
+    put_trailer(out, good.size - 12);
 }
 
 // Writes the file that values make, and answers how long it is. Refused are, by rising place among
-// the values, 40, 42 and 43;
-// then 47 for too long a file, then 8 for too small a buffer; nothing is written then.
-pub fn written(values: &[u8], out: &mut [u8]) -> Verdict
+// the values, 40, 42 and 43; then 47 for too long a file, then 8 for too small a buffer; nothing is
+// written then.
+pub fn written(values: &[u8], out: &mut [u8]) -> Result<usize, Wrong>
     ensures { (verdict_paper result ≡ written_answer (length out.old) values.now) × ((out.new ≡ laid_if0 (written_answer (length out.old) values.now) (file_of (values_given values.now)) out.old) × Bytes values.now) }
 {
-    match judge(values) {
-        Judged::Bad(f, p) => Verdict::Refused(f, p),
-        Judged::Good(n, k) => {
-            if 65536 < n {
-                return Verdict::Refused(Fault::Large, 0);
-            }
-            if out.len() < n {
-                return Verdict::Refused(Fault::Room, 0);
-            }
-            put_file(out, values, n, k);
-            Verdict::Fine(n)
-        }
+    let good = judge(values)?;
+    if 65536 < good.size {
+        return Err(Wrong {
+            fault: Fault::Large,
+            place: 0,
+        });
     }
+    if out.len() < good.size {
+        return Err(Wrong {
+            fault: Fault::Room,
+            place: 0,
+        });
+    }
+    put_file(out, values, good);
+    Ok(good.size)
 }

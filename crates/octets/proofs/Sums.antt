@@ -1,7 +1,8 @@
 -- Laws of the sums.
-use Rattle.std.specs.Prelude.{◌≡◌, ℕ, suc, ◌+◌, ◌-◌, ◌%◌, ◌<◌, ◌≤◌, List, [], ◌∷◌, ◌++◌, length, take, drop, replicate, slice_index, slice_range}
-use Rattle.std.proofs.Common.{sym, ap, ◌∙◌, append_assoc, add-one, arith, length-drop, drop-cons, length-take-le, take-add, drop-drop}
+use Rattle.std.specs.Prelude.{◌≡◌, ℕ, suc, ◌+◌, ◌-◌, ◌*◌, ◌%◌, ◌<◌, ◌≤◌, List, [], ◌∷◌, ◌++◌, length, take, drop, replicate}
+use Rattle.std.proofs.Common.{sym, ap, ◌∙◌, append_assoc, arith, mul-zero, mul-suc, length-drop, length-take-le, take-add, drop-drop}
 use Rattle.std.proofs.lemmas.List.{length-replicate}
+use Rattle.std.proofs.lemmas.Nat.{mul-mod_second}
 use Rattle.octets.specs.Octets.{sum_of, sum8, sum_after, laid}
 use Rattle.octets.specs.Overlays.{take_laid, mid_laid, drop_laid}
 use Rattle.octets.specs.Sums.{sum_of_append}
@@ -55,7 +56,17 @@ module _ (d : List ℕ) (m at n b v : ℕ) (within : at + n ≤ m) (there : m �
       ∙ ap (λ (x : ℕ). sum8 (take at d ++ (replicate x b ++ behind))) long
       ∙ ap sum8 (sym painted)
 
--- what is left to take off from the place i on, up to m
-pub left_on : (s : List ℕ) (m i v w b : ℕ) → i < m → i < length s → w ≡ (v + (256 - slice_index s i % 256) + b) % 256 → sum_after w (take (m - (i + 1)) (drop (i + 1) s)) b ≡ sum_after v (slice_range s i m) b
-unfolding sum_after
-left_on s m i v w b h l e = let p : m - i ≡ suc (m - (i + 1)) = omega arith in rw (p, drop-cons s i 0 l, add-one, e)
+-- A SUM AFTER BYTES CHANGED, by their sum and their number
+
+counted : (b n : ℕ) → b * (suc n % 256) % 256 ≡ (b * (n % 256) % 256 + b) % 256
+counted b n = mul-mod_second b (suc n) 256 ∙ ap (λ (k : ℕ). k % 256) (mul-suc b n) ∙ omega (arith, mul-mod_second b n 256)
+
+one_more : (v x b n p q : ℕ) → q ≡ (p + b) % 256 → ((v + (256 - (x + n) % 256)) % 256 + q) % 256 ≡ (((v + (256 - x % 256) + b) % 256 + (256 - n % 256)) % 256 + p) % 256
+one_more v x b n p q e = omega arith
+
+pub sum_after_is : (old : List ℕ) (v b : ℕ) → v < 256 → ((v + (256 - sum8 old)) % 256 + b * (length old % 256) % 256) % 256 ≡ sum_after v old b
+unfolding sum_after sum8 sum_of
+sum_after_is [] v b h = omega (arith, mul-zero b)
+sum_after_is (x ∷ old) v b h =
+    one_more v x b (sum_of old) (b * (length old % 256) % 256) (b * (suc (length old) % 256) % 256) (counted b (length old))
+    ∙ sum_after_is old ((v + (256 - x % 256) + b) % 256) b (omega arith)

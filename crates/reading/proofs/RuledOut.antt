@@ -2,8 +2,8 @@
 -- and what is then wrong. Assumes nothing.
 use Prim.Native.Nat.{ℕ}
 use mathlib.Core.Path.{refl, ap}
-use mathlib.Core.List.{List, [], ◌∷◌, ◌++◌}
-use lib.ListN.{drop, replicate}
+use mathlib.Core.List.{List, [], ◌∷◌}
+use lib.ListN.{drop}
 use Rattle.terms.specs.Letters.{spelled}
 use Rattle.terms.specs.RuledOut.{Row, ◌never◌, ◌only◌, Kept, RulesOut, ruled, lists}
 use Rattle.terms.specs.Refusals.{refusal_of}

@@ -1,13 +1,12 @@
 -- What is seen from the facts that lead to it, and the laws of reading as `walk_laws` wants them.
-use Rattle.std.specs.Prelude.{ℕ, zero, suc, ◌+◌, ◌≤◌, ◌≡◌, refl, false, List, [], ◌∷◌, ◌++◌, length, get_or, drop}
+use Rattle.std.specs.Prelude.{ℕ, zero, suc, ◌+◌, ◌≤◌, ◌≡◌, refl, Ok, List, [], ◌∷◌, ◌++◌, length, get_or, drop}
 use Rattle.std.proofs.Common.{sym, ap, ◌∙◌, ⊎_elim, arith, length-drop, eq-eqb, ne_eqb}
 use Rattle.std.proofs.lemmas.List.{take-append-le, drop-append-le}
 use Rattle.terms.specs.Paper.{Paper, answer, refusal, one_number}
-use Rattle.terms.specs.Cases.{same, clash}
+use Rattle.terms.specs.Cases.{same}
 use Rattle.terms.specs.Counters.{session_of}
 use Rattle.terms.specs.Refusals.{number_of, refusal_of, refusal_pos}
 use Rattle.terms.proofs.Refusals.{refusal_back}
-use Rattle.terms.specs.declared.Verdict.TheVariants.{Fine}
 use Rattle.terms.specs.declared.Refusal.{Refusal}
 use Rattle.terms.specs.declared.SessionNumber.{SessionNumber}
 use Rattle.rules.specs.Table.{kind_of}
@@ -20,8 +19,7 @@ use Rattle.frame_spec.specs.Outcomes.{good, good_reads, read_done, read_values, 
 use Rattle.frame_spec.specs.Stable.{kept, enough}
 use Rattle.frame_spec.specs.Given.{Reads}
 use Rattle.frame_spec.specs.GivenRead.{read_given}
-use Rattle.walk_laws.specs.Walk.{Says, frame, more, bad}
-use Rattle.walk_laws.specs.Literal.{is_frame}
+use Rattle.walk_laws.specs.Walk.{frame, more}
 use Rattle.reading.specs.declared.Seen.{Seen}
 use Rattle.reading.specs.Seen.{shown, blank, seen_of, seen_number, says_of}
 use Rattle.reading.specs.SeenLaws.{says_more, more_says, frame_says}
@@ -44,7 +42,7 @@ module _ (s : List ℕ) where
       sym (seen_blank (λ (z : (read_of s).number ≡ 0). refusal_pos w (sym n ∙ z)) ∙ ap blank (ap refusal_of n ∙ refusal_back w))
 
   pub seen_read : (t time n : ℕ) (q : SessionNumber) (k : Kind) (v : View) → answer 0 (t ∷ time ∷ q.0 ∷ n ∷ []) ≡ read_of s → k ≡ kind_of t → v ≡ view_of k (body s)
-      → ◌≡◌ {A = Seen} (record { answer = Fine; msg_type = t; seq = q; channel = v.channel; tick = v.tick; status = v.status; body_len = n; size = 28 + n }) (seen_of s)
+      → ◌≡◌ {A = Seen} (record { answer = Ok tt; msg_type = t; seq = q; channel = v.channel; tick = v.tick; status = v.status; body_len = n; size = 28 + n }) (seen_of s)
   seen_read t time n q k v e f g =
       let values = ap (λ (p : Paper). p.values) (read_values s t time q.0 n e) in
       let is_type : t ≡ msg_type s = ap (λ (vs : List ℕ). get_or vs 0 0) values in

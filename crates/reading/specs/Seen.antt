@@ -1,13 +1,12 @@
 -- What the walk sees at a place: all that records, ledger, listing and figures are made of. Nothing
 -- of it is private.
-use Rattle.std.specs.Prelude.{ℕ, ◌+◌, List, eqb}
+use Rattle.std.specs.Prelude.{ℕ, ◌+◌, List, eqb, Ok, Err}
 use Rattle.terms.specs.Paper.{pick}
 use Rattle.terms.specs.Counters.{session_of, tick_of, channel_of}
 use Rattle.terms.specs.Letters.{spelled}
 use Rattle.terms.specs.Refusals.{refusal_of}
 use Rattle.terms.specs.Verdicts.{verdict_number}
 use Rattle.terms.specs.declared.Refusal.{Refusal}
-use Rattle.terms.specs.declared.Verdict.TheVariants.{Fine, Refused}
 use Rattle.rules.specs.Table.{kind_of}
 use Rattle.frame_view.specs.declared.View.{View}
 use Rattle.frame_spec.specs.Frame.{msg_type, msg_seq_num, body_length, read_of, reads, body_read}
@@ -19,7 +18,7 @@ use Rattle.reading.specs.declared.Seen.{Seen}
 abbrev pub shown : List ℕ → View → Seen
 shown s v =
     record {
-      answer = Fine;
+      answer = Ok tt;
       msg_type = msg_type s;
       seq = session_of (msg_seq_num s);
       channel = v.channel;
@@ -34,7 +33,7 @@ shown s v =
 abbrev pub blank : Refusal → Seen
 blank why =
     record {
-      answer = Refused why;
+      answer = Err why;
       msg_type = spelled "    ";
       seq = session_of 0;
       channel = channel_of 0;

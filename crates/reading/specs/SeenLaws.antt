@@ -1,29 +1,11 @@
 -- What is seen from the facts that lead to it, and the laws of reading as `walk_laws` wants them.
-use Rattle.std.specs.Prelude.{ℕ, zero, suc, ◌+◌, ◌≤◌, ◌≡◌, refl, false, List, [], ◌∷◌, ◌++◌, length, get_or, drop}
-use Rattle.std.proofs.Common.{sym, ap, ◌∙◌, ⊎_elim, arith, length-drop, eq-eqb, ne_eqb}
-use Rattle.std.proofs.lemmas.List.{take-append-le, drop-append-le}
-use Rattle.terms.specs.Paper.{Paper, answer, refusal, one_number}
+use Rattle.std.specs.Prelude.{ℕ, ◌≡◌, false}
+use Rattle.std.proofs.Common.{sym, ap, ◌∙◌, ⊎_elim, arith, ne_eqb}
 use Rattle.terms.specs.Cases.{same, clash}
-use Rattle.terms.specs.Counters.{session_of}
-use Rattle.terms.specs.Refusals.{number_of, refusal_of, refusal_pos}
-use Rattle.terms.proofs.Refusals.{refusal_back}
-use Rattle.terms.specs.declared.Verdict.TheVariants.{Fine}
-use Rattle.terms.specs.declared.Refusal.{Refusal}
-use Rattle.terms.specs.declared.SessionNumber.{SessionNumber}
-use Rattle.rules.specs.Table.{kind_of}
-use Rattle.rules.specs.declared.Kind.{Kind}
-use Rattle.frame_view.specs.declared.View.{View}
-use Rattle.frame_spec.specs.Frame.{msg_type, sending_time, msg_seq_num, body_length, body, read_of}
-use Rattle.frame_view.specs.View.{view_of}
-use Rattle.frame_spec.specs.Places.{body_of}
-use Rattle.frame_spec.specs.Outcomes.{good, good_reads, read_done, read_values, read_length}
-use Rattle.frame_spec.specs.Stable.{kept, enough}
-use Rattle.frame_spec.specs.Given.{Reads}
-use Rattle.frame_spec.specs.GivenRead.{read_given}
 use Rattle.walk_laws.specs.Walk.{Says, frame, more, bad}
 use Rattle.walk_laws.specs.Literal.{is_frame}
 use Rattle.reading.specs.declared.Seen.{Seen}
-use Rattle.reading.specs.Seen.{shown, blank, seen_of, seen_number, says_of}
+use Rattle.reading.specs.Seen.{seen_number, says_of}
 
 -- WHAT A READING SAYS
 

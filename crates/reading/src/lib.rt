@@ -4,7 +4,7 @@
 ghost use Rattle.std.specs.Prelude.{◌≡◌, drop};
 ghost use Rattle.reading.specs.Seen.{blank, seen_of};
 
-use frame::Read;
+use rules::Kind;
 use terms::{ChannelNumber, Refusal, SessionNumber, TickNumber};
 
 // All that a reading tells the layers above, and nothing private. A refused reading shows why, and
@@ -42,29 +42,20 @@ pub fn see(bytes: &[u8], at: usize) -> Seen
     ensures { result ≡ seen_of (drop at bytes.now) }
 {
     match frame::read_at(bytes, at) {
-        Read::Refused(why) => blank(why),
-        Read::Frame {
-            msg_type,
-            sending_time: _,
-            seq,
-            body_len,
-        } => {
+        Err(why) => blank(why),
+        Ok(header) => {
             let first = at + 24;
-            let behind = first + body_len;
-            let view = frame_view::view_of(rules::kind_of(msg_type), &bytes[first..behind]);
-            let channel = view.channel;
-            let tick = view.tick;
-            let length = body_len as u32;
-            let size = 28 + body_len;
+            let behind = first + header.body_len;
+            let view = frame_view::view_of(Kind::from(header.msg_type), &bytes[first..behind]);
             Seen {
                 answer: Ok(()),
-                msg_type,
-                seq,
-                channel,
-                tick,
+                msg_type: header.msg_type,
+                seq: header.seq,
+                channel: view.channel,
+                tick: view.tick,
                 status: view.status,
-                body_len: length,
-                size,
+                body_len: header.body_len as u32,
+                size: 28 + header.body_len,
             }
         }
     }

@@ -5,12 +5,17 @@ use Rattle.terms.specs.OneAnswer.{OneAnswer}
 use Rattle.terms.specs.OneBuffer.{OneBuffer, RefusedKeeps}
 use Rattle.step_spec.specs.WriteLaws.{left_kept}
 use Rattle.step_frame.specs.Papers.{field_one, read_one, step_written_one, step_written_paper, StepRefuses, step_pos}
+use Rattle.step_frame.proofs.U32FromStepRefusal.from.Reads as number
+use Rattle.step_frame.proofs.U32FromStepRefusal.from.Kinds as number-kinds
 use Rattle.step_frame.proofs.field_at.Reads as field_at
 use Rattle.step_frame.proofs.field_at.Kinds as field-at-kinds
 use Rattle.step_frame.proofs.read_at.Reads as read_at
 use Rattle.step_frame.proofs.read_at.Kinds as read-at-kinds
 use Rattle.step_frame.proofs.write.Reads as write
 use Rattle.step_frame.proofs.write.Kinds as write-kinds
+
+pub U32FromStepRefusal_from_one_answer : OneAnswer _ number-kinds.ps number-kinds.r number.Post
+U32FromStepRefusal_from_one_answer κs a x y s t p q = p ∙ sym q
 
 pub field_at_one_answer : OneAnswer _ field-at-kinds.ps field-at-kinds.r field_at.Post
 field_at_one_answer κs a x y s t p q = field_one x y (p ∙ sym q)

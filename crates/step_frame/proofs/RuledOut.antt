@@ -5,7 +5,7 @@ use mathlib.Core.Path.{refl}
 use mathlib.Core.List.{List, [], ◌∷◌, ◌++◌}
 use lib.ListN.{length, drop, replicate}
 use Rattle.terms.specs.Paper.{Paper, answer, refusal}
-use Rattle.terms.specs.RuledOut.{Row, ◌never◌, ◌only◌, Kept, RulesOut, ruled, papers, Left, left, lefts, left_is}
+use Rattle.terms.specs.RuledOut.{Row, ◌never◌, ◌only◌, Kept, RulesOut, ruled, numbers, papers, Left, left, lefts, left_is}
 use Rattle.terms.specs.Checks.{or_else}
 use Rattle.octets.specs.Octets.{sum_of, sum8, laid, numeral, digits_of}
 use Rattle.digits.specs.Digits.{decimal_of, width_in, all_digits, said_by, said_if_digits, digits_at, decimal_at}
@@ -17,13 +17,32 @@ use Rattle.step_spec.specs.Fields.{is_field, tag_of, value_of, fits, all_below, 
 use Rattle.step_spec.specs.Frame.{trailer_of, front, digit_run, length_check, body_start, body_length, long_check, kind_check, type_check, head_of, sum_check, verdict_of, step_read_of}
 use Rattle.step_spec.specs.Written.{plain_of, frame_of, message_of, step_write_of, step_left_of}
 use Rattle.step_spec.specs.Examples.{beat, needless_zero, two_digits, far_trailer, type_and_zero, type_h, type_and_sum, wrong_sum, time_and_field, month13, wrong_front, right_front, twice49, empty49, no34, beat108, reset_under5, reset_under4, long_frame, logon, order, heartbeat_fields, sorted_fields, sorted_beat}
-use Rattle.step_frame.specs.Papers.{read_paper, field_paper, step_written_paper}
+use Rattle.step_frame.specs.declared.StepRefusal.{StepRefusal}
+use Rattle.step_frame.specs.declared.StepRefusal.TheVariants.{More, Sum, Time, Room, Begin, Fields}
+use Rattle.step_frame.specs.Papers.{step_number, read_paper, field_paper, step_written_paper}
+use Rattle.step_frame.proofs.U32FromStepRefusal.from.Reads as number
+use Rattle.step_frame.proofs.U32FromStepRefusal.from.Kinds as number-kinds
 use Rattle.step_frame.proofs.field_at.Reads as field_at
 use Rattle.step_frame.proofs.field_at.Kinds as field-at-kinds
 use Rattle.step_frame.proofs.read_at.Reads as read_at
 use Rattle.step_frame.proofs.read_at.Kinds as read-at-kinds
 use Rattle.step_frame.proofs.write.Reads as write
 use Rattle.step_frame.proofs.write.Kinds as write-kinds
+
+-- FROM: a refusal
+abbrev pub U32FromStepRefusal_from_wrong : List (Row StepRefusal ℕ)
+U32FromStepRefusal_from_wrong =
+    More only 1
+    ∷ Sum only 5  -- not counted from 0
+    ∷ Time never 26  -- told from a field
+    ∷ Room only 8
+    ∷ Begin only 23
+    ∷ Fields never 7  -- told from a time
+    ∷ Fields only 26
+    ∷ []
+
+pub U32FromStepRefusal_from_rules_out : RulesOut (Kept _ number-kinds.ps number-kinds.r number.Post) (λ c. c.args.0) (λ c. c.result) U32FromStepRefusal_from_wrong
+U32FromStepRefusal_from_rules_out = ruled numbers step_number (λ c p. p) _ refl
 
 -- FIELD_AT: fields and a place
 abbrev pub field_at_wrong : List (Row (List ℕ × ℕ) Paper)

@@ -1,11 +1,11 @@
 -- What painting leaves: the pieces, their tags, and all that reading judges.
 use Prim.Native.Nat.{ℕ, zero, suc, ◌+◌, ◌<◌, ◌≤◌}
-use Rattle.std.specs.Prelude.{◌≡◌, refl, Bool, true, false, not, ◌&&◌, ◌||◌, ◌⊎◌, eqb, ltb, take, drop, set}
+use Rattle.std.specs.Prelude.{◌≡◌, refl, Bool, true, false, not, ◌||◌, ◌⊎◌, eqb, ltb, take, drop, set}
 use Rattle.std.proofs.Common.{sym, ap, ◌∙◌, inl, inr, arith, length-drop, add-one, take_at, drop_at, take-suc, length-take-le}
 use mathlib.Core.List.{List, [], ◌∷◌, ◌++◌, append_assoc}
 use Rattle.std.proofs.Math.Logic.{⊎_elim}
 use Rattle.std.proofs.Math.ListN.{length, replicate, length-append, length-replicate}
-use borrow.Author.Tests.{lt-ltb, eqb-true, eq-eqb, not-true}
+use borrow.Author.Tests.{lt-ltb, eqb-true}
 use Rattle.terms.specs.Paper.{pick}
 use Rattle.terms.specs.Cases.{two, less, clash}
 use Rattle.digits.specs.Digits.{decimal_at}
@@ -13,7 +13,7 @@ use Rattle.digits.specs.Laws.{both}
 use Rattle.step_tags.specs.Table.{row_of, row_in, row_at, rows, C}
 use Rattle.step_tags.specs.Forms.{suits, form_ok, is_unreal}
 use Rattle.step_spec.specs.Pieces.{SOH, equals, until_of, pieces, closed}
-use Rattle.step_spec.specs.PieceLaws.{until_le, until_found, until_here, until_on, pieces_cut, closed_cut}
+use Rattle.step_spec.specs.PieceLaws.{until_le, until_found, pieces_cut, closed_cut}
 use Rattle.step_spec.specs.Fields.{is_field, tag_of, value_of, fits, passes, sound_of, sound_from, begins52, unreal_in}
 use Rattle.step_spec.specs.FieldLaws.{piece, decimal_same, tag_52}
 use Rattle.step_scrub.specs.Scrubbed.{is_private, paint_piece, paint_all, joined, painted, all_fields}

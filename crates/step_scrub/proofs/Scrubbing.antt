@@ -16,7 +16,7 @@ use Rattle.step_spec.proofs.RoundTrip.{kind_of_frame, fields_of_frame, length_of
 use Rattle.step_spec.specs.Exactly.{Good, good, Reads}
 use Rattle.step_spec.proofs.Exactly.{is_frame, reads_exactly, exactly_reads}
 use Rattle.step_scrub.specs.Scrubbed.{paint_all, joined, painted, scrubbed_of}
-use Rattle.step_scrub.specs.Private.{pieces_back, FieldThen, as_many, AlikeFields}
+use Rattle.step_scrub.specs.Private.{pieces_back, FieldThen, as_many}
 use Rattle.step_scrub.proofs.PaintLaws.{painted_real, painted_sound, painted_twice, kept}
 use Rattle.step_scrub.proofs.Private.{fields_then, alike_painted}
 use Rattle.step_scrub.proofs.ScrubLaws.{same_long, closed_fields, all_fields_lem}

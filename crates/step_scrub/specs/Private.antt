@@ -1,14 +1,12 @@
 -- Document 02, CR 5: "paints 49, 56, 553, 554 and 58 with spaces of the same length". Which tags
 -- these are, outright, so that a shorter `is_private` is refused; that no byte of the fields is in
 -- no field; what becomes of one field; and when fields differ in private values alone.
-use Rattle.std.specs.Prelude.{ℕ, zero, suc, ◌+◌, ◌<◌, ◌≡◌, refl, true, false, ◌⊎◌, List, [], ◌∷◌, eqb, length, get_or, take, replicate}
-use Rattle.std.proofs.Common.{sym, ap, ◌∙◌, ⊎_elim, arith, eqb-true}
+use Rattle.std.specs.Prelude.{ℕ, suc, ◌+◌, ◌≡◌, refl, true, false, ◌⊎◌, List, [], ◌∷◌, eqb, length, take, replicate}
+use Rattle.std.proofs.Common.{sym, ap, ◌∙◌, ⊎_elim, eqb-true}
 use Rattle.terms.specs.Cases.{two}
-use Rattle.terms.specs.Says.{Says, says_eq, says_or}
-use Rattle.digits.specs.Laws.{both}
 use Rattle.step_spec.specs.Pieces.{SOH, equals, until_of, on_first, pieces, closed_by, closed}
-use Rattle.step_spec.specs.Fields.{is_field, tag_of, value_of}
-use Rattle.step_scrub.specs.Scrubbed.{is_private, paint_piece, paint_all, joined, all_fields}
+use Rattle.step_spec.specs.Fields.{tag_of, value_of}
+use Rattle.step_scrub.specs.Scrubbed.{paint_all, joined}
 
 -- SenderCompID, TargetCompID, Username, Password, Text
 abbrev pub PrivateTag : ℕ → Type 0

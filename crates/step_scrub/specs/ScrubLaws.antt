@@ -1,30 +1,17 @@
 -- Painting the fields and renewing the sum gives the frame of the painted fields.
-use Rattle.std.specs.Prelude.{ℕ, ◌+◌, ◌-◌, ◌^◌, ◌<◌, ◌≤◌, ◌≡◌, refl, Bool, true, get_or}
-use Rattle.std.proofs.Math.Path.{sym, ap}
-use Rattle.std.proofs.Common.{◌∙◌, ⊎_elim, arith}
-use mathlib.Core.List.{List, [], ◌∷◌, ◌++◌, append_assoc}
-use Rattle.std.proofs.Math.Dec.{lit≤}
-use Rattle.std.proofs.Math.ListN.{length, take, drop, length-append}
-use Rattle.std.proofs.Math.Seq.{take_at, drop_at}
+use Rattle.std.specs.Prelude.{ℕ, ◌+◌, ◌≡◌, refl, Bool, true}
+use Rattle.std.proofs.Math.Path.{sym}
+use Rattle.std.proofs.Common.{⊎_elim}
+use mathlib.Core.List.{List, [], ◌∷◌, ◌++◌}
 use borrow.Author.Tests.{ne_eqb}
-use Rattle.terms.specs.Paper.{Paper, answer, refusal, one_number}
+use Rattle.terms.specs.Paper.{answer, refusal, one_number}
 use Rattle.terms.specs.Cases.{same}
-use Rattle.octets.specs.Octets.{sum8, laid}
-use Rattle.octets.specs.Sums.{sum8_below}
-use Rattle.digits.specs.Digits.{shown_of, decimal_of, digits_at, number}
-use Rattle.digits.specs.Laws.{both, length_decimal, all_decimal, said_decimal}
-use Rattle.digits.specs.Texts.{Says, given_number}
+use Rattle.digits.specs.Digits.{shown_of}
+use Rattle.digits.specs.Laws.{both}
 use Rattle.step_spec.specs.Pieces.{SOH, pieces, closed}
 use Rattle.step_spec.specs.Fields.{is_field, fits, passes, sound_of, sound_from}
-use Rattle.step_spec.specs.Frame.{begin, length_tag, type_tag, trailer_of, body_start, body_length, body_end, frame_length, kind, fields, step_read_of}
-use Rattle.step_spec.specs.FrontLaws.{reads_on}
-use Rattle.step_spec.specs.Written.{plain_of, frame_of}
-use Rattle.step_spec.proofs.RoundTrip.{judged_closed, judged_sound}
-use Rattle.step_spec.specs.Exactly.{Good, good, passed}
-use Rattle.step_spec.proofs.Exactly.{is_frame, frame_ends, fields_long, plain_ends}
-use Rattle.step_scrub.specs.Scrubbed.{painted, all_fields, scrubbed_of, step_scrub_of, step_scrub_left}
-use Rattle.octets.specs.Overlays.{laid_mid}
-use Rattle.step_scrub.specs.Moved.{sum_moved, moved_behind}
+use Rattle.step_spec.specs.Frame.{begin, length_tag, type_tag, frame_length, step_read_of}
+use Rattle.step_scrub.specs.Scrubbed.{all_fields, scrubbed_of, step_scrub_of, step_scrub_left}
 
 -- fields that pass are fields
 fits_field : (type : ℕ) (p : List ℕ) → fits type p ≡ true → is_field p ≡ true

@@ -10,27 +10,27 @@ ghost use Rattle.step_frame.specs.Papers.{step_written_paper};
 ghost use Rattle.step_scrub.specs.Moved.{sum_moved};
 ghost use Rattle.step_scrub.specs.Scrubbed.{is_private, painted, all_fields, step_scrub_of, step_scrub_left};
 
-use step_frame::{Field, Read, StepWritten};
+use step_frame::{Field, StepRefusal};
 
 // Whether the value of a tag is private.
 fn is_private(tag: u64) -> bool
     ensures { result ≡ is_private tag }
 {
-    (tag == 49) | (tag == 56) | (tag == 553) | (tag == 554) | (tag == 58)
+    matches!(tag, 49 | 56 | 553 | 554 | 58)
 }
 
-// Paints the n bytes from a on with spaces, if they are the value of a private tag, and gives the
-// sum after it: each byte painted over is taken off, and a space added.
-fn paint_value(buf: &mut [u8], tag: u64, a: usize, n: usize, sum: u8) -> u8
-    requires { a + n ≤ length buf.old }
-    ensures { (buf.new ≡ pick (is_private tag) (laid a (replicate n 32) buf.old) buf.old) × (result ≡ sum_moved sum buf.old buf.new) }
+// Paints the value of a field with spaces, if its tag is private, and gives the sum after it: each
+// byte painted over is taken off, and a space added.
+fn paint_value(buf: &mut [u8], field: Field, sum: u8) -> u8
+    requires { field.value + field.len ≤ length buf.old }
+    ensures { (buf.new ≡ pick (is_private field.tag) (laid field.value (replicate field.len 32) buf.old) buf.old) × (result ≡ sum_moved sum buf.old buf.new) }
 {
-    if !is_private(tag) {
+    if !is_private(field.tag) {
         return sum;
     }
-    let after = octets::sum_after(sum, buf, a, n, b' ');
-    let e = a + n;
-    octets::fill(&mut buf[a..e], b' ');
+    let after = octets::sum_after(sum, buf, field.value, field.len, b' ');
+    let end = field.value + field.len;
+    octets::fill(&mut buf[field.value..end], b' ');
     after
 }
 
@@ -40,22 +40,10 @@ fn paint_fields(buf: &mut [u8], sum: u8) -> u8
     ensures { (buf.new ≡ painted buf.old) × (result ≡ sum_moved sum buf.old buf.new) }
 {
     let mut v = sum;
-    let mut i: usize = 0;
-    while i < buf.len() {
-        match step_frame::field_at(buf, i) {
-            Field::NoField => {
-                return v;
-            }
-            Field::At {
-                tag,
-                value,
-                len,
-                next,
-            } => {
-                v = paint_value(buf, tag, value, len, v);
-                i = next;
-            }
-        }
+    let mut i = 0;
+    while let Some(field) = step_frame::field_at(buf, i) {
+        v = paint_value(buf, field, v);
+        i = field.next;
     }
     v
 }
@@ -73,10 +61,7 @@ fn old_sum(buf: &[u8], n: usize) -> u8
     requires { (n + 7 ≤ length buf.now) × (digits_at (n + 3) 3 buf.now ≡ number (sum8 (take n buf.now))) }
     ensures { result ≡ sum8 (take n buf.now) }
 {
-    match digits::digits_at(buf, n + 3, 3) {
-        Some(x) => x as u8,
-        None => 0,
-    }
+    digits::digits_at(buf, n + 3, 3).unwrap_or(0) as u8
 }
 
 // Stores a sum in the three digits of the trailer after n bytes.
@@ -84,27 +69,18 @@ fn store_sum(buf: &mut [u8], n: usize, sum: u8)
     requires { n + 7 ≤ length buf.old }
     ensures { buf.new ≡ laid (n + 3) (decimal_of 3 sum) buf.old }
 {
-    digits::put_digits(buf, n + 3, 3, sum as u64);
+    let _ = digits::put_digits(buf, n + 3, 3, sum as u64);
 }
 
 // Paints the private values of the frame at the front of a lent buffer, and returns the frame's
 // length. A refusal leaves every byte.
-pub fn scrub(buf: &mut [u8]) -> StepWritten
+pub fn scrub(buf: &mut [u8]) -> Result<usize, StepRefusal>
     ensures { (step_written_paper result ≡ step_scrub_of buf.old) × (buf.new ≡ step_scrub_left buf.old) }
 {
-    match step_frame::read_at(buf, 0) {
-        Read::Refused(why) => StepWritten::Refused(why),
-        Read::Frame {
-            kind: _,
-            place,
-            len,
-            total,
-        } => {
-            let end = place + len;
-            let old = old_sum(buf, end);
-            let new = paint_part(buf, place, end, old);
-            store_sum(buf, end, new);
-            StepWritten::Bytes(total)
-        }
-    }
+    let frame = step_frame::read_at(buf, 0)?;
+    let end = frame.place + frame.len;
+    let old = old_sum(buf, end);
+    let new = paint_part(buf, frame.place, end, old);
+    store_sum(buf, end, new);
+    Ok(frame.total)
 }

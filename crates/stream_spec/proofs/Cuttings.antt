@@ -34,7 +34,6 @@ use Rattle.walk_spec.specs.Records.{Covers, covered}
 use Rattle.walk_spec.specs.Walk.{made_of, record_by, book_by, sights, walk_of, frames_of, refused_of}
 use Rattle.stream_spec.specs.declared.Stream.{Stream}
 use Rattle.stream_spec.specs.declared.Tally.{Tally}
-use Rattle.stream_spec.specs.declared.Fed.{Fed}
 use Rattle.stream_spec.specs.Tally.{fresh_tally, record_at, tally_after}
 use Rattle.stream_spec.specs.State.{last_place, head_of, meant_by, value_of, opened, sound_of}
 use Rattle.stream_spec.specs.Run.{says_in}

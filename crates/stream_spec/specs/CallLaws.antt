@@ -1,10 +1,10 @@
 -- Each answer of a call from the facts that lead to it.
-use Rattle.std.specs.Prelude.{ℕ, ◌+◌, ◌*◌, ◌/◌, ◌≤◌, ◌≡◌, refl, Bool, true, false, not, List, ◌++◌, eqb, leb}
+use Rattle.std.specs.Prelude.{ℕ, ◌+◌, ◌*◌, ◌/◌, ◌≤◌, ◌≡◌, refl, Bool, true, false, not, List, ◌++◌, leb, Ok}
 use Rattle.std.proofs.Math.Path.{sym}
 use Rattle.std.proofs.Common.{ap, ◌∙◌, arith, length-append, ⊎_elim}
 use Rattle.std.proofs.Math.ListN.{length}
 use borrow.Author.Tests.{le-leb, leb-true}
-use Rattle.terms.specs.Paper.{answer, pick}
+use Rattle.terms.specs.Paper.{pick}
 use Rattle.terms.specs.Cases.{two}
 use Rattle.walk_laws.specs.Walk.{frame}
 use Rattle.walk_laws.specs.Waits.{ran_of}
@@ -20,7 +20,6 @@ use Rattle.walk_spec.specs.Tables.{written_from, written_all}
 use Rattle.stream_spec.specs.declared.Stream.{Stream}
 use Rattle.stream_spec.specs.declared.Fed.{Fed}
 use Rattle.terms.specs.declared.Refusal.{Refusal}
-use Rattle.terms.specs.declared.Verdict.TheVariants.{Fine}
 use Rattle.terms.specs.Refusals.{number_of, refusal_not_0}
 use Rattle.stream_spec.specs.Tally.{record_at, tally_after}
 use Rattle.stream_spec.specs.State.{last_place, head_of, meant_by, sound_of}
@@ -111,15 +110,15 @@ module _ (x : Stream) (closing : Bool) (cut : List ℕ) where
         number_0 l = by_room ∙ ap (λ (b : Bool). pick (not b) 8 0) l
 
   -- what the code promises of a call whose answer is r and whose buffer d is d' later
-  abbrev pub Promised : List ℕ → List ℕ → Fed → Type 0
+  abbrev pub Promised : List ℕ → List ℕ → Fed ℕ → Type 0
   Promised d d' r = (fed_paper r ≡ answer_for x closing cut (length d)) × ((r.stream ≡ next_for x closing cut (length d)) × (d' ≡ leaves_for x closing cut d))
 
-  pub refused_call : (d : List ℕ) (r : Fed) (why : Refusal) → r ≡ refused_by x why → number_for x closing cut (length d) ≡ number_of why → Promised d d r
+  pub refused_call : (d : List ℕ) (r : Fed ℕ) (why : Refusal) → r ≡ refused_by x why → number_for x closing cut (length d) ≡ number_of why → Promised d d r
   unfolding answer_for next_for leaves_for
   refused_call d r why e n = rw (e, n, refusal_not_0 why) (refl, (refl, refl))
 
   pub done_with : (d d' : List ℕ) (count : ℕ) (next : Stream) → count ≡ length (given_of x closing cut) → next ≡ behind_of x closing cut → d' ≡ written_from 0 (given_of x closing cut) d → leb (length (given_of x closing cut)) (length d / 64) ≡ true → number_for x closing cut (length d) ≡ 0
-      → Promised d d' (record { answer = Fine; records = count; stream = next })
+      → Promised d d' (record { answer = Ok count; stream = next })
   unfolding answer_for next_for leaves_for
   done_with d d' count next c e w l n =
       rw (n, c) (refl, (e, w ∙ written_all 0 (given_of x closing cut) d (omega (arith, leb-true (length (given_of x closing cut)) (length d / 64) l))))

@@ -1,6 +1,7 @@
 -- The calls of a stream: what each is answered, the stream after it, and what it leaves in the lent
 -- buffer. CR 1.
-use Rattle.std.specs.Prelude.{ℕ, ◌+◌, ◌/◌, Bool, true, false, not, List, [], ◌∷◌, eqb, leb, length}
+use Rattle.std.specs.Prelude.{ℕ, ◌+◌, ◌/◌, Bool, true, false, not, List, [], ◌∷◌, eqb, leb, length, Err}
+use Rattle.std.specs.Result.{result_unwrap_or}
 use Rattle.terms.specs.Paper.{Paper, answer, pick}
 use Rattle.octets.specs.Octets.{laid}
 use Rattle.record.specs.declared.Record.{Record}
@@ -11,8 +12,7 @@ use Rattle.stream_spec.specs.declared.Stream.{Stream}
 use Rattle.stream_spec.specs.declared.Tally.{Tally}
 use Rattle.stream_spec.specs.declared.Fed.{Fed}
 use Rattle.terms.specs.declared.Refusal.{Refusal}
-use Rattle.terms.specs.declared.Verdict.TheVariants.{Refused}
-use Rattle.terms.specs.Verdicts.{verdict_number}
+use Rattle.ledger.specs.Papers.{count_paper}
 use Rattle.stream_spec.specs.Tally.{record_at, tally_after}
 use Rattle.stream_spec.specs.State.{last_place, meant_by, value_of, sound_of}
 use Rattle.stream_spec.specs.Run.{says_in}
@@ -91,8 +91,13 @@ leaves x call d = leaves_for x (closes call) (cut_of call) d
 
 -- ---- the code's answers in numbers
 
-abbrev pub fed_paper : Fed → Paper
-fed_paper f = answer (verdict_number f.answer) (f.records ∷ [])
+-- number, and how many records, 0 beside a refusal
+abbrev pub fed_paper : Fed ℕ → Paper
+fed_paper f = count_paper f.answer
 
-abbrev pub refused_by : Stream → Refusal → Fed
-refused_by x why = record { answer = Refused why; records = 0; stream = x }
+-- how many records a call gave
+abbrev pub records_of : Fed ℕ → ℕ
+records_of f = result_unwrap_or f.answer 0
+
+abbrev pub refused_by : {T : Type 0} → Stream → Refusal → Fed T
+refused_by x why = record { answer = Err why; stream = x }

@@ -1,10 +1,10 @@
 -- The state rules: the test that the code computes, check by check, and that it passes exactly
 -- where the facts hold.
-use Rattle.std.specs.Prelude.{ℕ, suc, ◌+◌, ◌-◌, ◌≤◌, ◌<◌, ◌≡◌, refl, Bool, true, false, ◌&&◌, not, List, eqb, leb, length, get_or, take, drop, replicate}
+use Rattle.std.specs.Prelude.{ℕ, suc, ◌+◌, ◌-◌, ◌≤◌, ◌<◌, ◌≡◌, refl, Bool, true, false, ◌&&◌, not, List, eqb, leb, length, get_or, take, drop, replicate, Result, Ok, Err, is_ok}
 use Rattle.std.proofs.Common.{sym, ap, ap₂, ◌∙◌, ⊎_elim, arith, add-one, drop_of_length-le, drop-cons}
 use Rattle.std.proofs.Math.Nat.{add-zero}
 use borrow.Author.Tests.{eq-eqb, ne_eqb, lt-leb, le-leb, leb-true}
-use Rattle.terms.specs.Paper.{answer, pick, one_number}
+use Rattle.terms.specs.Paper.{pick, one_number}
 use Rattle.terms.specs.Cases.{two, less, clash}
 use Rattle.terms.specs.Refusals.{refusal_pos}
 use Rattle.terms.specs.declared.Refusal.{Refusal}
@@ -13,8 +13,6 @@ use Rattle.ledger_spec.specs.State.{Book}
 use Rattle.ledger_spec.specs.Calls.{Ask, Held, own_number, checked_of, number_to, answer_to, fresh}
 use Rattle.ledger.specs.State.{book_of, ledger_of}
 use Rattle.ledger.specs.Papers.{count_paper}
-use Rattle.ledger.specs.declared.Answer.{Answer}
-use Rattle.ledger.specs.declared.Answer.TheVariants.{Done, Refused}
 use Rattle.ledger.specs.declared.Ledger.{Ledger}
 use Rattle.reading.specs.declared.Seen.{Seen}
 use Rattle.reading.specs.Seen.{seen_of, seen_number}
@@ -61,19 +59,16 @@ held_number : (b : Book) → (answer_to b (Ask Held)).number ≡ pick (not (Book
 unfolding answer_to number_to checked_of own_number
 held_number b = refl
 
-module _ (l : Ledger) (k : ℕ) where
-  pub held_done : (a : Answer) → a ≡ Done → count_paper a k ≡ answer_to (book_of l) (Ask Held) → Book.sound_of (book_of l) ≡ true
-  held_done a e p =
-      ⊎_elim (λ (t : Book.sound_of (book_of l) ≡ true). t)
-      (λ (f : Book.sound_of (book_of l) ≡ false).
-      let n : ◌≡◌ {A = ℕ} 0 13 = one_number (ap (λ (x : Answer). count_paper x k) (sym e) ∙ p) ∙ held_number (book_of l) ∙ rw f in absurd (omega arith))
-      (two (Book.sound_of (book_of l)))
-
-  pub held_refused : (a : Answer) (w : Refusal) → a ≡ Refused w → count_paper a k ≡ answer_to (book_of l) (Ask Held) → Book.sound_of (book_of l) ≡ false
-  held_refused a w e p =
-      ⊎_elim (λ (t : Book.sound_of (book_of l) ≡ true). absurd (refusal_pos w (one_number (ap (λ (x : Answer). count_paper x k) (sym e) ∙ p) ∙ held_number (book_of l) ∙ rw t)))
-      (λ (f : Book.sound_of (book_of l) ≡ false). f)
-      (two (Book.sound_of (book_of l)))
+-- a count is answered where the ledger is sound
+pub held_ok : (l : Ledger) (a : Result ℕ Refusal) → count_paper a ≡ answer_to (book_of l) (Ask Held) → is_ok a ≡ Book.sound_of (book_of l)
+held_ok l (Ok k) p =
+    ⊎_elim (λ (t : Book.sound_of (book_of l) ≡ true). sym t)
+    (λ (f : Book.sound_of (book_of l) ≡ false). let n : ◌≡◌ {A = ℕ} 0 13 = one_number p ∙ held_number (book_of l) ∙ rw f in absurd (omega arith))
+    (two (Book.sound_of (book_of l)))
+held_ok l (Err w) p =
+    ⊎_elim (λ (t : Book.sound_of (book_of l) ≡ true). absurd (refusal_pos w (one_number p ∙ held_number (book_of l) ∙ rw t)))
+    (λ (f : Book.sound_of (book_of l) ≡ false). sym f)
+    (two (Book.sound_of (book_of l)))
 
 pub ledger_other : (l : Ledger) → (l.channel.0 ≡ 100 → ⊥) → false ≡ ledger_right l
 unfolding ledger_right

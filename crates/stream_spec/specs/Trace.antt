@@ -9,7 +9,7 @@ use Rattle.record.specs.declared.Record.{Record}
 use Rattle.stream_spec.specs.declared.Stream.{Stream}
 use Rattle.stream_spec.specs.declared.Fed.{Fed}
 use Rattle.stream_spec.specs.State.{opened}
-use Rattle.stream_spec.specs.Calls.{Call, cut_of, closes, share, number_to, next_of}
+use Rattle.stream_spec.specs.Calls.{Call, cut_of, closes, share, number_to, next_of, records_of}
 use Rattle.stream_spec.specs.CallLaws.{Promised}
 
 -- a call, and how much room the buffer has that is lent with it
@@ -51,11 +51,11 @@ ended (calls ▸ a) = or_else (ended calls) (accepted calls a && closes a.call)
 -- has bytes alone
 pub data Row : Calls → Stream → Type 0 where
   opening : {x : Stream} → x ≡ opened → Row none x
-  one_more : {calls : Calls} {x : Stream} (call : Call) (d d' : List ℕ) (r : Fed) → Row calls x → Bytes (cut_of call) → Promised x (closes call) (cut_of call) d d' r
+  one_more : {calls : Calls} {x : Stream} (call : Call) (d d' : List ℕ) (r : Fed ℕ) → Row calls x → Bytes (cut_of call) → Promised x (closes call) (cut_of call) d d' r
       → Row (calls ▸ record { call = call; room = length d }) r.stream
 
 -- what a host then has, if it sets aside what each call says it wrote: the first 64 bytes of its
 -- buffer for each record, joined
 abbrev pub heard : {calls : Calls} {x : Stream} → Row calls x → List ℕ
 heard (opening e) = []
-heard (one_more call d d' r row b p) = heard row ++ take (64 * r.records) d'
+heard (one_more call d d' r row b p) = heard row ++ take (64 * records_of r) d'

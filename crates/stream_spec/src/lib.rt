@@ -31,12 +31,11 @@ pub struct Stream {
     pub tally: Tally,
 }
 
-// How many records this call gave, 0 beside a refusal; and the stream after it, the very one that
-// was passed in beside a refusal.
+// What a call gave, or why it was refused; and the stream after it, the very one that was passed in
+// beside a refusal.
 #[derive(Clone, Copy)]
-pub struct Fed {
-    pub answer: Result<(), Refusal>,
-    pub records: usize,
+pub struct Fed<T> {
+    pub answer: Result<T, Refusal>,
     pub stream: Stream,
 }
 
@@ -45,21 +44,17 @@ impl Stream {
     pub fn opened() -> Stream
         ensures { result ≡ opened }
     {
-        let noted = Ledger::opened(ChannelNumber::new(100));
-        let ledger = noted.next;
-        let tally = Tally {
-            frames: 0,
-            refused: 0,
-            ledger,
-        };
-        let kept: [u8; 8191] = [0; 8191];
         Stream {
             place: 0,
             seeking: false,
             closed: false,
             len: 0,
-            kept,
-            tally,
+            kept: [0; 8191],
+            tally: Tally {
+                frames: 0,
+                refused: 0,
+                ledger: Ledger::opened(ChannelNumber::new(100)).next,
+            },
         }
     }
 }

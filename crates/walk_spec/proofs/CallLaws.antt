@@ -9,10 +9,9 @@ use Rattle.rules.specs.Table.{kind_of}
 use Rattle.rules.specs.declared.Kind.{Kind}
 use Rattle.rules.specs.declared.Kind.TheVariants.{S001, S002, S003, P001, P002, M101, M102, M201, Unknown}
 use Rattle.ledger_spec.specs.State.{or_else}
-use Rattle.ledger_spec.specs.Calls.{Call, number_to, answer_to, fresh}
-use Rattle.ledger_spec.specs.Trace.{Calls, none, ◌▸◌, after, trace}
-use Rattle.ledger_spec.specs.Words.{received, given_up}
-use Rattle.record.specs.declared.Record.{Record}
+use Rattle.ledger_spec.specs.Calls.{answer_to, fresh}
+use Rattle.ledger_spec.specs.Trace.{Calls, none, after, trace}
+use Rattle.ledger_spec.specs.Words.{received}
 use Rattle.walk_laws.specs.Walk.{Sight}
 use Rattle.walk_laws.specs.Account as Account
 use Rattle.walk_laws.specs.Account.{account_of}

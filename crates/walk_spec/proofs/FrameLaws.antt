@@ -1,11 +1,10 @@
 -- What the walk sees and offers of an accepted frame, by document 01's offsets; and of a
 -- refused reading.
-use Rattle.std.specs.Prelude.{ℕ, ◌+◌, ◌≤◌, ◌≡◌, true, List, drop}
+use Rattle.std.specs.Prelude.{ℕ, ◌+◌, ◌≤◌, ◌≡◌, true, Ok, List, drop}
 use Rattle.std.proofs.Math.Path.{refl, ap, ap₂}
 use Rattle.std.proofs.Common.{sym, ◌∙◌, arith}
 use borrow.Author.Tests.{eqb-true, leb-true}
 use Rattle.terms.specs.Counters.{tick_of, channel_of}
-use Rattle.terms.specs.declared.Verdict.TheVariants.{Fine}
 use Rattle.octets.specs.Octets.{be}
 use Rattle.octets.specs.Numerals.{numeral_drop, numeral_take}
 use Rattle.rules.specs.Table.{kind_of, suits}
@@ -16,14 +15,13 @@ use Rattle.frame_view.specs.View.{view_of}
 use Rattle.frame_spec.specs.Measures.{fits}
 use Rattle.frame_spec.specs.Outcomes.{good}
 use Rattle.ledger_spec.specs.State.{Book}
-use Rattle.record.specs.Record.{blank_of}
 use Rattle.terms.specs.declared.ChannelNumber.{ChannelNumber}
 use Rattle.terms.specs.declared.TickNumber.{TickNumber}
 use Rattle.reading.specs.declared.Seen.{Seen}
-use Rattle.reading.specs.Seen.{seen_of, seen_number}
-use Rattle.reading.proofs.SeenLaws.{seen_frame, seen_blank, seen_answer}
+use Rattle.reading.specs.Seen.{seen_of}
+use Rattle.reading.proofs.SeenLaws.{seen_frame, seen_answer}
 use Rattle.walk_spec.specs.Offers.{calls_for, calls_by, Offer, offering, offer_of}
-use Rattle.walk_spec.specs.OfferLaws.{calls_refused, calls_of_lem}
+use Rattle.walk_spec.specs.OfferLaws.{calls_of_lem}
 use Rattle.walk_spec.specs.Walk.{made_of, record_by}
 use Rattle.walk_spec.specs.Literal.{type_in, tick_in, channel_in, answer_in, ledger_in, ledger_after, frame_record}
 
@@ -118,4 +116,4 @@ module _ (s : List ℕ) (z : (read_of s).number ≡ 0) where
     unfolding record_by made_of
     frame_record_lem p =
         rw (offer_number, offer_book, seen_channel, seen_tick)
-        (ap (λ (x : Seen). made_of p (record { answer = Fine; msg_type = x.msg_type; seq = x.seq; channel = channel_of (channel_in (type_in s) s); tick = tick_of (tick_in (type_in s) s); status = 0; body_len = x.body_len; size = 0 }) (answer_in (type_in s) b s) (tick_of (ledger_after b s).floor) (tick_of (ledger_after b s).top)) (seen_frame s z))
+        (ap (λ (x : Seen). made_of p (record { answer = Ok tt; msg_type = x.msg_type; seq = x.seq; channel = channel_of (channel_in (type_in s) s); tick = tick_of (tick_in (type_in s) s); status = 0; body_len = x.body_len; size = 0 }) (answer_in (type_in s) b s) (tick_of (ledger_after b s).floor) (tick_of (ledger_after b s).top)) (seen_frame s z))

@@ -2,7 +2,7 @@
 use Rattle.std.specs.Prelude.{ℕ, zero, suc, ◌+◌, ◌≤◌, ◌<◌, ◌≡◌, refl, List, [], ◌∷◌, length, drop}
 use Rattle.std.proofs.Common.{sym, ap, ◌∙◌, ⊎_elim, zero-add, arith}
 use borrow.Author.Tests.{le-leb, lt-leb, eq-eqb, ne_eqb}
-use Rattle.terms.specs.Paper.{Paper, answer}
+use Rattle.terms.specs.Paper.{Paper}
 use Rattle.terms.specs.Cases.{less, same}
 use Rattle.frame_spec.specs.Frame.{read_of}
 use Rattle.frame_spec.specs.Search.{search_of}

@@ -1,26 +1,15 @@
 -- What the records of a walk are, all together: each is a frame's, with its numbers, or a
 -- refusal's, which shows no byte of it; their places rise; no frame is lost.
-use Rattle.std.specs.Prelude.{ℕ, zero, suc, ◌+◌, ◌-◌, ◌≤◌, ◌<◌, ◌≡◌, refl, ◌⊎◌, List, [], ◌∷◌, length, drop}
-use Rattle.std.proofs.Common.{ap, ◌∙◌, inl, inr, ⊎_elim, arith, length-drop, le-leb, eq-eqb, ne_eqb}
+use Rattle.std.specs.Prelude.{ℕ, zero, suc, ◌+◌, ◌≤◌, ◌<◌, ◌≡◌, refl, List, [], ◌∷◌, length, drop}
+use Rattle.std.proofs.Common.{ap, ⊎_elim, le-leb, eq-eqb, ne_eqb}
 use Rattle.std.proofs.lemmas.Bool.{lt-leb}
 use Rattle.terms.specs.Cases.{less, same}
 use Rattle.frame_spec.specs.Frame.{read_of}
-use Rattle.frame_spec.specs.Outcomes.{good}
 use Rattle.frame_spec.specs.Search.{search_of}
 use Rattle.ledger_spec.specs.State.{Book}
 use Rattle.ledger_spec.specs.Calls.{fresh}
-use Rattle.record.specs.declared.Record.{Record}
-use Rattle.record.specs.Record.{blank_of}
-use Rattle.walk_laws.specs.Walk.{Sight, within}
-use Rattle.walk_laws.specs.Account as Account
-use Rattle.walk_laws.specs.Account.{account_of}
-use Rattle.walk_laws.specs.Seen.{Rising, r_nil, r_cons, places_rise, Inside, i_in, i_later, Has, h_at, h_in, h_later, none_lost}
-use Rattle.reading.specs.declared.Seen.{Seen}
-use Rattle.reading.specs.Seen.{seen_of, seen_number, says_of}
-use Rattle.reading.specs.SeenLaws.{says_frame, frame_says}
-use Rattle.reading.proofs.SeenLaws.{seen_answer}
-use Rattle.walk_spec.specs.Walk.{made_of, record_by, book_by, sights, walk_of}
-use Rattle.walk_spec.specs.Literal.{length_in, ledger_after, frame_record, Walk, stopped, go_on, walk_from, literal_walk}
+use Rattle.walk_spec.specs.Walk.{walk_of}
+use Rattle.walk_spec.specs.Literal.{length_in, ledger_after, Walk, stopped, go_on, walk_from, literal_walk}
 use Rattle.walk_spec.proofs.LiteralLaws.{literal_walk_lem}
 use Rattle.walk_spec.specs.Records.{e_nil, Each, e_cons, a_frame, a_refusal}
 

@@ -1,12 +1,10 @@
 -- What the walk answers with room for its records, and what it leaves without.
-use Rattle.std.specs.Prelude.{ℕ, ◌≡◌, Bool, true, false, List, length}
+use Rattle.std.specs.Prelude.{ℕ, ◌≡◌, Bool, true, false, List, length, Result, Err}
 use Rattle.std.proofs.Common.{sym, ap, ◌∙◌, ⊎_elim}
 use Rattle.terms.specs.Cases.{two}
 use Rattle.terms.specs.Refusals.{refusal_pos}
 use Rattle.terms.specs.declared.Refusal.{Refusal}
-use Rattle.ledger.specs.declared.Answer.{Answer}
-use Rattle.ledger.specs.declared.Answer.TheVariants.{Refused}
-use Rattle.ledger.specs.Papers.{paper_of}
+use Rattle.terms.specs.Verdicts.{verdict_number}
 use Rattle.walk_spec.specs.Walk.{fits_in, walk_answer, walk_leaves}
 
 module _ (s : List ℕ) (d : List ℕ) where
@@ -20,9 +18,10 @@ module _ (s : List ℕ) (d : List ℕ) where
 
 -- An answer that is a refusal; and that it leaves the buffer d as it was, of any call that answers
 -- 0 where its bytes fit and leaves d where they do not.
-abbrev pub Refusing : Answer → Type 0
-Refusing a = (w : Refusal) × (a ≡ Refused w)
+abbrev pub Refusing : {T : Type 0} → Result T Refusal → Type 0
+Refusing a = (w : Refusal) × (a ≡ Err w)
 
-pub refusing_leaves : (a : Answer) → Refusing a → (n : ℕ) → (paper_of a).number ≡ n → (fits : Bool) → (fits ≡ true → n ≡ 0) → (d e : List ℕ) → (fits ≡ false → e ≡ d) → e ≡ d
+pub refusing_leaves : {T : Type 0} (a : Result T Refusal) → Refusing a → (n : ℕ) → verdict_number a ≡ n → (fits : Bool) → (fits ≡ true → n ≡ 0) → (d e : List ℕ)
+    → (fits ≡ false → e ≡ d) → e ≡ d
 refusing_leaves a w n p fits done d e left =
-    ⊎_elim (λ (f : fits ≡ true). absurd (refusal_pos w.0 (ap (λ (b : Answer). (paper_of b).number) (sym w.1) ∙ p ∙ done f))) left (two fits)
+    ⊎_elim (λ (f : fits ≡ true). absurd (refusal_pos w.0 (ap verdict_number (sym w.1) ∙ p ∙ done f))) left (two fits)

@@ -3,15 +3,14 @@
 use Rattle.std.specs.Prelude.{ℕ, ◌≡◌, Bool, true, false, ◌&&◌, List, [], ◌∷◌, eqb}
 use Rattle.std.proofs.Math.Path.{refl}
 use Rattle.std.proofs.Common.{◌∙◌, ⊎_elim}
-use borrow.Author.Tests.{ne_eqb}
 use Rattle.terms.specs.Cases.{same}
 use Rattle.rules.specs.Table.{kind_of}
 use Rattle.rules.specs.declared.Kind.{Kind}
 use Rattle.rules.specs.declared.Kind.TheVariants.{S001, S002, S003, P001, P002, M101, M102, M201, Unknown}
 use Rattle.ledger_spec.specs.State.{or_else}
-use Rattle.ledger_spec.specs.Calls.{Call, number_to, answer_to, fresh}
+use Rattle.ledger_spec.specs.Calls.{Call, number_to}
 use Rattle.ledger_spec.specs.Trace.{Calls, none, ◌▸◌, after, trace}
-use Rattle.ledger_spec.specs.Words.{received, given_up}
+use Rattle.ledger_spec.specs.Words.{given_up}
 use Rattle.record.specs.declared.Record.{Record}
 use Rattle.walk_laws.specs.Walk.{Sight}
 use Rattle.walk_laws.specs.Account as Account
@@ -20,7 +19,7 @@ use Rattle.reading.specs.declared.Seen.{Seen}
 use Rattle.reading.specs.Seen.{seen_number}
 use Rattle.walk_spec.specs.Offers.{calls_for, calls_by, offering, offer_of}
 use Rattle.walk_spec.specs.OfferLaws.{calls_refused, calls_of_lem}
-use Rattle.walk_spec.specs.Walk.{made_of, record_by, book_by, sights, walk_of, added, calls_from, calls_of}
+use Rattle.walk_spec.specs.Walk.{record_by, book_by, sights, walk_of, added, calls_from, calls_of}
 
 -- ======== The ledger
 

@@ -1,31 +1,16 @@
 -- What the walk sees and offers of an accepted frame, by document 01's offsets; and of a
 -- refused reading.
-use Rattle.std.specs.Prelude.{ℕ, ◌+◌, ◌≤◌, ◌≡◌, true, List, drop}
-use Rattle.std.proofs.Math.Path.{refl, ap, ap₂}
-use Rattle.std.proofs.Common.{sym, ◌∙◌, arith}
-use borrow.Author.Tests.{eqb-true, leb-true}
-use Rattle.terms.specs.Counters.{tick_of, channel_of}
-use Rattle.terms.specs.declared.Verdict.TheVariants.{Fine}
-use Rattle.octets.specs.Octets.{be}
-use Rattle.octets.specs.Numerals.{numeral_drop, numeral_take}
-use Rattle.rules.specs.Table.{kind_of, suits}
-use Rattle.rules.specs.declared.Kind.{Kind}
-use Rattle.rules.specs.declared.Kind.TheVariants.{S001, S002, S003, P001, P002, M101, M102, M201, Unknown}
-use Rattle.frame_spec.specs.Frame.{body_length, body, read_of}
-use Rattle.frame_view.specs.View.{view_of}
-use Rattle.frame_spec.specs.Measures.{fits}
-use Rattle.frame_spec.specs.Outcomes.{good}
+use Rattle.std.specs.Prelude.{ℕ, ◌≡◌, List}
+use Rattle.std.proofs.Math.Path.{ap}
+use Rattle.std.proofs.Common.{sym, ◌∙◌}
+use Rattle.frame_spec.specs.Frame.{read_of}
 use Rattle.ledger_spec.specs.State.{Book}
 use Rattle.record.specs.Record.{blank_of}
-use Rattle.terms.specs.declared.ChannelNumber.{ChannelNumber}
-use Rattle.terms.specs.declared.TickNumber.{TickNumber}
-use Rattle.reading.specs.declared.Seen.{Seen}
 use Rattle.reading.specs.Seen.{seen_of, seen_number}
-use Rattle.reading.proofs.SeenLaws.{seen_frame, seen_blank, seen_answer}
-use Rattle.walk_spec.specs.Offers.{calls_for, calls_by, Offer, offering, offer_of}
-use Rattle.walk_spec.specs.OfferLaws.{calls_refused, calls_of_lem}
+use Rattle.reading.proofs.SeenLaws.{seen_blank, seen_answer}
+use Rattle.walk_spec.specs.Offers.{Offer, offering, offer_of}
+use Rattle.walk_spec.specs.OfferLaws.{calls_refused}
 use Rattle.walk_spec.specs.Walk.{made_of, record_by}
-use Rattle.walk_spec.specs.Literal.{type_in, tick_in, channel_in, answer_in, ledger_in, ledger_after, frame_record}
 
 -- A REFUSED READING
 

@@ -4,16 +4,8 @@
 use Rattle.std.specs.Prelude.{ℕ, ◌≡◌, refl, List, [], ◌∷◌}
 use Rattle.std.specs.Int.Count.{ones}
 use Rattle.terms.specs.Paper.{answer}
-use Rattle.octets.specs.Octets.{numeral, sum8, sum_of}
-use Rattle.calendar.specs.Calendar.{leap, days_in, real_parts, real_time}
-use Rattle.rules.specs.Table.{kind_of, suits, measure_of}
-use Rattle.rules.specs.Fields.{p001_ok, fields_ok, judge_of}
-use Rattle.frame_spec.specs.Frame.{checked, read_of}
-use Rattle.frame_spec.specs.Search.{first_of, search_of}
 use Rattle.ledger_spec.specs.State.{Book, nothing, range_rules, map_rules, sound_of}
-use Rattle.ledger_spec.specs.Calls.{Ask, Missing, own_number, checked_of, number_to, missing_count, values_of, answer_to, raised, done, next_of, fresh}
-use Rattle.record.specs.Examples.{record_a, record_fF, record_b}
-use Rattle.walk_spec.specs.Literal.{walk_from, literal_walk}
+use Rattle.ledger_spec.specs.Calls.{Ask, Missing, own_number, checked_of, number_to, missing_count, values_of, answer_to}
 
 -- 53303033 0047FA7908DACB40 0000000000000001 00000000 0000008E, FF,
 -- 50303031 0047FA7908DACB40 0000000000000002 0000000C 0D 0064 0000000000000003 4E 00000058

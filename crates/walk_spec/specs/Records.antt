@@ -1,12 +1,9 @@
 -- What the records of a walk are, all together: each is a frame's, with its numbers, or a
 -- refusal's, which shows no byte of it; their places rise; no frame is lost.
-use Rattle.std.specs.Prelude.{ℕ, zero, suc, ◌+◌, ◌-◌, ◌≤◌, ◌<◌, ◌≡◌, refl, ◌⊎◌, List, [], ◌∷◌, length, drop}
-use Rattle.std.proofs.Common.{ap, ◌∙◌, inl, inr, ⊎_elim, arith, length-drop, le-leb, eq-eqb, ne_eqb}
-use Rattle.std.proofs.lemmas.Bool.{lt-leb}
-use Rattle.terms.specs.Cases.{less, same}
+use Rattle.std.specs.Prelude.{ℕ, zero, ◌+◌, ◌-◌, ◌≤◌, ◌<◌, ◌≡◌, ◌⊎◌, List, [], ◌∷◌, length, drop}
+use Rattle.std.proofs.Common.{◌∙◌, inl, inr, ⊎_elim, arith, length-drop}
 use Rattle.frame_spec.specs.Frame.{read_of}
 use Rattle.frame_spec.specs.Outcomes.{good}
-use Rattle.frame_spec.specs.Search.{search_of}
 use Rattle.ledger_spec.specs.State.{Book}
 use Rattle.ledger_spec.specs.Calls.{fresh}
 use Rattle.record.specs.declared.Record.{Record}
@@ -20,7 +17,7 @@ use Rattle.reading.specs.Seen.{seen_of, seen_number, says_of}
 use Rattle.reading.specs.SeenLaws.{says_frame, frame_says}
 use Rattle.reading.proofs.SeenLaws.{seen_answer}
 use Rattle.walk_spec.specs.Walk.{made_of, record_by, book_by, sights, walk_of}
-use Rattle.walk_spec.specs.Literal.{length_in, ledger_after, frame_record, Walk, stopped, go_on, walk_from, literal_walk}
+use Rattle.walk_spec.specs.Literal.{frame_record}
 
 -- ======== What each is
 

@@ -1,7 +1,9 @@
 -- Two answers that one promise allows are equal, and so are two final contents of a buffer.
 -- Assumes nothing.
 use mathlib.Core.Path.{sym, ap₂, ◌∙◌, refl}
-use Prim.Native.Nat.{ℕ}
+use Rattle.std.specs.Prelude.{Result, ⊤}
+use Rattle.terms.specs.declared.Refusal.{Refusal}
+use Rattle.terms.proofs.Verdicts.{verdict_one}
 use Rattle.terms.specs.OneAnswer.{OneAnswer}
 use Rattle.ledger.specs.declared.Ledger.{Ledger}
 use Rattle.walk_step.proofs.offer.Reads as offer
@@ -16,7 +18,7 @@ use Rattle.walk_step.proofs.onward.Kinds as onward-kinds
 
 pub offer_one_answer : OneAnswer _ offer-kinds.ps offer-kinds.r offer.Post
 offer_one_answer κs a x y s t p q =
-    ap₂ (λ (n : ℕ) (l : Ledger). record { answer = n; ledger = l }) (p.0 ∙ sym q.0) (p.1 ∙ sym q.1)
+    ap₂ (λ (l : Ledger) (r : Result ⊤ Refusal). record { next = l; answer = r }) (p.1 ∙ sym q.1) (verdict_one x.answer y.answer (p.0 ∙ sym q.0))
 
 pub made_one_answer : OneAnswer _ made-kinds.ps made-kinds.r made.Post
 made_one_answer κs a x y s t p q = p ∙ sym q

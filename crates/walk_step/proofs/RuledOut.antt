@@ -1,12 +1,13 @@
 -- Wrong answers that the promises of this crate rule out, as tables of what is given and what is
 -- then wrong. Assumes nothing.
 use Prim.Native.Nat.{ℕ}
-use mathlib.Core.Path.{◌≡◌, refl, ap, ap₂}
+use Rattle.std.specs.Prelude.{Ok}
+use mathlib.Core.Path.{refl, ap, ap₂}
 use mathlib.Core.List.{List, [], ◌∷◌, ◌++◌}
 use lib.Count.{count_trailing_zeros}
 use Rattle.terms.specs.Letters.{spelled}
 use Rattle.terms.specs.Counters.{session_of, tick_of, channel_of}
-use Rattle.terms.specs.declared.Verdict.TheVariants.{Fine}
+use Rattle.terms.specs.Verdicts.{verdict_number}
 use Rattle.terms.specs.RuledOut.{Row, ◌never◌, ◌only◌, Kept, RulesOut, ruled, numbers, lists, beside}
 use Rattle.rules.specs.Table.{kind_of, suits, measure_of}
 use Rattle.rules.specs.Fields.{p001_ok, fields_ok, judge_of}
@@ -15,7 +16,7 @@ use Rattle.frame_spec.specs.Search.{first_of, search_of}
 use Rattle.frame_spec.specs.Examples.{start_of_a, frame_a, frame_b, four, A}
 use Rattle.tick_map.specs.Bits.{value_of, map_of, run}
 use Rattle.tick_map.specs.Ring.{rotated}
-use Rattle.ledger_spec.specs.State.{Asked, nothing, range, Book, has, range_rules, map_rules, sound_of}
+use Rattle.ledger_spec.specs.State.{nothing, Book, has, range_rules, map_rules, sound_of}
 use Rattle.ledger_spec.specs.Calls.{own_number, checked_of, number_to, passes, taken, raised, done, next_of}
 use Rattle.ledger.specs.State.{book_of, ledger_of}
 use Rattle.ledger.specs.declared.Ledger.{Ledger}
@@ -45,7 +46,7 @@ abbrev book : ℕ → ℕ → Book
 book floor top = record { channel = 100; floor = floor; top = top; bits = 0; pending = nothing }
 
 abbrev frame : ℕ → ℕ → Seen
-frame type channel = record { answer = Fine; msg_type = type; seq = session_of 9; channel = channel_of channel; tick = tick_of 1; status = 0; body_len = 45; size = 73 }
+frame type channel = record { answer = Ok tt; msg_type = type; seq = session_of 9; channel = channel_of channel; tick = tick_of 1; status = 0; body_len = 45; size = 73 }
 
 -- the number answered; and of the ledger then: floor, top, held numbers
 abbrev seen : Book → List ℕ
@@ -63,14 +64,14 @@ offer_wrong =
     ∷ (book 0 0, frame (spelled "M201") 101) only (18, 0 ∷ 0 ∷ 0 ∷ [])  -- another channel's tick is not taken
     ∷ []
 
-pub offer_rules_out : RulesOut (Kept _ offer-kinds.ps offer-kinds.r offer.Post) (λ c. (book_of c.args.0, c.args.1.0)) (λ c. shown c.result.answer c.result.ledger) offer_wrong
+pub offer_rules_out : RulesOut (Kept _ offer-kinds.ps offer-kinds.r offer.Post) (λ c. (book_of c.args.0, c.args.1.0)) (λ c. shown (verdict_number c.result.answer) c.result.next) offer_wrong
 unfolding kind_of value_of map_of rotated run count_trailing_zeros has range_rules map_rules sound_of own_number checked_of number_to passes taken raised done next_of book_of ledger_of calls_by offering offer_of
 offer_rules_out = ruled (beside numbers lists) (λ (i : Book × Seen). shown (offer_of i.0 i.1).number (ledger_of (offer_of i.0 i.1).book)) (λ c p. ap₂ shown p.0 p.1) _ refl
 
 -- MADE: a place, what is seen there, and of the ledger after it: the number answered, its floor and
 -- its top. The record's nine numbers.
 abbrev tick : Seen
-tick = record { answer = Fine; msg_type = spelled "M201"; seq = session_of 2; channel = channel_of 100; tick = tick_of 3; status = 0; body_len = 45; size = 73 }
+tick = record { answer = Ok tt; msg_type = spelled "M201"; seq = session_of 2; channel = channel_of 100; tick = tick_of 3; status = 0; body_len = 45; size = 73 }
 
 abbrev noted : Record → List ℕ
 noted r = r.place ∷ r.msg_type ∷ r.answer ∷ r.seq.0 ∷ r.tick.0 ∷ r.channel.0 ∷ r.body_len ∷ r.floor.0 ∷ r.top.0 ∷ []
@@ -82,7 +83,7 @@ made_wrong =
     ∷ (7, (tick, (12, (4, 5)))) only (7 ∷ spelled "M201" ∷ 12 ∷ 2 ∷ 3 ∷ 100 ∷ 45 ∷ 4 ∷ 5 ∷ [])
     ∷ []
 
-pub made_rules_out : RulesOut (Kept _ made-kinds.ps made-kinds.r made.Post) (λ c. (c.args.0, (c.args.1.0, (c.args.1.1.0.answer, (c.args.1.1.0.ledger.floor.0, c.args.1.1.0.ledger.top.0))))) (λ c. noted c.result) made_wrong
+pub made_rules_out : RulesOut (Kept _ made-kinds.ps made-kinds.r made.Post) (λ c. (c.args.0, (c.args.1.0, (verdict_number c.args.1.1.0.answer, (c.args.1.1.0.next.floor.0, c.args.1.1.0.next.top.0))))) (λ c. noted c.result) made_wrong
 unfolding made_of
 made_rules_out = ruled lists (λ (i : ℕ × (Seen × (ℕ × (ℕ × ℕ)))). noted (made_of i.0 i.1.0 i.1.1.0 (tick_of i.1.1.1.0) (tick_of i.1.1.1.1))) (λ c p. ap noted p) _ refl
 

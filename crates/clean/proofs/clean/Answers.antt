@@ -1,7 +1,5 @@
 -- `clean`: either the cleaned capture does not fit, or the pass wrote it all. Assumes nothing.
 use mathlib.Core.Path.{sym, ◌∙◌}
-use borrow.Author.Rules.{rules}
-use borrow.Author.Tests.{not-true, not-false}
 use Rattle.clean.specs.Answers.{clean_done}
 use Rattle.clean_spec.specs.Answers.{clean_full}
 use Rattle.clean.proofs.clean.Goals as goal
@@ -10,4 +8,4 @@ pub returns-then-not-takes_all : goal.returns-then-not-takes_all
 returns-then-not-takes_all c = clean_full _ _ (sym c.takes_all.ensures ∙ c.if-not-takes_all.true)
 
 pub returns : goal.returns
-returns c = clean_done _ _ c.pass-done.ensures.0 _ _ (sym c.takes_all.ensures ∙ c.if-not-takes_all.false) c.pass-done.ensures.1
+returns c = clean_done _ _ c.pass.ensures.0 _ _ (sym c.takes_all.ensures ∙ c.if-not-takes_all.false) c.pass.ensures.1

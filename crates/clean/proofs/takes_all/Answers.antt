@@ -1,6 +1,5 @@
 -- `takes_all`: the cleaned capture is no longer than the capture; else the pass counted its bytes.
 -- Assumes nothing.
-use borrow.Author.Rules.{rules}
 use Rattle.clean_spec.specs.Answers.{fits_roomy}
 use Rattle.clean.specs.Answers.{fits_counted}
 use Rattle.clean.proofs.takes_all.Goals as goal

@@ -1,31 +1,16 @@
--- `put_decimal`: `put_digits` with as many digits as the number has; tests tell up to four.
--- Assumes nothing.
-use mathlib.Core.Path.{◌≡◌}
-use native.Mathlib.Omega.{arith}
-use Rattle.digits.specs.Digits.{width_of}
-use Rattle.digits.specs.Widths.{counted_first, counted_last, counted_two, counted_three, counted_four}
+-- `put_decimal`: `put_digits` with as many digits as the number has. Assumes nothing.
+use Rattle.std.proofs.Common.{arith, inl, inr, refl}
+use Rattle.digits.specs.Widths.{width_at}
 use Rattle.digits.proofs.put_decimal.Goals as goal
 
-pub returns-then-v-lt10 : goal.returns-then-v-lt10
-returns-then-v-lt10 c =
-    let v = c.args.v in
-    let e : 1 ≡ width_of v = counted_last (counted_first v (omega arith)) (omega arith) in
-    rw (← e) c.put_digits.ensures
+pub returns-in-0-to-9 : goal.returns-in-0-to-9
+returns-in-0-to-9 c = rw (← width_at 1 c.args.v (omega arith) (omega arith) (omega arith) (inl refl)) c.put_digits.ensures
 
-pub returns-then-v-lt100 : goal.returns-then-v-lt100
-returns-then-v-lt100 c =
-    let v = c.args.v in
-    let e : 2 ≡ width_of v = counted_two (counted_first v (omega arith)) (omega arith) (omega arith) in
-    rw (← e) c.put_digits-then-v-lt100.ensures
+pub returns-in-10-to-99 : goal.returns-in-10-to-99
+returns-in-10-to-99 c = rw (← width_at 2 c.args.v (omega arith) (omega arith) (omega arith) (inr (omega arith))) c.put_digits-in-10-to-99.ensures
 
-pub returns-then-v-lt1000 : goal.returns-then-v-lt1000
-returns-then-v-lt1000 c =
-    let v = c.args.v in
-    let e : 3 ≡ width_of v = counted_three (counted_first v (omega arith)) (omega arith) (omega arith) in
-    rw (← e) c.put_digits-then-v-lt1000.ensures
+pub returns-in-100-to-999 : goal.returns-in-100-to-999
+returns-in-100-to-999 c = rw (← width_at 3 c.args.v (omega arith) (omega arith) (omega arith) (inr (omega arith))) c.put_digits-in-100-to-999.ensures
 
-pub returns-then-v-lt10000 : goal.returns-then-v-lt10000
-returns-then-v-lt10000 c =
-    let v = c.args.v in
-    let e : 4 ≡ width_of v = counted_four (counted_first v (omega arith)) (omega arith) (omega arith) in
-    rw (← e) c.put_digits-then-v-lt10000.ensures
+pub returns-in-1000-to-9999 : goal.returns-in-1000-to-9999
+returns-in-1000-to-9999 c = rw (← width_at 4 c.args.v (omega arith) (omega arith) (omega arith) (inr (omega arith))) c.put_digits-in-1000-to-9999.ensures

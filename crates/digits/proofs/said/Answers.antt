@@ -1,53 +1,35 @@
-use borrow.Author.Rules.{rules}
-use native.Mathlib.Omega.{arith}
-use native.Mathlib.Nat.{le_antisymm}
-use Prim.Native.Nat.{ℕ, ◌+◌, ◌<◌, ◌^◌}
-use mathlib.Core.Path.{◌≡◌, refl, sym, ap, ◌∙◌}
-use mathlib.Core.Bool.{true}
-use lib.ListN.{get_or}
+-- Each byte more, or one that is no digit. Assumes nothing.
+use Rattle.std.proofs.Common.{◌≡◌, ◌+◌, ◌-◌, ◌∙◌, sym, refl, arith, get_or, take, drop, ℕ, List}
 use Rattle.octets.specs.Octets.{numeral}
-use Rattle.digits.specs.Digits.{all_digits, is_digit, said_by, number}
+use Rattle.digits.specs.Digits.{all_digits, said_by}
 use Rattle.digits.specs.Laws.{all_on, said_on, said_room, said_stops, digit_bounds}
-use Rattle.digits.specs.Texts.{said_there, said_lacks}
+use Rattle.digits.specs.Texts.{said_whole, said_lacks}
 use Rattle.digits.proofs.said.Goals as goal
-use Rattle.digits.proofs.said.Goals.{Else-not-digit}
 
--- the byte at hand is a digit, and what the ones before it say stays small
-abbrev hand : goal.Else-not-digit → ℕ
-hand c = get_or c.args.s.now (c.args.at + c.loop-i.i) 0
+-- the byte at hand
+abbrev hand : (s : List ℕ) (at n i : ℕ) → ℕ
+hand s at n i = get_or (take (at + n - at) (drop at s)) i 0
 
-digit_here : (c : goal.Else-not-digit) → is_digit (hand c) ≡ true
-digit_here c = sym c.digit.ensures ∙ c.if-not-digit.false
-
-small : (c : goal.Else-not-digit) → c.loop-i.v < 10 ^ 18
-small c =
-    let l = c.loop-i in
-    let a = c.args in
-    omega (arith, said_room a.s.now a.at l.i (omega arith) (omega arith) l.invariant.1.0)
-
-pub loop-i-init : goal.loop-i-init
+pub loop-b-init : goal.loop-b-init
 unfolding all_digits said_by numeral
-loop-i-init c = (search rules, (refl, refl))
+loop-b-init c = (refl, refl)
 
-pub returns-then-not-digit : goal.returns-then-not-digit
-returns-then-not-digit c =
-    let l = c.loop-i in
-    let a = c.args in
-    sym (said_lacks _ (said_stops a.s.now a.at l.i a.n (omega arith) (omega arith) (sym c.digit.ensures ∙ c.if-not-digit.true)))
+pub returns-then-not-is_ascii_digit : goal.returns-then-not-is_ascii_digit
+returns-then-not-is_ascii_digit c =
+    let e : c.args.at + c.args.n - c.args.at ≡ c.args.n = omega arith in
+    rw e at (sym (said_lacks _ (said_stops _ _ c.loop-b-test.true (sym c.is_ascii_digit.ensures.value ∙ c.if-not-is_ascii_digit.true))))
 
 pub overflow_mul-v : goal.overflow_mul-v
-overflow_mul-v c = omega (arith, small c)
+overflow_mul-v c = omega (arith, said_room _ _ c.loop-b-test.true (omega arith) c.loop-b.invariant.0)
 
 pub overflow_add-v : goal.overflow_add-v
-overflow_add-v c = omega (arith, small c, digit_bounds (hand c) (digit_here c))
+overflow_add-v c = omega (arith, digit_bounds (hand c.args.s.now c.args.at c.args.n c.loop-b.b-index) (sym c.is_ascii_digit.ensures.value ∙ c.if-not-is_ascii_digit.false), said_room _ _ c.loop-b-test.true (omega arith) c.loop-b.invariant.0)
 
-pub loop-i-preserved : goal.loop-i-preserved
-loop-i-preserved c =
-    let l = c.loop-i in
-    let a = c.args in
-    (omega arith, (all_on a.s.now a.at l.i (omega arith) l.invariant.1.0 (digit_here c), rw (said_on a.s.now a.at l.i (omega arith)) (omega arith)))
+pub loop-b-preserved : goal.loop-b-preserved
+loop-b-preserved c =
+    (all_on _ _ c.loop-b-test.true c.loop-b.invariant.0 (sym c.is_ascii_digit.ensures.value ∙ c.if-not-is_ascii_digit.false), rw (said_on _ _ c.loop-b-test.true) (omega (arith, digit_bounds (hand c.args.s.now c.args.at c.args.n c.loop-b.b-index) (sym c.is_ascii_digit.ensures.value ∙ c.if-not-is_ascii_digit.false))))
 
 pub returns : goal.returns
 returns c =
-    let e = le_antisymm c.loop-i.invariant.0 c.loop-i-test.false in
-    rw (← e) (ap number c.loop-i.invariant.1.1 ∙ sym (said_there _ c.loop-i.invariant.1.0))
+    let e : c.args.at + c.args.n - c.args.at ≡ c.args.n = omega arith in
+    rw e at (said_whole _ c.loop-b.b-index c.loop-b.v c.loop-b-test.false c.loop-b.invariant.0 c.loop-b.invariant.1)

@@ -1,18 +1,7 @@
-use native.Mathlib.Omega.{arith}
-use Rattle.digits.specs.Widths.{counted_last, counted_two, counted_three, counted_four, counted_on}
+-- `width`: one more than the logarithm. Assumes nothing.
+use Rattle.std.proofs.Common.{arith}
+use Rattle.digits.specs.Widths.{width_log}
 use Rattle.digits.proofs.width.Goals as goal
 
-pub loop-x-preserved : goal.loop-x-preserved
-loop-x-preserved c = counted_on c.loop-x.invariant (omega arith)
-
-pub returns-then-x-lt10 : goal.returns-then-x-lt10
-returns-then-x-lt10 c = counted_last c.loop-x.invariant (omega arith)
-
-pub returns-then-x-lt100 : goal.returns-then-x-lt100
-returns-then-x-lt100 c = counted_two c.loop-x.invariant (omega arith) (omega arith)
-
-pub returns-then-x-lt1000 : goal.returns-then-x-lt1000
-returns-then-x-lt1000 c = counted_three c.loop-x.invariant (omega arith) (omega arith)
-
 pub returns : goal.returns
-returns c = counted_four c.loop-x.invariant (omega arith) (omega arith)
+returns c = width_log _ _ (omega arith) (omega arith) (omega arith)

@@ -1,71 +1,59 @@
-use Prim.Native.Nat.{◌+◌, ◌-◌, ◌≤◌, ◌<◌, ◌^◌}
-use borrow.Author.Rules.{rules}
+-- `give_lines`: by the line at hand. Assumes nothing.
+use Prim.Native.Nat.{◌+◌, ◌≤◌}
 use native.Mathlib.Omega.{arith}
-use mathlib.Core.Path.{◌≡◌, refl, sym, ap, ◌∙◌}
+use mathlib.Core.Path.{◌≡◌, refl, ap, ◌∙◌}
 use mathlib.Core.List.{List}
 use lib.ListN.{length, drop}
 use Rattle.octets.specs.Octets.{laid, bytes_of}
 use Rattle.octets.specs.Papers.{laid_if_room}
+use Rattle.market.specs.Starts.{line_number, line_most}
 use Rattle.market_columns.specs.Columns.{Column, columns}
-use Rattle.market_columns.specs.Tables.{length_of}
 use Rattle.market_spec.specs.File.{type_at, layout_of}
 use Rattle.market_spec.specs.Files.{layout_some}
 use Rattle.market_spec.specs.LineValues.{line_values}
 use Rattle.market_spec.specs.ValueBytes.{row_bytes}
-use Rattle.market_spec.specs.TakenBack.{sizes_of}
 use Rattle.market_spec.specs.Sound.{values_of}
 use Rattle.market_spec.specs.FileBytes.{type_number, lines_bytes}
-use Rattle.market_values.specs.Giving.{GiveLeft, Right, give_first, give_end, give_room, give_right, give_kept_1, give_kept, give_next}
+use Rattle.market_values.specs.Giving.{GiveLeft, lines_stop, give_first, give_end, give_room, give_right, give_kept_1, give_kept, give_next}
 use Rattle.market_values.proofs.give_lines.Goals as goal
-use Rattle.market_values.proofs.give_lines.Goals.{After-give_line, After-line_long-p, After-put, Else-t-gt4}
+use Rattle.market_values.proofs.give_lines.Goals.{After-rows_of, After-line_long-p}
 
-is_line_holds : (e : goal.Else-t-gt4) → type_at e.loop-a.p e.args.s.now ≤ 4
-is_line_holds e = rw (sym e.line_type-t.ensures) (omega arith)
+stands : (c : goal.After-rows_of) → type_at c.loop-line.p c.args.s.now ≤ 4
+stands c = omega (arith, c.in-Line.ensures, line_most c.in-Line.line)
 
-typed : (y : goal.After-put) → let e = y in let l = e.loop-a in y.put.new.d ≡ laid_if_room l.a (bytes_of 2 (type_number (type_at l.p e.args.s.now))) l.out
-typed y = let e = y in rw (y.type_number.ensures, e.line_type-t.ensures) at y.put.ensures.1
+rows : (c : goal.After-rows_of) → columns c.rows_of.result.first c.rows_of.result.last ≡ layout_of (type_at c.loop-line.p c.args.s.now)
+rows c = c.rows_of.ensures.0 ∙ ap layout_of c.in-Line.ensures
 
-laid-line : (g : goal.After-give_line) → let l = g.loop-a in let s = g.args.s.now in g.give_line.new.out ≡ laid (l.a + 2) (row_bytes (line_values (layout_of (type_at l.p s)) (drop l.p s))) g.put.new.d
-laid-line g =
-    let l = g.loop-a in
-    let s = g.args.s.now in
-    g.give_line.ensures ∙ ap (λ (cs : List Column). laid (l.a + 2) (row_bytes (line_values cs (drop l.p s))) g.put.new.d) (g.rows_of-r.ensures.0 ∙ ap layout_of g.line_type-t.ensures)
+typed : (c : goal.After-rows_of) → c.put.new.d ≡ laid_if_room c.loop-line.a (bytes_of 2 (type_number (type_at c.loop-line.p c.args.s.now))) c.loop-line.out
+typed c = rw (c.type_number.ensures, c.in-Line.ensures) at c.put.ensures.1
 
-after : (c : goal.After-line_long-p) → let l = c.loop-a in let a = c.args in type_at l.p a.s.now ≤ 4 → c.put.new.d ≡ laid_if_room l.a (bytes_of 2 (type_number (type_at l.p a.s.now))) l.out → c.give_line.new.out ≡ laid (l.a + 2) (row_bytes (line_values (layout_of (type_at l.p a.s.now)) (drop l.p a.s.now))) c.put.new.d →
-    GiveLeft a.s.now (l.p + c.line_long-p.result) (l.a + c.line_size-a.result) c.give_line.new.out (laid 38 (lines_bytes (values_of a.s.now).lines) a.out.now)
-after c h t g =
-    let l = c.loop-a in
-    let a = c.args in
-    rw (c.line_long-p.ensures.0, c.line_size-a.ensures.0, c.line_type-t.ensures)
-    (give_next a.s.now l.p l.a l.out _ l.invariant.1 h c.put.new.d c.give_line.new.out t g)
+given : (c : goal.After-line_long-p) → let l = c.loop-line in let s = c.args.s.now in c.give_line.new.out ≡ laid (l.a + 2) (row_bytes (line_values (layout_of (type_at l.p s)) (drop l.p s))) c.put.new.d
+given c = c.give_line.ensures ∙ ap (λ (cs : List Column). laid (c.loop-line.a + 2) (row_bytes (line_values cs (drop c.loop-line.p c.args.s.now))) c.put.new.d) (rows (goal.at.loop-line-preserved c).After-rows_of)
 
-pub loop-a-init : goal.loop-a-init
-loop-a-init c = let q = c.requires in (refl, give_first _ _ q.0 q.1)
+next : (c : goal.After-line_long-p) → let l = c.loop-line in GiveLeft c.args.s.now (l.p + c.line_long-p.result) (l.a + c.line_size-a.result) c.give_line.new.out (laid 38 (lines_bytes (values_of c.args.s.now).lines) c.args.out.now)
+next c =
+    let l = c.loop-line in
+    let q = (goal.at.loop-line-preserved c).After-rows_of in
+    rw (c.line_long-p.ensures.0, c.line_size-a.ensures.0, c.in-Line.ensures) (give_next c.args.s.now l.p l.a l.out _ l.invariant.1 (stands q) c.put.new.d c.give_line.new.out (typed q) (given c))
 
-pub returns-then-t-gt4 : goal.returns-then-t-gt4
-returns-then-t-gt4 c = let l = c.loop-a in give_end _ l.p l.a l.out _ l.invariant.1 (rw (sym c.line_type-t.ensures) c.if-t-gt4.true)
+pub loop-line-init : goal.loop-line-init
+loop-line-init c = (refl, give_first _ _ c.requires.0 c.requires.1)
 
 pub give_line-requires : goal.give_line-requires
 give_line-requires c =
-    let y = c in
-    let e = y in
-    let l = e.loop-a in
-    let s = e.args.s.now in
-    let f = c.rows_of-r.ensures.0 ∙ ap layout_of e.line_type-t.ensures in
-    let k : length y.put.new.d ≡ length l.out = give_kept_1 s l.p l.a l.out _ l.invariant.1 (is_line_holds (goal.at.give_line-requires c).Else-t-gt4) y.put.new.d _ (typed (goal.at.give_line-requires c).After-put) refl in
-    (c.rows_of-r.ensures.1.0, (rw (f, k) (omega (arith, give_room s l.p l.a l.out _ l.invariant.1 (is_line_holds (goal.at.give_line-requires c).Else-t-gt4))), rw f (give_right s l.p l.a l.out _ l.invariant.1 (is_line_holds (goal.at.give_line-requires c).Else-t-gt4))))
-
-pub loop-a-smaller : goal.loop-a-smaller
-loop-a-smaller c =
-    let q = goal.at.loop-a-smaller c in
-    omega (arith, (after q.After-line_long-p (is_line_holds q.Else-t-gt4) (typed q.After-put) (laid-line q.After-give_line)).stand.inside, rw (← c.line_long-p.ensures.0) at (layout_some c.line_type-t.result))
-
-pub loop-a-preserved : goal.loop-a-preserved
-loop-a-preserved c =
-    let l = c.loop-a in
+    let l = c.loop-line in
     let s = c.args.s.now in
-    let q = goal.at.loop-a-preserved c in
-    let h = is_line_holds q.Else-t-gt4 in
-    let t = typed q.After-put in
-    let g = laid-line q.After-give_line in
-    (give_kept s l.p l.a l.out _ l.invariant.1 h c.put.new.d c.give_line.new.out t g ∙ l.invariant.0, after q.After-line_long-p h t g)
+    let k : length c.put.new.d ≡ length l.out = give_kept_1 s l.p l.a l.out _ l.invariant.1 (stands c) c.put.new.d _ (typed c) refl in
+    (c.rows_of.ensures.1.0, (rw (rows c, k) (omega (arith, give_room s l.p l.a l.out _ l.invariant.1 (stands c))), rw (rows c) (give_right s l.p l.a l.out _ l.invariant.1 (stands c))))
+
+pub loop-line-smaller : goal.loop-line-smaller
+loop-line-smaller c = omega (arith, (next c).stand.inside, rw (← c.line_long-p.ensures.0) at (layout_some (line_number c.in-Line.line)))
+
+pub loop-line-preserved : goal.loop-line-preserved
+loop-line-preserved c =
+    let l = c.loop-line in
+    let q = (goal.at.loop-line-preserved c).After-rows_of in
+    (give_kept c.args.s.now l.p l.a l.out _ l.invariant.1 (stands q) c.put.new.d c.give_line.new.out (typed q) (given c) ∙ l.invariant.0, next c)
+
+pub returns : goal.returns
+returns c = let l = c.loop-line in give_end _ l.p l.a l.out _ l.invariant.1 (lines_stop _ l.p _ l.invariant.1.stand c.line_type.result c.line_type.ensures c.in_default.not-Line)

@@ -1,11 +1,9 @@
 -- `put_head`: the count and the header's own values as one row of values, and that row written.
 -- Assumes nothing.
-use borrow.Author.Rules.{rules}
-use mathlib.Core.Path.{◌≡◌, sym, ap, ◌∙◌}
+use mathlib.Core.Path.{◌≡◌, ap, ◌∙◌}
 use mathlib.Core.List.{List}
 use Prim.Native.Nat.{ℕ}
 use lib.Dec.{lit≤}
-use lib.Seq.{length-take-le}
 use Rattle.octets.specs.Octets.{laid}
 use Rattle.market_columns.specs.Columns.{header}
 use Rattle.market_columns.specs.Values.{Value}

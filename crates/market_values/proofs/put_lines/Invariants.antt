@@ -1,21 +1,10 @@
 -- `put_lines`. The invariant: what is left of the lines, laid over what stands there now, gives
--- what is to be (`PutLeft`).
--- The measure is the bytes left. Assumes nothing.
-use Prim.Native.Nat.{◌+◌, ◌-◌, ◌≤◌, ◌<◌, ◌^◌}
-use borrow.Author.Rules.{rules}
-use native.Mathlib.Omega.{arith}
-use mathlib.Core.Path.{◌≡◌, refl, sym, ap, ◌∙◌}
-use mathlib.Core.List.{List}
-use lib.ListN.{length, drop}
-use Rattle.octets.specs.Octets.{be, laid}
-use Rattle.market_columns.specs.Columns.{Column, columns}
-use Rattle.market_columns.specs.Tables.{length_of}
-use Rattle.market_spec.specs.File.{layout_of}
-use Rattle.market_spec.specs.LineValues.{line_text}
+-- what is to be (`PutLeft`). The measure is the bytes left. Assumes nothing.
+use Rattle.std.proofs.Common.{◌≡◌, ◌-◌, length}
+use Rattle.octets.specs.Octets.{laid}
 use Rattle.market_spec.specs.LinesValues.{lines_text}
-use Rattle.market_spec.specs.ValueBytes.{taken_line, AllFit}
-use Rattle.market_spec.specs.FileBytes.{type_of, values_given}
-use Rattle.market_values.specs.Writing.{PutLeft, put_first, put_end, put_two, put_room, put_fits, put_kept, put_next}
+use Rattle.market_spec.specs.FileBytes.{values_given}
+use Rattle.market_values.specs.Writing.{PutLeft}
 use Rattle.market_values.proofs.put_lines.Given as goal
 
 abbrev pub invariant-loop-p : goal.invariant-loop-p

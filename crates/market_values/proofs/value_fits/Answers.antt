@@ -1,18 +1,21 @@
 -- `value_fits`: by the column's kind. Assumes nothing.
-use borrow.Author.Rules.{rules}
 use native.Mathlib.Omega.{arith}
-use mathlib.Core.Path.{◌≡◌, refl, sym, ap, ◌∙◌}
-use Rattle.market_values.specs.Steps.{step_size_9, step_size_w, step_fixed, step_number, step_text, step_name}
+use mathlib.Core.Path.{sym, ap, ◌∙◌}
+use Rattle.market_columns.specs.Columns.{kind_number}
+use Rattle.market_values.specs.Steps.{step_true, step_size_w, step_number, step_sign, step_text, nine_say, nine_not}
 use Rattle.market_values.proofs.value_fits.Goals as goal
 
-pub returns-then-kind-le1 : goal.returns-then-kind-le1
-returns-then-kind-le1 c = let a = c.args in sym (step_fixed a.i a.p a.s.now _ _ _ _ c.column-f.ensures.0 c.if-kind-le1.true)
+pub returns-in-Constant : goal.returns-in-Constant
+returns-in-Constant c = let a = c.args in sym (step_true a.i a.p a.s.now _ _ _ _ c.column-form.ensures.0 c.requires c.in-Constant.is)
 
-pub returns-then-kind-eq2 : goal.returns-then-kind-eq2
-returns-then-kind-eq2 c = let a = c.args in c.number_fits.ensures ∙ rw c.at.ensures (sym (step_number a.i a.p a.s.now _ _ _ _ c.column-f.ensures.0 c.if-kind-eq2.true))
+pub returns-in-Some : goal.returns-in-Some
+returns-in-Some c = let a = c.args in let t = nine_say _ _ _ _ _ c.in-Some.ensures in c.number_fits.ensures ∙ rw (t.0, t.1) (sym (step_number a.i a.p a.s.now _ _ _ _ c.column-form.ensures.0 (ap kind_number c.in-Number.is)))
 
-pub returns-then-kind-eq3 : goal.returns-then-kind-eq3
-returns-then-kind-eq3 c = let a = c.args in let k = c.if-kind-eq2.false in c.column_ok.ensures ∙ sym (step_text a.i a.p a.s.now _ _ _ _ c.column-f.ensures.0 (omega (arith, step_size_w a.i a.p a.s.now _ _ _ _ c.column-f.ensures.0 (omega (arith, c.if-kind-le1.false)), c.requires)) c.if-kind-eq3.true)
+pub returns-in-None : goal.returns-in-None
+returns-in-None c = let a = c.args in sym (step_sign a.i a.p a.s.now _ _ _ _ c.column-form.ensures.0 (ap kind_number c.in-Number.is) (nine_not _ _ _ c.in-None.ensures))
 
-pub returns : goal.returns
-returns c = let a = c.args in let k = c.if-kind-eq2.false in let j = c.if-kind-eq3.false in sym (step_name a.i a.p a.s.now _ _ _ _ c.column-f.ensures.0 (omega (arith, step_size_w a.i a.p a.s.now _ _ _ _ c.column-f.ensures.0 (omega (arith, c.if-kind-le1.false)), c.requires)) (omega (arith, c.if-kind-le1.false)))
+pub returns-in-Text : goal.returns-in-Text
+returns-in-Text c =
+    let a = c.args in
+    let k = ap kind_number c.in-Text.is in
+    c.column_ok.ensures ∙ sym (step_text a.i a.p a.s.now _ _ _ _ c.column-form.ensures.0 (omega (arith, step_size_w a.i a.p a.s.now _ _ _ _ c.column-form.ensures.0 (omega (arith, k)), c.requires)) k)

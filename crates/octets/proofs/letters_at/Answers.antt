@@ -1,9 +1,7 @@
--- `u40_at`: where all bytes are there `in5` reads them, else one by one. Assumes nothing.
-use Rattle.std.proofs.Common.{sym, ◌∙◌, leb-true}
+-- `letters_at`: eight bytes, of which the first three are 0. Assumes nothing.
+use Rattle.std.proofs.Common.{◌∙◌}
+use Rattle.octets.specs.Std.{be_five}
 use Rattle.octets.proofs.letters_at.Goals as goal
 
-pub in5-requires : goal.in5-requires
-in5-requires c = leb-true _ _ (sym c.has_room.ensures ∙ c.if-has_room.true)
-
-pub returns-then-has_room : goal.returns-then-has_room
-returns-then-has_room c = c.in5.ensures
+pub returns-in-Some : goal.returns-in-Some
+returns-in-Some c = c.from_be_bytes.ensures ∙ be_five _ ∙ c.in-Some.ensures

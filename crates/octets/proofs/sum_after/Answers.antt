@@ -1,15 +1,7 @@
-use Rattle.std.proofs.Common.{◌+◌, ◌%◌, sym, ◌∙◌, arith}
-use Rattle.octets.specs.Sums.{left_none, one_off}
-use Rattle.octets.proofs.Sums.{left_on}
+-- `sum_after`: by the sum of the bytes and their number. Assumes nothing.
+use Rattle.std.proofs.Common.{arith}
+use Rattle.octets.proofs.Sums.{sum_after_is}
 use Rattle.octets.proofs.sum_after.Goals as goal
 
-pub loop-i-preserved : goal.loop-i-preserved
-loop-i-preserved c =
-    let l = c.loop-i in
-    (omega arith, left_on _ _ l.i ((l.off + l.on) % 256) _ _ (omega arith) (omega arith) (one_off _ _ l.off l.on _ _ c.wrapping_sub_u8-off.ensures.value c.wrapping_add_u8-on.ensures.value) ∙ l.invariant.1)
-
 pub returns : goal.returns
-returns c =
-    let a = c.args in
-    let l = c.loop-i in
-    c.wrapping_add_u8.ensures.value ∙ sym (left_none a.s.now (a.at + a.n) l.i ((l.off + l.on) % 256) a.b (omega arith)) ∙ l.invariant.1
+returns c = rw (c.sum.ensures, c.part.ensures) (sum_after_is _ _ _ (omega arith))

@@ -1,17 +1,17 @@
+-- `expects`: bytes that begin with the literal, or with which it begins. Assumes nothing.
 use Rattle.step_frame.specs.Papers.{step_number}
-use Rattle.step_spec.specs.FrontLaws.{front_end, front_short, front_fails, front_on}
-use mathlib.Core.Path.{sym, ◌∙◌}
-use native.Mathlib.Omega.{arith}
+use Rattle.step_frame.proofs.Searches.{expected}
+use mathlib.Core.Path.{◌∙◌, sym, refl}
+use Rattle.std.specs.Prelude.{eqb, length, take, drop, ◌-◌}
+use Rattle.std.specs.List.{starts_with}
+use mathlib.Core.Bool.{true, false}
 use Rattle.step_frame.proofs.expects.Goals as goal
 
-pub returns-then-bytes-at : goal.returns-then-bytes-at
-returns-then-bytes-at c = let a = c.args in let l = c.loop-i in sym (front_short (step_number a.why) a.literal.now a.bytes.now l.i a.at (omega arith) (omega arith)) ∙ l.invariant.2
+pub returns-then-starts_with : goal.returns-then-starts_with
+returns-then-starts_with c = let a = c.args in expected (step_number a.why) a.at a.literal.now a.bytes.now true (starts_with eqb a.literal.now (take (length a.bytes.now - a.at) (drop a.at a.bytes.now))) c.requires (sym c.if-starts_with.true ∙ c.starts_with.ensures.value) refl
 
-pub returns-then-bytes-at-2 : goal.returns-then-bytes-at-2
-returns-then-bytes-at-2 c = let a = c.args in let l = c.loop-i in sym (front_fails (step_number a.why) a.literal.now a.bytes.now l.i a.at (omega arith) (omega arith) c.if-bytes-at-2.true) ∙ l.invariant.2
+pub returns-then-starts_with-2 : goal.returns-then-starts_with-2
+returns-then-starts_with-2 c = let a = c.args in expected (step_number a.why) a.at a.literal.now a.bytes.now false true c.requires (sym c.if-starts_with.false ∙ c.starts_with.ensures.value) (sym c.if-starts_with-2.true ∙ c.starts_with-else-starts_with.ensures.value)
 
-pub loop-i-preserved : goal.loop-i-preserved
-loop-i-preserved c = let a = c.args in let l = c.loop-i in (omega arith, omega arith, sym (front_on (step_number a.why) a.literal.now a.bytes.now l.i a.at (omega arith) (omega arith) c.if-bytes-at-2.false) ∙ l.invariant.2)
-
-pub returns : goal.returns
-returns c = let a = c.args in let l = c.loop-i in sym (front_end (step_number a.why) a.literal.now a.bytes.now l.i a.at (omega arith)) ∙ l.invariant.2
+pub returns-else-starts_with-2 : goal.returns-else-starts_with-2
+returns-else-starts_with-2 c = let a = c.args in expected (step_number a.why) a.at a.literal.now a.bytes.now false false c.requires (sym c.if-starts_with.false ∙ c.starts_with.ensures.value) (sym c.if-starts_with-2.false ∙ c.starts_with-else-starts_with.ensures.value)

@@ -1,62 +1,49 @@
 -- `field_at`: where SOH, `=` and the tag are found, they make up the field. Assumes nothing.
-use lib.Seq.{length-take-le}
-use Rattle.step_spec.specs.FieldLaws.{piece, until_all, field_open, no_mark, no_tag, field_found}
-use Rattle.step_spec.specs.PieceLaws.{until_le}
-use Rattle.step_spec.specs.Pieces.{SOH, equals, until_of}
-use Rattle.digits.specs.Digits.{decimal_paper}
-use lib.ListN.{length, drop, length-drop}
-use mathlib.Core.Path.{◌≡◌, sym, ap, ◌∙◌}
-use Prim.Native.Nat.{◌+◌, ◌-◌, ◌≤◌}
+use Rattle.step_frame.proofs.Searches.{Found, found, not_found, mark_lacks, tag_lacks, field_found}
+use Rattle.step_spec.specs.FieldLaws.{field_open}
+use Rattle.step_spec.specs.Pieces.{SOH, equals}
+use lib.ListN.{length, drop, take, length-drop}
+use Rattle.std.proofs.lemmas.Slice.{between_to_end}
+use mathlib.Core.Logic.{⊎_elim}
+use mathlib.Core.List.{List}
+use mathlib.Core.Path.{◌≡◌, sym, ◌∙◌}
+use Prim.Native.Nat.{ℕ, ◌<◌}
+use Rattle.std.specs.List.{slice_range}
 use native.Mathlib.Omega.{arith}
 use Rattle.step_frame.proofs.field_at.Goals as goal
-use Rattle.step_frame.proofs.field_at.Goals.{After-until-end, After-until-mark}
+use Rattle.step_frame.proofs.field_at.Goals.{In_ok-end, In_ok-mark}
 
-ends : (c : goal.After-until-end) → let a = c.args in c.until-end.result ≡ a.place + until_of SOH (drop a.place a.fields.now)
-ends c = let a = c.args in c.until-end.ensures ∙ ap (λ n. a.place + n) (until_all SOH a.place a.fields.now)
+text_is : (t s : List ℕ) (at : ℕ) → t ≡ slice_range s at (length s) → t ≡ drop at s
+text_is t s at e = e ∙ between_to_end s at (length s) (omega arith)
 
-within : (c : goal.After-until-end) → c.until-end.result ≤ length c.args.fields.now
-within c = let a = c.args in omega (arith, ends c, until_le SOH (drop a.place a.fields.now), length-drop a.place a.fields.now)
+ended : (c : goal.In_ok-end) → Found SOH (drop c.args.place c.args.fields.now) c.in_ok-end.end
+ended c = found SOH _ _ c.in_ok-end.was (rw (text_is c.in_ok-text.text.now c.args.fields.now c.args.place c.in_ok-text.ensures.lookup.0.2) at c.first.ensures)
 
-marks : (c : goal.After-until-mark) → let a = c.args in c.until-mark.result ≡ a.place + until_of equals (piece (drop a.place a.fields.now))
-marks c =
+marked : (c : goal.In_ok-mark) → Found equals (take c.in_ok-end.end (drop c.args.place c.args.fields.now)) c.in_ok-mark.mark
+marked c = found equals _ _ c.in_ok-mark.was (rw (text_is c.in_ok-text.text.now c.args.fields.now c.args.place c.in_ok-text.ensures.lookup.0.2) at c.first-2.ensures)
+
+pub returns-in_err-text : goal.returns-in_err-text
+returns-in_err-text c =
     let a = c.args in
-    let e : c.until-end.result - a.place ≡ until_of SOH (drop a.place a.fields.now) = omega (arith, ends (record { before = c.before.before.before; type_inv = record { fields = c.shared_slice_known-1.given } })) in
-    rw e at c.until-mark.ensures
+    let l : length a.fields.now < a.place = ⊎_elim (λ l. l) (λ l. absurd (omega (arith, l))) c.in_err-text.ensures.lookup.0 in
+    rw c.from_residual.ensures (sym (field_open a.place (drop a.place a.fields.now) (simp length-drop (omega (arith, l)))))
 
-before-end : (c : goal.After-until-mark) → c.until-mark.result ≤ c.until-end.result
-before-end c =
+pub returns-in_err-end : goal.returns-in_err-end
+returns-in_err-end c =
     let a = c.args in
-    omega (arith, marks c, ends (record { before = c.before.before.before; type_inv = record { fields = c.shared_slice_known-1.given } }), until_le equals (piece (drop a.place a.fields.now)), length-take-le (until_of SOH (drop a.place a.fields.now)) (drop a.place a.fields.now) (until_le SOH (drop a.place a.fields.now)))
+    rw c.from_residual-in_err-end.ensures (sym (field_open a.place (drop a.place a.fields.now) (not_found SOH _ c.in_err-end.was (rw (text_is c.in_ok-text.text.now c.args.fields.now c.args.place c.in_ok-text.ensures.lookup.0.2) at c.first.ensures))))
 
-pub returns-then-fields-place : goal.returns-then-fields-place
-returns-then-fields-place c = let a = c.args in sym (field_open a.place (drop a.place a.fields.now) (simp length-drop (omega arith)))
+pub returns-in_err-mark : goal.returns-in_err-mark
+returns-in_err-mark c =
+    let p = goal.at.returns-in_err-mark c in
+    rw c.from_residual-in_err-mark.ensures (mark_lacks _ _ c.args.place (ended p.In_ok-end) (not_found equals _ c.in_err-mark.was (rw (text_is c.in_ok-text.text.now c.args.fields.now c.args.place c.in_ok-text.ensures.lookup.0.2) at c.first-2.ensures)))
 
-pub returns-then-end-fields : goal.returns-then-end-fields
-returns-then-end-fields c = let a = c.args in sym (field_open a.place (drop a.place a.fields.now) (simp length-drop (omega (arith, ends (goal.at.returns-then-end-fields c).After-until-end))))
+pub returns-in_err-tag : goal.returns-in_err-tag
+returns-in_err-tag c =
+    let p = goal.at.returns-in_err-tag c in
+    rw c.from_residual-in_err-tag.ensures (tag_lacks _ _ _ (ended p.In_ok-end) (marked p.In_ok-mark) c.args.place (rw (text_is c.in_ok-text.text.now c.args.fields.now c.args.place c.in_ok-text.ensures.lookup.0.2) at c.in_err-tag.ensures))
 
-pub until-mark-requires : goal.until-mark-requires
-until-mark-requires c = let a = c.args in (omega (arith, ends (goal.at.until-mark-requires c).After-until-end), within (goal.at.until-mark-requires c).After-until-end)
-
-pub returns-then-mark-end : goal.returns-then-mark-end
-returns-then-mark-end c = sym (no_mark _ _ _ _ (ends (goal.at.returns-then-mark-end c).After-until-end) (marks (goal.at.returns-then-mark-end c).After-until-mark) c.if-mark-end.true)
-
-pub overflow_add-result : goal.overflow_add-result
-overflow_add-result c = omega (arith, before-end (goal.at.overflow_add-result c).After-until-mark, within (goal.at.overflow_add-result c).After-until-end, c.if-mark-end.false)
-
-pub overflow_sub-result : goal.overflow_sub-result
-overflow_sub-result c = before-end (goal.at.overflow_sub-result c).After-until-mark
-
-pub overflow_sub-result-in-Number : goal.overflow_sub-result-in-Number
-overflow_sub-result-in-Number c = omega (arith, before-end (goal.at.overflow_sub-result-in-Number c).After-until-mark, c.if-mark-end.false)
-
-pub overflow_add-result-in-Number : goal.overflow_add-result-in-Number
-overflow_add-result-in-Number c = omega (arith, within (goal.at.overflow_add-result-in-Number c).After-until-end, c.if-end-fields.false)
-
-pub returns-in-NoNumber : goal.returns-in-NoNumber
-returns-in-NoNumber c = sym (no_tag _ _ _ _ (ends (goal.at.returns-in-NoNumber c).After-until-end) (marks (goal.at.returns-in-NoNumber c).After-until-mark) (ap decimal_paper (sym c.in-NoNumber.is) ∙ c.decimal_at.ensures))
-
-pub returns-in-Number : goal.returns-in-Number
-returns-in-Number c = field_found _ _ _ _ (ends (goal.at.returns-in-Number c).After-until-end) (marks (goal.at.returns-in-Number c).After-until-mark) _
-    (omega (arith, within (goal.at.returns-in-Number c).After-until-end, c.if-end-fields.false))
-    (omega (arith, before-end (goal.at.returns-in-Number c).After-until-mark, c.if-mark-end.false))
-    (ap decimal_paper (sym c.in-Number.is) ∙ c.decimal_at.ensures)
+pub returns : goal.returns
+returns c =
+    let p = goal.at.returns c in
+    field_found _ _ _ (ended p.In_ok-end) (marked p.In_ok-mark) c.args.place _ (rw (text_is c.in_ok-text.text.now c.args.fields.now c.args.place c.in_ok-text.ensures.lookup.0.2) at c.in_ok-tag.ensures)

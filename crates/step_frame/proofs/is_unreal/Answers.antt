@@ -1,71 +1,26 @@
-use Rattle.step_spec.specs.FieldLaws.{unreal_here, unreal_next, unreal_end, unreal_none}
-use Prim.Native.Nat.{ℕ}
-use mathlib.Core.List.{List}
-use lib.Seq.{length-take-le}
-use Rattle.step_spec.specs.FieldLaws.{piece, until_all, long_52, behind_52}
-use Rattle.step_spec.specs.Fields.{begins52}
-use Rattle.step_spec.specs.PieceLaws.{until_le}
-use Rattle.step_spec.specs.Pieces.{SOH, until_of}
-use lib.Seq.{drop-drop}
+-- `is_unreal`: the first piece that begins `52=` decides. Assumes nothing.
+use Rattle.std.proofs.Common.{rules, tests}
+use Rattle.std.specs.Option.{option_map}
+use Rattle.std.specs.List.{find}
+use Rattle.std.proofs.lemmas.Iterator.Search.{find_from_yields_List}
+use Rattle.std.proofs.lemmas.Iterator.Splits.{YieldsList-from_slice_split}
+use Rattle.step_frame.proofs.Times.{test, cut, unreal_some, unreal_none}
 use lib.ListN.{length, drop, length-drop}
-use mathlib.Core.Path.{◌≡◌, sym, ap, ◌∙◌}
-use Prim.Native.Nat.{suc, ◌+◌, ◌-◌, ◌<◌, ◌≤◌}
+use lib.Seq.{take_all}
+use mathlib.Core.Path.{◌≡◌, ap, ◌∙◌}
 use native.Mathlib.Omega.{arith}
+use Prim.Native.Nat.{◌-◌}
 use Rattle.step_frame.proofs.is_unreal.Goals as goal
-use Rattle.step_frame.proofs.is_unreal.Goals.{After-is_52, After-until-end, Then-is_52}
+use Rattle.step_frame.proofs.is_unreal.Goals.{After-find-field}
 
--- what is left at a turn
-abbrev left : goal.After-until-end → List ℕ
-left c = drop c.loop-i.i c.args.fields.now
+found : (c : goal.After-find-field) → option_map (λ x. x.now) c.find-field.result ≡ find test (cut c.args.fields.now)
+found c = find_from_yields_List test _ _ _ c.find-field.ensures.ran (YieldsList-from_slice_split _ _ c.args.fields.now c.split.ensures.rest c.split.ensures.done c.split.ensures.closure (λ x r q k. search (rules, tests))) (λ x b q k. search (rules, tests))
 
-ends : (c : goal.After-until-end) → c.until-end.result ≡ c.loop-i.i + until_of SOH (left c)
-ends c = c.until-end.ensures ∙ ap (λ n. c.loop-i.i + n) (until_all SOH c.loop-i.i c.args.fields.now)
+pub returns-in-Some : goal.returns-in-Some
+returns-in-Some c =
+    let p = goal.at.returns-in-Some c in
+    let u = unreal_some c.in-Some.field.now c.args.fields.now (ap (option_map (λ x. x.now)) c.in-Some.is) (found p.After-find-field) in
+    c.unreal.ensures ∙ rw (take_all (length c.in-Some.field.now - 3) (drop 3 c.in-Some.field.now) (simp length-drop (omega arith))) u.1
 
-room : (c : goal.After-until-end) → c.until-end.result ≤ length c.args.fields.now
-room c = omega (arith, ends c, until_le SOH (left c), length-drop c.loop-i.i c.args.fields.now)
-
-some : (c : goal.After-until-end) → 0 < length (left c)
-some c = simp length-drop (omega arith)
-
-flag : (c : goal.After-is_52) → c.is_52.result ≡ begins52 (piece (left (record { before = c.before.before; type_inv = record { fields = c.shared_slice_known-1.given } })))
-flag c =
-    let e : c.until-end.result - c.loop-i.i ≡ until_of SOH (left (record { before = c.before.before; type_inv = record { fields = c.shared_slice_known-1.given } })) = omega (arith, ends (record { before = c.before.before; type_inv = record { fields = c.shared_slice_known-1.given } })) in
-    rw e at c.is_52.ensures
-
-three : (c : goal.Then-is_52) → 3 ≤ until_of SOH (left (record { before = c.before.before.before; type_inv = record { fields = c.shared_slice_known-1.given } }))
-three c = omega (arith, long_52 (piece (left (record { before = c.before.before.before; type_inv = record { fields = c.shared_slice_known-1.given } }))) (sym (flag (record { before = c.before.before; type_inv = record { fields = c.shared_slice_known-1.given } })) ∙ c.if-is_52.true), length-take-le (until_of SOH (left (record { before = c.before.before.before; type_inv = record { fields = c.shared_slice_known-1.given } }))) (left (record { before = c.before.before.before; type_inv = record { fields = c.shared_slice_known-1.given } })) (until_le SOH (left (record { before = c.before.before.before; type_inv = record { fields = c.shared_slice_known-1.given } }))))
-
-pub is_52-requires : goal.is_52-requires
-is_52-requires c = (omega (arith, ends c), room c)
-
-pub slice_bounds-unreal-end : goal.slice_bounds-unreal-end
-slice_bounds-unreal-end c = omega (arith, room (goal.at.slice_bounds-unreal-end c).After-until-end)
-
-pub returns-then-is_52 : goal.returns-then-is_52
-returns-then-is_52 c = let u = c in
-    let i = u.loop-i.i in
-    let s = u.args.fields.now in
-    let e : u.until-end.result - (i + 3) ≡ until_of SOH (left (goal.at.returns-then-is_52 c).After-until-end) - 3 = omega (arith, ends (goal.at.returns-then-is_52 c).After-until-end, three (goal.at.returns-then-is_52 c).Then-is_52) in
-    rw (e, ← behind_52 i (until_of SOH (left (goal.at.returns-then-is_52 c).After-until-end)) s (three (goal.at.returns-then-is_52 c).Then-is_52) (until_le SOH (left (goal.at.returns-then-is_52 c).After-until-end))) at c.unreal.ensures
-    ∙ unreal_here (left (goal.at.returns-then-is_52 c).After-until-end) (some (goal.at.returns-then-is_52 c).After-until-end) (sym (flag (goal.at.returns-then-is_52 c).After-is_52) ∙ c.if-is_52.true)
-    ∙ u.loop-i.invariant.1
-
-pub returns-then-end-fields : goal.returns-then-end-fields
-returns-then-end-fields c = let u = c in
-    unreal_none (left (goal.at.returns-then-end-fields c).After-until-end) (some (goal.at.returns-then-end-fields c).After-until-end) (sym (flag (goal.at.returns-then-end-fields c).After-is_52) ∙ c.if-is_52.false) (simp length-drop (omega (arith, ends (goal.at.returns-then-end-fields c).After-until-end, c.if-end-fields.true)))
-    ∙ u.loop-i.invariant.1
-
-pub overflow_add-i : goal.overflow_add-i
-overflow_add-i c = omega (arith, room (goal.at.overflow_add-i c).After-until-end, c.if-end-fields.false)
-
-pub loop-i-preserved : goal.loop-i-preserved
-loop-i-preserved c = let u = c in
-    let i = u.loop-i.i in
-    let s = u.args.fields.now in
-    let e : u.until-end.result + 1 ≡ i + suc (until_of SOH (left (goal.at.loop-i-preserved c).After-until-end)) = omega (arith, ends (goal.at.loop-i-preserved c).After-until-end) in (
-      omega (arith, room (goal.at.loop-i-preserved c).After-until-end, c.if-end-fields.false),
-      rw (e, ← drop-drop (suc (until_of SOH (left (goal.at.loop-i-preserved c).After-until-end))) i s) (unreal_next (left (goal.at.loop-i-preserved c).After-until-end) (some (goal.at.loop-i-preserved c).After-until-end) (sym (flag (goal.at.loop-i-preserved c).After-is_52) ∙ c.if-is_52.false) ∙ u.loop-i.invariant.1),
-    )
-
-pub returns : goal.returns
-returns c = unreal_end _ (simp length-drop (omega arith)) ∙ c.loop-i.invariant.1
+pub returns-in-None : goal.returns-in-None
+returns-in-None c = unreal_none c.args.fields.now (ap (option_map (λ x. x.now)) c.in-None.is) (found (goal.at.returns-in-None c).After-find-field)

@@ -1,113 +1,116 @@
--- `length_at`: the window of ten bytes is a part of the bytes; each return is one outcome of its
--- check. Assumes nothing.
+-- `length_at`: the ten bytes are the window, and each return is one outcome of its check.
+-- Assumes nothing.
+use Rattle.step_frame.proofs.Searches.{window_is, run_is, plain_is}
 use Rattle.step_spec.specs.FrontLaws.{run_le}
-use Rattle.step_spec.specs.HeadLaws.{window_part, window_length, window_byte, window_number, length_empty}
 use Rattle.step_spec.proofs.HeadLaws.{length_many, length_zero, length_more, length_open, length_none, length_good}
-use Rattle.step_spec.specs.Frame.{body_start, body_length, window, digit_run}
+use Rattle.step_spec.specs.Frame.{body_start, body_length, window, digit_run, length_check}
 use Rattle.terms.specs.Paper.{Paper}
+use Rattle.terms.specs.Cases.{less, clash}
 use Rattle.terms.specs.Checks.{else_on, else_is}
-use Rattle.digits.specs.Digits.{decimal_paper, decimal_at, plain}
-use lib.ListN.{length, take, drop, get_or}
-use mathlib.Core.List.{List}
-use mathlib.Core.Bool.{true}
-use Rattle.std.specs.Prelude.{min}
-use mathlib.Core.Path.{◌≡◌, sym, ap, ◌∙◌}
-use Prim.Native.Nat.{ℕ, ◌+◌, ◌-◌, ◌≤◌, ◌<◌}
-use native.Mathlib.Nat.{add-zero}
+use Rattle.digits.specs.Digits.{decimal_paper, is_digit, plain}
+use Rattle.std.specs.List.{starts_with, take_while}
+use Rattle.std.specs.Prelude.{Result, Err, Option}
+use Rattle.std.specs.Option.{ok_or}
+use Rattle.step_frame.specs.Papers.{step_written_paper}
+use Rattle.step_frame.specs.declared.StepRefusal.{StepRefusal}
+use Rattle.step_frame.specs.declared.StepRefusal.TheVariants.{Length}
+use Rattle.step_spec.specs.HeadLaws.{window_length}
+use borrow.Author.Tests.{lt-ltb, le-ltb}
+use borrow.Author.Rules.{rules}
+use lib.Dec.{ltb, eqb}
+use lib.ListN.{length, drop, get_or}
+use mathlib.Core.List.{List, [], ◌∷◌}
+use mathlib.Core.Bool.{Bool, true, false, not, ◌&&◌, ◌||◌}
+use mathlib.Core.Logic.{⊎_elim}
+use mathlib.Core.Path.{◌≡◌, refl, sym, ap, ◌∙◌}
+use Prim.Native.Nat.{ℕ, ◌+◌, ◌≤◌, ◌<◌}
 use native.Mathlib.Omega.{arith}
 use Rattle.step_frame.proofs.length_at.Goals as goal
 
--- the digits end in the window of ten bytes
-record Run (s : List ℕ) (at to end : ℕ) : Type 0 where
-  room : at + 13 ≤ length s
-  wide : to ≡ min (at + 13 + 10) (length s)
-  ends : end ≡ at + 13 + digit_run (take (to - (at + 13)) (drop (at + 13) s))
+run_of : (k : ℕ) (w : List ℕ) → k ≡ length (take_while is_digit w) → digit_run w ≡ k
+run_of k w e = sym (run_is w) ∙ sym e
 
-digits : (s : List ℕ) (at to end : ℕ) → at + 13 ≤ length s → to ≡ min (at + 13 + 10) (length s) → end ≡ at + 13 + digit_run (take (to - (at + 13)) (drop (at + 13) s)) → Run s at to end
-digits s at to end r w e = record { room = r; wide = w; ends = e }
+below : (k : ℕ) (w : List ℕ) → digit_run w ≡ k → (k ≡ length w → ⊥) → k < length w
+below k w r n = omega (arith, run_le w, r, n)
 
-module _ {s : List ℕ} {at to end : ℕ} (d : Run s at to end) where
-  run : digit_run (window (drop at s)) ≡ end - (at + 13)
-  run = rw (window_part s at d.room to d.wide) (omega (arith, d.ends))
+-- the test of the count of digits and of the first
+module _ {t : Bool} (k : ℕ) (w : List ℕ) (r : digit_run w ≡ k) (s : t ≡ starts_with eqb w (48 ∷ [])) where
+  needless : not (ltb 1 k && t) ≡ plain k (get_or w 0 0)
+  needless = rw s (plain_is k w r)
 
-  long : length (window (drop at s)) ≡ to - (at + 13)
-  long = window_length s at d.room to d.wide
+  good : (ltb 9 k || (ltb 1 k && t)) ≡ false → (k ≤ 9) × (plain k (get_or w 0 0) ≡ true)
+  good h =
+      ⊎_elim (λ (l : 9 < k). absurd (clash (rw (lt-ltb 9 k l)) h))
+      (λ (l : k ≤ 9). (l, sym needless ∙ ap not (rw (le-ltb 9 k l) at h)))
+      (less 9 k)
 
-  -- the digits end within the window, behind its start
-  behind : at + 13 ≤ end
-  behind = omega (arith, d.ends)
+  bad : (ltb 9 k || (ltb 1 k && t)) ≡ true → length_check w ≡ 24
+  bad h =
+      ⊎_elim (λ (l : 9 < k). length_many w k r l)
+      (λ (l : k ≤ 9). length_zero w k r (sym needless ∙ ap not (rw (le-ltb 9 k l) at h)))
+      (less 9 k)
 
-  within : end ≤ to
-  within = omega (arith, run, long, run_le (window (drop at s)), d.wide, d.room)
+pub returns-then-k-starts_with : goal.returns-then-k-starts_with
+returns-then-k-starts_with c =
+    let a = c.args in
+    let w = window (drop a.at a.bytes.now) in
+    let e = window_is a.bytes.now a.at _ c.requires c.min.ensures in
+    let r : digit_run w ≡ c.digit_run-k.result = run_of _ w (rw e at c.digit_run-k.ensures) in
+    sym (else_is _ _ 24 (bad _ w r (rw e at c.starts_with.ensures.value) c.if-k-starts_with.true) (λ e. omega arith))
 
-  first : (at + 13 ≡ to → ⊥) → get_or (window (drop at s)) 0 0 ≡ get_or s (at + 13) 0
-  first ne = window_byte s at d.room to d.wide 0 (omega (arith, d.wide, d.room, ne)) ∙ rw (add-zero (at + 13))
+pub returns-then-k-window : goal.returns-then-k-window
+returns-then-k-window c =
+    let a = c.args in
+    let w = window (drop a.at a.bytes.now) in
+    let e = window_is a.bytes.now a.at _ c.requires c.min.ensures in
+    let r : digit_run w ≡ c.digit_run-k.result = run_of _ w (rw e at c.digit_run-k.ensures) in
+    let g = good _ w r (rw e at c.starts_with.ensures.value) c.if-k-starts_with.false in
+    sym (else_is _ _ 1 (length_more w _ r g.0 g.1 (omega (arith, rw e at c.if-k-window.true))) (λ e. omega arith))
 
-  plainly : (at + 13 ≡ to → ⊥) → plain (end - (at + 13)) (get_or s (at + 13) 0) ≡ true → plain (end - (at + 13)) (get_or (window (drop at s)) 0 0) ≡ true
-  plainly ne h = rw (first ne) h
+pub returns-then-window-k-ne-SOH : goal.returns-then-window-k-ne-SOH
+returns-then-window-k-ne-SOH c =
+    let a = c.args in
+    let w = window (drop a.at a.bytes.now) in
+    let e = window_is a.bytes.now a.at _ c.requires c.min.ensures in
+    let r : digit_run w ≡ c.digit_run-k.result = run_of _ w (rw e at c.digit_run-k.ensures) in
+    let g = good _ w r (rw e at c.starts_with.ensures.value) c.if-k-starts_with.false in
+    let l = below _ w r (λ q. c.if-k-window.false (rw e q)) in
+    sym (else_is _ _ 24 (length_open w _ r g.0 g.1 l (rw e at c.if-window-k-ne-SOH.true)) (λ e. omega arith))
 
-  inside : (end ≡ to → ⊥) → end < to
-  inside ne = omega (arith, within, ne)
-
-  byte : (end ≡ to → ⊥) → get_or (window (drop at s)) (end - (at + 13)) 0 ≡ get_or s end 0
-  byte ne =
-      let k : at + 13 + (end - (at + 13)) ≡ end = omega (arith, behind) in
-      window_byte s at d.room to d.wide _ (omega (arith, inside ne, k)) ∙ rw k
-
-  said : (end ≡ to → ⊥) → decimal_at 0 (end - (at + 13)) (window (drop at s)) ≡ decimal_at (at + 13) (end - (at + 13)) s
-  said ne = window_number s at d.room to d.wide _ (omega (arith, inside ne, behind))
-
-  short : (end ≡ to → ⊥) → end - (at + 13) < length (window (drop at s))
-  short ne = omega (arith, long, inside ne, behind)
-
-pub returns-then-from-to : goal.returns-then-from-to
-returns-then-from-to c = sym (else_is _ _ 1 (length_empty _ (omega (arith, window_length c.args.bytes.now c.args.at c.requires _ c.ten_behind-to.ensures, c.if-from-to.true))) (λ e. omega arith))
-
-pub returns-then-k-gt9 : goal.returns-then-k-gt9
-returns-then-k-gt9 c =
-    let d = digits c.args.bytes.now c.args.at _ _ c.requires c.ten_behind-to.ensures c.digits_end-end.ensures in
-    sym (else_is _ _ 24 (length_many _ _ (run d) c.if-k-gt9.true) (λ e. omega arith))
-
-pub returns-then-not-k-bytes : goal.returns-then-not-k-bytes
-returns-then-not-k-bytes c =
-    let d = digits c.args.bytes.now c.args.at _ _ c.requires c.ten_behind-to.ensures c.digits_end-end.ensures in
-    sym (else_is _ _ 24 (length_zero _ _ (run d) (rw (first d c.if-from-to.false) c.if-not-k-bytes.true)) (λ e. omega arith))
-
-pub returns-then-end-to : goal.returns-then-end-to
-returns-then-end-to c =
-    let d = digits c.args.bytes.now c.args.at _ _ c.requires c.ten_behind-to.ensures c.digits_end-end.ensures in
-    sym (else_is _ _ 1 (length_more _ _ (run d) (omega (arith, c.if-k-gt9.false)) (plainly d c.if-from-to.false c.if-not-k-bytes.false) (omega (arith, long d, c.if-end-to.true))) (λ e. omega arith))
-
-pub bounds-bytes-end : goal.bounds-bytes-end
-bounds-bytes-end c =
-    let d = digits c.args.bytes.now c.args.at _ _ c.requires c.ten_behind-to.ensures c.digits_end-end.ensures in
-    omega (arith, inside d c.if-end-to.false, c.ten_behind-to.ensures)
-
-pub returns-then-bytes-end-ne1 : goal.returns-then-bytes-end-ne1
-returns-then-bytes-end-ne1 c =
-    let d = digits c.args.bytes.now c.args.at _ _ c.requires c.ten_behind-to.ensures c.digits_end-end.ensures in
-    let p = plainly d c.if-from-to.false c.if-not-k-bytes.false in
-    sym (else_is _ _ 24 (length_open _ _ (run d) (omega (arith, c.if-k-gt9.false)) p (short d c.if-end-to.false) (λ e. c.if-bytes-end-ne1.true (sym (byte d c.if-end-to.false) ∙ e))) (λ e. omega arith))
+pub returns-in_err-n : goal.returns-in_err-n
+returns-in_err-n c =
+    let a = c.args in
+    let w = window (drop a.at a.bytes.now) in
+    let e = window_is a.bytes.now a.at _ c.requires c.min.ensures in
+    let r : digit_run w ≡ c.digit_run-k.result = run_of _ w (rw e at c.digit_run-k.ensures) in
+    let g = good _ w r (rw e at c.starts_with.ensures.value) c.if-k-starts_with.false in
+    let l = below _ w r (λ q. c.if-k-window.false (rw e q)) in
+    let q = rw e at c.if-window-k-ne-SOH.false in
+    let d = c.in_err-n.ensures.ok_part in
+    let v : c.from_residual.result ≡ Err c.in_err-n.field-0.0 = search rules in
+    let u : ◌≡◌ {A = Result ℕ StepRefusal} (Err c.in_err-n.field-0.0) (Err Length) = c.in_err-n.ensures.value ∙ ap (λ (o : Option ℕ). ok_or {E = StepRefusal} o Length) d in
+    rw v (ap (λ (r : Result ℕ StepRefusal). (step_written_paper r).number) u ∙ sym (else_is _ _ 24 (length_none w _ r g.0 g.1 l q (sym (rw e at c.decimal_at.ensures) ∙ ap decimal_paper d)) (λ e. omega arith)))
 
 pub measured-requires : goal.measured-requires
 unfolding body_start body_length
 measured-requires c =
-    let d = digits c.args.bytes.now c.args.at _ _ c.requires c.ten_behind-to.ensures c.digits_end-end.ensures in (
-      omega (arith, inside d c.if-end-to.false, behind d, c.ten_behind-to.ensures),
-      omega (arith, c.if-k-gt9.false),
-      sym (ap (λ (n : ℕ). 14 + n) (run d)),
-      rw (run d, said d c.if-end-to.false) (ap (λ (p : Paper). get_or p.values 0 0) (ap decimal_paper (sym c.in-Number.is) ∙ c.decimal_at.ensures)),
-    )
+    let a = c.args in
+    let w = window (drop a.at a.bytes.now) in
+    let e = window_is a.bytes.now a.at _ c.requires c.min.ensures in
+    let r : digit_run w ≡ c.digit_run-k.result = run_of _ w (rw e at c.digit_run-k.ensures) in
+    let g = good _ w r (rw e at c.starts_with.ensures.value) c.if-k-starts_with.false in
+    let l = below _ w r (λ q. c.if-k-window.false (rw e q)) in
+    let n = sym (rw e at c.decimal_at.ensures) ∙ ap decimal_paper c.in_ok-n.ensures.ok_part in
+    (omega (arith, l, window_length a.bytes.now a.at c.requires _ refl), omega (arith, g.0), sym (ap (λ (n : ℕ). 14 + n) r), rw r (sym (ap (λ (p : Paper). get_or p.values 0 0) n)))
 
-pub returns-in-NoNumber : goal.returns-in-NoNumber
-returns-in-NoNumber c =
-    let d = digits c.args.bytes.now c.args.at _ _ c.requires c.ten_behind-to.ensures c.digits_end-end.ensures in
-    let p = plainly d c.if-from-to.false c.if-not-k-bytes.false in
-    sym (else_is _ _ 24 (length_none _ _ (run d) (omega (arith, c.if-k-gt9.false)) p (short d c.if-end-to.false) (byte d c.if-end-to.false ∙ c.if-bytes-end-ne1.false) (said d c.if-end-to.false ∙ sym (ap decimal_paper (sym c.in-NoNumber.is) ∙ c.decimal_at.ensures))) (λ e. omega arith))
-
-pub returns-in-Number : goal.returns-in-Number
-returns-in-Number c =
-    let d = digits c.args.bytes.now c.args.at _ _ c.requires c.ten_behind-to.ensures c.digits_end-end.ensures in
-    let p = plainly d c.if-from-to.false c.if-not-k-bytes.false in
-    let g = length_good _ _ (run d) (omega (arith, c.if-k-gt9.false)) p (short d c.if-end-to.false) (byte d c.if-end-to.false ∙ c.if-bytes-end-ne1.false) _ (said d c.if-end-to.false ∙ sym (ap decimal_paper (sym c.in-Number.is) ∙ c.decimal_at.ensures)) in
-    rw (else_on _ _ g) c.measured.ensures
+pub returns : goal.returns
+returns c =
+    let a = c.args in
+    let w = window (drop a.at a.bytes.now) in
+    let e = window_is a.bytes.now a.at _ c.requires c.min.ensures in
+    let r : digit_run w ≡ c.digit_run-k.result = run_of _ w (rw e at c.digit_run-k.ensures) in
+    let g = good _ w r (rw e at c.starts_with.ensures.value) c.if-k-starts_with.false in
+    let l = below _ w r (λ q. c.if-k-window.false (rw e q)) in
+    let q = rw e at c.if-window-k-ne-SOH.false in
+    let n = sym (rw e at c.decimal_at.ensures) ∙ ap decimal_paper c.in_ok-n.ensures.ok_part in
+    rw (else_on _ _ (length_good w _ r g.0 g.1 l q c.in_ok-n.n n)) c.measured.ensures

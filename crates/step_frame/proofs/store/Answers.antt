@@ -1,7 +1,6 @@
 -- `store`: the sum is that of what is laid, and the trailer goes behind it. Assumes nothing.
 use Rattle.octets.specs.Papers.{lay_next}
 use Rattle.step_spec.specs.Written.{plain_of, frame_of}
-use Rattle.step_spec.specs.HeadLaws.{trailer_laid}
 use Rattle.step_spec.specs.Frame.{trailer_of}
 use Rattle.octets.specs.Overlays.{take_front}
 use Rattle.octets.specs.Octets.{laid, sum8}
@@ -22,5 +21,5 @@ returns c =
     let a = c.args in
     let p = c.store_plain-end.ensures in
     let s = sum_is _ _ _ _ _ p.0 p.1 c.sum.ensures in
-    let t : c.put_digits.new.d ≡ trailer_of (sum8 (plain_of a.kind a.fields.now)) = c.put_digits.ensures.1 ∙ rw s (trailer_laid (sum8 (plain_of a.kind a.fields.now))) in
+    let t : c.trailer-trailer.result ≡ trailer_of (sum8 (plain_of a.kind a.fields.now)) = c.trailer-trailer.ensures ∙ ap trailer_of s in
     lay_next _ (plain_of a.kind a.fields.now) (trailer_of (sum8 (plain_of a.kind a.fields.now))) a.out.now _ _ (rw t at c.lay.ensures.1) p.1 (sym p.0) (omega (arith, p.0, simp length-append at c.requires.1))

@@ -4,6 +4,7 @@ use Rattle.step_spec.specs.WriteLaws.{frame_over, plain_pieces}
 use Rattle.step_spec.proofs.WriteLaws.{frame_size}
 use Rattle.step_spec.proofs.RoundTrip.{plain_long}
 use Rattle.step_spec.specs.Written.{frame_of}
+use Rattle.step_frame.proofs.Searches.{few_digits}
 use Rattle.step_spec.specs.Frame.{begin, length_tag, type_tag}
 use Rattle.step_spec.specs.Pieces.{SOH}
 use Rattle.digits.specs.Laws.{length_decimal}
@@ -31,8 +32,17 @@ digits f = shown_of (length f + 5)
 digits_long : (f : List ℕ) → length (digits f) ≡ width_of (length f + 5)
 digits_long f = length_decimal (width_of (length f + 5)) (length f + 5)
 
-pub width-behind-requires : goal.width-behind-requires
-width-behind-requires c = omega (arith, few _ _ c.requires.0)
+pub overflow_add-behind : goal.overflow_add-behind
+overflow_add-behind c = record { fits = omega (arith, few_digits (length c.args.fields.now + 5) _ (omega arith) c.width-behind.ensures) }
+
+pub overflow_add-behind-2 : goal.overflow_add-behind-2
+overflow_add-behind-2 c = record { fits = omega (arith, few_digits (length c.args.fields.now + 5) _ (omega arith) c.width-behind.ensures) }
+
+pub overflow_add-result : goal.overflow_add-result
+overflow_add-result c = record { fits = omega (arith, few_digits (length c.args.fields.now + 5) _ (omega arith) c.width-behind.ensures) }
+
+pub overflow_add-result-2 : goal.overflow_add-result-2
+overflow_add-result-2 c = record { fits = omega (arith, few_digits (length c.args.fields.now + 5) _ (omega arith) c.width-behind.ensures) }
 
 -- the four pieces, one behind the other
 pub returns : goal.returns
@@ -40,7 +50,7 @@ returns c =
     let o = c.args.out.now in
     let f = c.args.fields.now in
     let z = size _ _ _ c.requires.0 c.requires.1 in
-    let w = c.width-behind.ensures.0 in
+    let w = c.width-behind.ensures in
     let tag = SOH ∷ (type_tag ++ (c.args.kind ∷ SOH ∷ [])) in
     let one : c.lay.new.d ≡ laid 0 (begin ++ length_tag) o = c.lay.ensures.1 ∙ laid_there 0 13 (begin ++ length_tag) o refl (le-leb 13 (length o) (omega (arith, z))) in
     let two = lay_next 13 (begin ++ length_tag) (digits f) o _ _ c.put_decimal.ensures.1 one refl (omega (arith, z, digits_long f)) in

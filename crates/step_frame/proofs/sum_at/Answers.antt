@@ -1,5 +1,4 @@
 -- `sum_at`: the trailer is laid out with the sum, and expected behind the body. Assumes nothing.
-use Rattle.step_spec.specs.HeadLaws.{trailer_laid}
 use Rattle.step_spec.proofs.HeadLaws.{sum_short, sum_open, sum_is}
 use lib.Seq.{drop-drop, get_or-drop}
 use lib.ListN.{drop, get_or, length-drop}
@@ -21,10 +20,10 @@ last c h =
 pub returns-then-bytes-at : goal.returns-then-bytes-at
 returns-then-bytes-at c = let o = c in sym (sum_short o.args.end (text (goal.at.returns-then-bytes-at c).Start) (simp length-drop (omega arith)))
 
-pub returns-then-bytes-at-ne1 : goal.returns-then-bytes-at-ne1
-returns-then-bytes-at-ne1 c = let o = c in sym (sum_open o.args.end (text (goal.at.returns-then-bytes-at-ne1 c).Start) (simp length-drop (omega arith)) (λ e. c.if-bytes-at-ne1.true (sym (last (goal.at.returns-then-bytes-at-ne1 c).Start o.requires.1) ∙ e)))
+pub returns-then-bytes-at-ne-SOH : goal.returns-then-bytes-at-ne-SOH
+returns-then-bytes-at-ne-SOH c = let o = c in sym (sum_open o.args.end (text (goal.at.returns-then-bytes-at-ne-SOH c).Start) (simp length-drop (omega arith)) (λ e. c.if-bytes-at-ne-SOH.true (sym (last (goal.at.returns-then-bytes-at-ne-SOH c).Start o.requires.1) ∙ e)))
 
 pub returns : goal.returns
 returns c = let o = c in
-    let i = sum_is o.args.end (text (goal.at.returns c).Start) (simp length-drop (omega arith)) (last (goal.at.returns c).Start o.requires.1 ∙ c.if-bytes-at-ne1.false) in
-    c.expects.ensures ∙ rw (c.put_digits.ensures.1, c.sum.ensures, trailer_laid, ← drop-drop o.args.end o.args.at o.args.bytes.now) (sym i)
+    let i = sum_is o.args.end (text (goal.at.returns c).Start) (simp length-drop (omega arith)) (last (goal.at.returns c).Start o.requires.1 ∙ c.if-bytes-at-ne-SOH.false) in
+    c.expects.ensures ∙ rw (c.trailer-trailer.ensures, c.sum.ensures, ← drop-drop o.args.end o.args.at o.args.bytes.now) (sym i)

@@ -1,22 +1,18 @@
 -- `old_sum`: the digits say the sum. Assumes nothing.
-use Rattle.digits.specs.Digits.{decimal_paper, number}
-use Rattle.digits.specs.declared.Decimal.{Decimal}
-use Rattle.terms.specs.Paper.{Paper}
+use Rattle.digits.specs.Digits.{decimal_one}
+use Rattle.octets.specs.Octets.{sum8}
 use Rattle.octets.specs.Sums.{sum8_below}
-use lib.ListN.{length, get_or, take}
-use mathlib.Core.Path.{◌≡◌, sym, ap, ◌∙◌}
-use Prim.Native.Nat.{ℕ}
-use native.Mathlib.Omega.{arith}
+use Rattle.std.specs.Prelude.{Some}
+use lib.ListN.{take}
+use mathlib.Core.Path.{◌≡◌, ◌∙◌}
 use Rattle.step_scrub.proofs.old_sum.Goals as goal
+use Rattle.step_scrub.proofs.old_sum.Goals.{After-digits_at}
 
-said : (r : Decimal) (x m : ℕ) (p : Paper) → r ≡ Decimal.Number x → decimal_paper r ≡ p → p ≡ number m → x ≡ m
-said r x m p i e h = ap (λ (p : Paper). get_or p.values 0 0) (ap decimal_paper (sym i) ∙ e ∙ h)
+said : (c : goal.After-digits_at) → c.digits_at.result ≡ Some (sum8 (take c.args.n c.args.buf.now))
+said c = decimal_one _ _ (c.digits_at.ensures ∙ c.requires.1)
 
 pub overflow_cast-result : goal.overflow_cast-result
-overflow_cast-result c = record { fits = omega (arith, said _ _ _ _ c.in-Number.is c.digits_at.ensures c.requires.1, sum8_below (take c.args.n c.args.buf.now)) }
+overflow_cast-result c = record { fits = rw (c.unwrap_or.ensures, said (goal.at.overflow_cast-result c).After-digits_at) (sum8_below (take c.args.n c.args.buf.now)) }
 
-pub returns-in-Number : goal.returns-in-Number
-returns-in-Number c = said _ _ _ _ c.in-Number.is c.digits_at.ensures c.requires.1
-
-pub returns-in-NoNumber : goal.returns-in-NoNumber
-returns-in-NoNumber c = absurd (omega (arith, ap (λ (p : Paper). length p.values) (ap decimal_paper (sym c.in-NoNumber.is) ∙ c.digits_at.ensures ∙ c.requires.1)))
+pub returns : goal.returns
+returns c = rw (c.unwrap_or.ensures, said (goal.at.returns c).After-digits_at)

@@ -10,8 +10,8 @@ use mathlib.Core.Path.{◌≡◌}
 use Prim.Native.Nat.{◌-◌, ◌≤◌}
 use Rattle.step_scrub.proofs.paint_fields.Given as goal
 
-abbrev pub invariant-loop-i : goal.invariant-loop-i
-invariant-loop-i l = (l.i ≤ length l.buf) × (length l.buf ≡ length l.initial.buf) × (closed (drop l.i l.buf) ≡ true) × (all_fields (pieces (drop l.i l.buf)) ≡ true) × (take l.i l.buf ++ painted (drop l.i l.buf) ≡ painted l.initial.buf) × (l.v ≡ sum_moved l.sum l.initial.buf l.buf)
+abbrev pub invariant-loop-field : goal.invariant-loop-field
+invariant-loop-field l = (l.i ≤ length l.buf) × (length l.buf ≡ length l.initial.buf) × (closed (drop l.i l.buf) ≡ true) × (all_fields (pieces (drop l.i l.buf)) ≡ true) × (take l.i l.buf ++ painted (drop l.i l.buf) ≡ painted l.initial.buf) × (l.v ≡ sum_moved l.sum l.initial.buf l.buf)
 
-abbrev pub decreases-loop-i : goal.decreases-loop-i
-decreases-loop-i l = length l.buf - l.i
+abbrev pub decreases-loop-field : goal.decreases-loop-field
+decreases-loop-field l = length l.buf - l.i

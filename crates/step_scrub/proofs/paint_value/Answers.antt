@@ -14,8 +14,8 @@ returns-then-not-is_private c = let a = c.args in (rw (sym c.is_private.ensures 
 
 pub returns : goal.returns
 returns c = let a = c.args in
-    let e : a.a + a.n - a.a ≡ a.n = omega arith in
-    let l = filled a.a (a.a + a.n) 32 a.buf.now _ (omega arith) (omega arith) c.fill.ensures ∙ ap (λ (k : ℕ). laid a.a (replicate k 32) a.buf.now) e in (
+    let e : a.field.value + a.field.len - a.field.value ≡ a.field.len = omega arith in
+    let l = filled a.field.value (a.field.value + a.field.len) 32 a.buf.now _ (omega arith) (omega arith) c.fill.ensures ∙ ap (λ (k : ℕ). laid a.field.value (replicate k 32) a.buf.now) e in (
       rw (sym c.is_private.ensures ∙ c.if-not-is_private.false) l,
-      c.sum_after-after.ensures ∙ moved_after a.buf.now a.a a.n 32 a.sum (search rules) (omega arith) ∙ rw l,
+      c.sum_after-after.ensures ∙ moved_after a.buf.now a.field.value a.field.len 32 a.sum (search rules) (omega arith) ∙ rw l,
     )

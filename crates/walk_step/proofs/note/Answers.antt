@@ -1,7 +1,6 @@
 -- `note`: with room the record is laid, without it nothing is. Assumes nothing.
 use mathlib.Core.Path.{sym}
 use Rattle.walk_spec.specs.Tables.{noted_put, noted_full}
-use borrow.Author.Rules.{rules}
 use Rattle.walk_step.proofs.note.Goals as goal
 
 pub returns-then-k-out : goal.returns-then-k-out

@@ -1,9 +1,7 @@
--- `u16_at`: where all bytes are there `in2` reads them, else one by one. Assumes nothing.
-use Rattle.std.proofs.Common.{sym, ◌∙◌, leb-true}
+-- `u16::at`: where all bytes are there, the number that std reads in them. Assumes nothing.
+use Rattle.std.proofs.Common.{◌∙◌}
+use Rattle.octets.specs.Std.{bytes_read}
 use Rattle.octets.proofs.U16Number.at.Goals as goal
 
-pub in2-requires : goal.in2-requires
-in2-requires c = leb-true _ _ (sym c.has_room.ensures ∙ c.if-has_room.true)
-
-pub returns-then-has_room : goal.returns-then-has_room
-returns-then-has_room c = c.in2.ensures
+pub returns-in-Some : goal.returns-in-Some
+returns-in-Some c = c.from_be_bytes.ensures ∙ bytes_read 1 _ ∙ c.in-Some.ensures

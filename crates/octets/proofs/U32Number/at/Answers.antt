@@ -1,9 +1,7 @@
--- `u32_at`: where all bytes are there `in4` reads them, else one by one. Assumes nothing.
-use Rattle.std.proofs.Common.{sym, ◌∙◌, leb-true}
+-- `u32::at`: where all bytes are there, the number that std reads in them. Assumes nothing.
+use Rattle.std.proofs.Common.{◌∙◌}
+use Rattle.octets.specs.Std.{bytes_read}
 use Rattle.octets.proofs.U32Number.at.Goals as goal
 
-pub in4-requires : goal.in4-requires
-in4-requires c = leb-true _ _ (sym c.has_room.ensures ∙ c.if-has_room.true)
-
-pub returns-then-has_room : goal.returns-then-has_room
-returns-then-has_room c = c.in4.ensures
+pub returns-in-Some : goal.returns-in-Some
+returns-in-Some c = c.from_be_bytes.ensures ∙ bytes_read 3 _ ∙ c.in-Some.ensures
