@@ -20,6 +20,8 @@ use Rattle.rules.specs.declared.Kind.TheVariants.{S001, S002, S003, P001, P002, 
 use Rattle.rules.specs.Rules.{short, long}
 use Rattle.rules.specs.Meaning.{size_one}
 use Rattle.rules.specs.Table.{kind_of, suits, measure_of}
+use Rattle.std.specs.Prelude.{Option, Some, None, MatchOption}
+use Rattle.broken.specs.declared.Broken.{Broken}
 use Rattle.broken.specs.Broken.{broken_of}
 use Rattle.broken.specs.Meaning.{broken_none, broken_lowest, broken_within}
 use Rattle.frame_spec.specs.Frame.{body_length, body, read_of}
@@ -48,7 +50,7 @@ use Rattle.private.specs.PartsLaws.{span_number, span_told_lem, span_given}
 use Rattle.private.specs.Scrub.{scrub_answer}
 use Rattle.walk_spec.specs.Literal.{type_in}
 use Rattle.host_words.specs.Told.{told_by, Tells, seen}
-use Rattle.host_frames.specs.Frames.{view_numbers, read_told, search_told, broken_told, entries_told, entry_numbers, entry_told}
+use Rattle.host_frames.specs.Frames.{view_numbers, read_told, search_told, broken_numbers, broken_told, entries_told, entry_numbers, entry_told}
 use Rattle.host_frames.specs.Means.{body_numbers, HostRead, HostWrote, HostFound, HostScrubbed, HostBroken, HostOpened, HostStepped}
 use Rattle.host_frames.proofs.rk_read.Reads as read
 use Rattle.host_frames.proofs.rk_read.Kinds as read-kinds
@@ -247,6 +249,10 @@ rk_private_within κs a x s p z =
 
 -- ======== The field that breaks a rule
 
+field_shown : (f : Option Broken) (row : List ℕ) → row ≡ broken_numbers f → MatchOption f (row ≡ 0 ∷ 0 ∷ 0 ∷ 0 ∷ 0 ∷ []) (λ (g : Broken). row ≡ 1 ∷ g.place ∷ g.len ∷ g.index ∷ g.entry ∷ [])
+field_shown (Some f) row e = e
+field_shown None row e = e
+
 pub rk_broken_field_tells : (κs : Lfts 2) (a : Dens κs broken-kinds.ps) (x : (res_t broken-kinds.r κs).Denot) (s : AtExit (ended_of 2 broken-kinds.ps broken-kinds.r) κs) → broken.Post κs a x s
     → HostBroken (kind_of a.0) a.1.0.now x s.1.1.0.now
 unfolding broken_told told_by
@@ -256,7 +262,7 @@ rk_broken_field_tells κs a x s p =
     record {
       field = broken_of k b;
       given = p.answered;
-      told = λ (z : x ≡ 0). p.told ∙ rw (sym p.answered ∙ z);
+      told = λ (z : x ≡ 0). field_shown (broken_of k b) s.1.1.0.now (p.told ∙ rw (sym p.answered ∙ z));
       holds = λ (z : x ≡ 0). broken_none k b (fits k (length b) (sym p.answered ∙ z)).is;
       lowest_field = broken_lowest k b;
       within = λ (z : x ≡ 0). broken_within k b (sym p.answered ∙ z);

@@ -1,9 +1,13 @@
 -- What the host is told of frames, each from the definitions of the crates below.
-use Rattle.std.specs.Prelude.{ℕ, ◌≡◌, List, [], ◌∷◌, ◌++◌, eqb, length}
+use Rattle.std.specs.Prelude.{ℕ, ◌≡◌, List, [], ◌∷◌, ◌++◌, eqb, length, Result, Ok, Err, Option, Some, None}
 use Rattle.terms.specs.Paper.{Paper, answer, pick}
 use Rattle.rules.specs.Table.{kind_of, measure_of}
 use Rattle.rules.specs.declared.Kind.TheVariants.{M201}
 use Rattle.rules.specs.Fields.{named_in, tail_ok}
+use Rattle.terms.specs.declared.Refusal.{Refusal}
+use Rattle.terms.specs.Refusals.{number_of}
+use Rattle.tails.specs.declared.Content.{Content}
+use Rattle.tails.specs.declared.Content.TheVariants.{Letters, Number}
 use Rattle.tails.specs.declared.TailField.{TailField}
 use Rattle.tails.specs.Fields.{tail_fields, field_at}
 use Rattle.broken.specs.declared.Broken.{Broken}
@@ -16,7 +20,17 @@ use Rattle.entries.specs.declared.Entry.{Entry}
 use Rattle.entries.specs.declared.Entry.TheVariants.{Short, Long}
 use Rattle.entries.specs.Papers.{entry_paper}
 use Rattle.entries.specs.Reader.{open_of, step_of, place_after}
-use Rattle.host_words.specs.Told.{perhaps, retold}
+use Rattle.host_words.specs.Told.{perhaps, retold, Tells, tells_done, tells_why}
+
+-- a row, or why there is none, as a paper: its number, and beside 0 its values
+abbrev pub RowOf : Paper → Result (List ℕ) Refusal → Type 0
+RowOf p (Ok row) = answer 0 row ≡ p
+RowOf p (Err w) = number_of w ≡ p.number
+
+-- such an answer told: the row is written beside 0 alone
+abbrev pub AnsweredBy : Result (List ℕ) Refusal → List ℕ → ℕ → List ℕ → Type 0
+AnsweredBy (Ok row) was number now = (number ≡ 0) × (now ≡ row)
+AnsweredBy (Err w) was number now = (number ≡ number_of w) × (now ≡ was)
 
 -- channel, tick number, first and last resend number, resend status
 abbrev pub view_numbers : View → List ℕ
@@ -29,9 +43,14 @@ read_told s = retold (λ (vs : List ℕ). vs ++ view_numbers (view_of (kind_of (
 unfoldable pub search_told : List ℕ → ℕ → Paper
 search_told s from = retold perhaps (search_of s from)
 
+-- 1 for letters, 0 for a number
+abbrev pub letters : Content → ℕ
+letters Letters = 1
+letters Number = 0
+
 -- a field of an M201's extension; 6 where the body's length does not suit the layout that it names
 abbrev pub field_numbers : TailField → List ℕ
-field_numbers f = f.place ∷ f.len ∷ f.text ∷ f.hidden ∷ []
+field_numbers f = f.place ∷ f.len ∷ letters f.content ∷ pick f.is_private 1 0 ∷ []
 
 unfoldable pub tail_number : List ℕ → ℕ
 tail_number body = pick (eqb (measure_of M201 (length body)) 0) (pick (tail_ok body) 0 6) (measure_of M201 (length body))
@@ -40,8 +59,9 @@ unfoldable pub tail_told : List ℕ → ℕ → Paper
 tail_told body i = answer (tail_number body) (field_numbers (field_at i (tail_fields (named_in body) (length body))))
 
 -- the lowest field that breaks a rule: 1, place, length, number, entry; or zeros
-abbrev pub broken_numbers : Broken → List ℕ
-broken_numbers f = f.found ∷ f.place ∷ f.len ∷ f.index ∷ f.entry ∷ []
+abbrev pub broken_numbers : Option Broken → List ℕ
+broken_numbers (Some f) = 1 ∷ f.place ∷ f.len ∷ f.index ∷ f.entry ∷ []
+broken_numbers None = 0 ∷ 0 ∷ 0 ∷ 0 ∷ 0 ∷ []
 
 unfoldable pub broken_told : ℕ → List ℕ → Paper
 broken_told type body = answer (measure_of (kind_of type) (length body)) (broken_numbers (broken_of (kind_of type) body))
@@ -60,6 +80,10 @@ unfoldable pub entry_told : List ℕ → ℕ → Paper
 entry_told body place = retold (λ (vs : List ℕ). entry_numbers vs ++ (place_after body place ∷ [])) (step_of body place)
 
 -- PROOFS
+
+pub row_tells : (p : Paper) (r : Result (List ℕ) Refusal) (was now : List ℕ) (number : ℕ) → RowOf p r → AnsweredBy r was number now → Tells p was number now
+row_tells p (Ok row) was now number e a = rw (a.0, a.1) (tells_done p was row e)
+row_tells p (Err w) was now number e a = rw a.1 (tells_why p was w number a.0 e)
 
 pub read_told_lem : (s : List ℕ) (type time seq len : ℕ) (v : View) → answer 0 (type ∷ time ∷ seq ∷ len ∷ []) ≡ read_of s → v ≡ view_of (kind_of (msg_type s)) (body_read s)
     → answer 0 (type ∷ time ∷ seq ∷ len ∷ view_numbers v) ≡ read_told s

@@ -2,7 +2,7 @@
 -- its offset, an answer by document 01's condition for it. No definition of the promises stands
 -- here: proofs/Means.antt says of each function that what its promise allows is this. x is the
 -- answer, row or told what is told; a buffer that was lent as d is d' afterwards.
-use Rattle.std.specs.Prelude.{ℕ, ◌+◌, ◌≤◌, ◌<◌, ◌≡◌, ◌↔◌, List, [], ◌∷◌, length, take}
+use Rattle.std.specs.Prelude.{ℕ, ◌+◌, ◌≤◌, ◌<◌, ◌≡◌, ◌↔◌, List, [], ◌∷◌, length, take, Option, MatchOption}
 use Rattle.terms.specs.Letters.{spelled}
 use Rattle.octets.specs.Octets.{be}
 use Rattle.rules.specs.declared.Kind.{Kind}
@@ -93,9 +93,9 @@ pub record HostScrubbed (d : List ℕ) (x told : ℕ) (d' : List ℕ) : Type 0 w
 -- then none is told exactly where the field rules hold, else the lowest field that breaks one, and
 -- it lies within the body
 pub record HostBroken (k : Kind) (b : List ℕ) (x : ℕ) (row : List ℕ) : Type 0 where
-  pub field : Broken
+  pub field : Option Broken
   pub given : x ≡ measure_of k (length b)
-  pub told : x ≡ 0 → row ≡ field.found ∷ field.place ∷ field.len ∷ field.index ∷ field.entry ∷ []
+  pub told : x ≡ 0 → MatchOption field (row ≡ 0 ∷ 0 ∷ 0 ∷ 0 ∷ 0 ∷ []) (λ f. row ≡ 1 ∷ f.place ∷ f.len ∷ f.index ∷ f.entry ∷ [])
   pub holds : x ≡ 0 → (field ≡ none) ↔ FieldRules k b
   pub lowest_field : (field ≡ none → ⊥) → Lowest (fields_of k b) field
   pub within : x ≡ 0 → Within (length b) field

@@ -1,7 +1,7 @@
 // What C and Rust may call on frames. Each function returns a code, a number of document 01 or 0;
 // results go to an out-parameter: a fixed row of numbers, in C a struct of 64-bit numbers
 // (host/include/rietknoest.h). A refusal writes nothing there, nor into a buffer.
-#![tactic(auto)]
+#![tactic(auto, using(crate::specs::Frames::row_tells))]
 
 ghost use Rattle.std.specs.Prelude.{◌≡◌, [], ◌∷◌, ◌++◌, length, drop};
 ghost use Rattle.frame_spec.specs.Write.{message, write_of, left_of};
@@ -9,14 +9,46 @@ ghost use Rattle.private.specs.Scrub.{scrub_answer, scrubbed};
 ghost use Rattle.private.specs.Parts.{span_answer};
 ghost use Rattle.entries.specs.Papers.{entry_paper};
 ghost use Rattle.host_words.specs.Told.{Tells};
-ghost use Rattle.host_frames.specs.Frames.{read_told, search_told, tail_told, broken_told, entries_told, entry_numbers, entry_told};
+ghost use Rattle.host_frames.specs.Frames.{RowOf, AnsweredBy, read_told, search_told, tail_told, broken_told, entries_told, entry_numbers, entry_told, letters};
 
 use entries::Entry;
-use frame::{Found, Read};
 use octets::Number;
-use private::Told;
 use rules::Kind;
-use terms::SessionNumber;
+use tails::Content;
+use terms::{Refusal, SessionNumber};
+
+// What a call returns: the number of its answer; the row is told beside 0 alone.
+fn tell<const N: usize>(row: Result<[u64; N], Refusal>, told: &mut [u64; N]) -> u32
+    ensures { AnsweredBy row.entry told.old result told.new }
+{
+    match row {
+        Err(why) => u32::from(why),
+        Ok(numbers) => {
+            *told = numbers;
+            0
+        }
+    }
+}
+
+fn read_row(bytes: &[u8], place: usize) -> Result<[u64; 9], Refusal>
+    ensures { RowOf (read_told (drop place bytes.now)) result }
+{
+    let header = frame::read_at(bytes, place)?;
+    let start = place + 24;
+    let end = start + header.body_len;
+    let view = frame_view::view_of(Kind::from(header.msg_type), &bytes[start..end]);
+    Ok([
+        header.msg_type as u64,
+        header.sending_time,
+        header.seq.value(),
+        header.body_len as u64,
+        view.channel.value() as u64,
+        view.tick.value(),
+        view.first.value(),
+        view.last.value(),
+        view.status as u64,
+    ])
+}
 
 // Reads the frame at a place. Results: MsgType, SendingTime, MsgSeqNum, BodyLength, and what the
 // view has of the body: channel, tick number, a resend's first and last number, and its status; 0
@@ -24,35 +56,7 @@ use terms::SessionNumber;
 pub fn rk_read(bytes: &[u8], place: usize, told: &mut [u64; 9]) -> u32
     ensures { Tells (read_told (drop place bytes.now)) told.old result told.new }
 {
-    match frame::read_at(bytes, place) {
-        Read::Refused(why) => u32::from(why),
-        Read::Frame {
-            msg_type,
-            sending_time,
-            seq,
-            body_len,
-        } => {
-            let start = place + 24;
-            let end = start + body_len;
-            let view = frame_view::view_of(rules::kind_of(msg_type), &bytes[start..end]);
-            let channel = view.channel;
-            let tick = view.tick;
-            let first = view.first;
-            let last = view.last;
-            *told = [
-                msg_type as u64,
-                sending_time,
-                seq.value(),
-                body_len as u64,
-                channel.value() as u64,
-                tick.value(),
-                first.value(),
-                last.value(),
-                view.status as u64,
-            ];
-            0
-        }
-    }
+    tell(read_row(bytes, place), told)
 }
 
 // Writes a frame at the front of out. Result: how many bytes.
@@ -71,22 +75,21 @@ pub fn rk_write(
     host_words::told_bytes(written, told)
 }
 
+fn search_row(bytes: &[u8], from: usize) -> Result<[u64; 2], Refusal>
+    ensures { RowOf (search_told bytes.now from) result }
+{
+    match frame::search(bytes, from)? {
+        Some(place) => Ok([1, place as u64]),
+        None => Ok([0, 0]),
+    }
+}
+
 // Finds the lowest place from `from` on at which a frame reads. Results: 1 and the place, or 0 and
 // 0 where there is none.
 pub fn rk_search(bytes: &[u8], from: usize, told: &mut [u64; 2]) -> u32
     ensures { Tells (search_told bytes.now from) told.old result told.new }
 {
-    match frame::search(bytes, from) {
-        Found::Beyond => 9,
-        Found::Nothing => {
-            *told = [0, 0];
-            0
-        }
-        Found::At(place) => {
-            *told = [1, place as u64];
-            0
-        }
-    }
+    tell(search_row(bytes, from), told)
 }
 
 // Scrubs the frame at the front of a buffer where it stands. Result: how many bytes it has.
@@ -98,19 +101,46 @@ pub fn rk_scrub(frame: &mut [u8], told: &mut u64) -> u32
     host_words::told_bytes(scrubbed, told)
 }
 
+fn private_row(msg_type: u32, body: &[u8], i: usize) -> Result<[u64; 3], Refusal>
+    ensures { RowOf (span_answer msg_type body.now i) result }
+{
+    let span = private::private_span(msg_type, body, i)?;
+    Ok([span.place as u64, span.len as u64, span.fill as u64])
+}
+
 // Private span number i of a body of that type, counted from 0. Results: where it starts in the
 // body, how many bytes it has, and the byte that replaces each; from the last on, an empty one. Or
 // 2, 3 or 4 where no frame of that type has a body of this length.
 pub fn rk_private(msg_type: u32, body: &[u8], i: usize, told: &mut [u64; 3]) -> u32
     ensures { Tells (span_answer msg_type body.now i) told.old result told.new }
 {
-    match private::private_span(msg_type, body, i) {
-        Told::Refused(why) => u32::from(why),
-        Told::Part(s) => {
-            *told = [s.place as u64, s.len as u64, s.fill as u64];
-            0
-        }
+    tell(private_row(msg_type, body, i), told)
+}
+
+fn letters(content: Content) -> u64
+    ensures { result ≡ letters content }
+{
+    match content {
+        Content::Letters => 1,
+        Content::Number => 0,
     }
+}
+
+fn tail_row(body: &[u8], i: usize) -> Result<[u64; 4], Refusal>
+    ensures { RowOf (tail_told body.now i) result }
+{
+    rules::measure(Kind::M201, body.len())?;
+    let layout = rules::layout_of(octets::letters_at(body, 11), u8::at(body, 28));
+    if !rules::suits_tail(layout, body.len()) {
+        return Err(Refusal::Field);
+    }
+    let field = tails::tail_field(layout, body.len(), i);
+    Ok([
+        field.place as u64,
+        field.len as u64,
+        letters(field.content),
+        field.is_private as u64,
+    ])
 }
 
 // Field number i of the extension of an M201 body, counted from 0; or 3, 4 or 6 where no M201 has
@@ -119,17 +149,23 @@ pub fn rk_private(msg_type: u32, body: &[u8], i: usize, told: &mut [u64; 3]) -> 
 pub fn rk_tail_field(body: &[u8], i: usize, told: &mut [u64; 4]) -> u32
     ensures { Tells (tail_told body.now i) told.old result told.new }
 {
-    match rules::measure(Kind::M201, body.len()) {
-        Err(why) => u32::from(why),
-        Ok(()) => {
-            let layout = rules::layout_of(octets::letters_at(body, 11), u8::at(body, 28));
-            if !rules::suits_tail(layout, body.len()) {
-                return 6;
-            }
-            let f = tails::tail_field(layout, body.len(), i);
-            *told = [f.place as u64, f.len as u64, f.text, f.hidden];
-            0
-        }
+    tell(tail_row(body, i), told)
+}
+
+fn broken_row(msg_type: u32, body: &[u8]) -> Result<[u64; 5], Refusal>
+    ensures { RowOf (broken_told msg_type body.now) result }
+{
+    let kind = Kind::from(msg_type);
+    rules::measure(kind, body.len())?;
+    match broken::broken_field(kind, body) {
+        Some(field) => Ok([
+            1,
+            field.place as u64,
+            field.len as u64,
+            field.index,
+            field.entry as u64,
+        ]),
+        None => Ok([0; 5]),
     }
 }
 
@@ -141,21 +177,7 @@ pub fn rk_tail_field(body: &[u8], i: usize, told: &mut [u64; 4]) -> u32
 pub fn rk_broken_field(msg_type: u32, body: &[u8], told: &mut [u64; 5]) -> u32
     ensures { Tells (broken_told msg_type body.now) told.old result told.new }
 {
-    let kind = rules::kind_of(msg_type);
-    match rules::measure(kind, body.len()) {
-        Err(why) => u32::from(why),
-        Ok(()) => {
-            let f = broken::broken_field(kind, body);
-            *told = [
-                f.found,
-                f.place as u64,
-                f.len as u64,
-                f.index,
-                f.entry as u64,
-            ];
-            0
-        }
-    }
+    tell(broken_row(msg_type, body), told)
 }
 
 // Whether an M102 body may be walked. Result: the place of its first entry.
@@ -186,18 +208,17 @@ fn entry_told(entry: Entry, behind: u64) -> [u64; 6]
     }
 }
 
+fn entry_row(body: &[u8], place: usize) -> Result<[u64; 6], Refusal>
+    ensures { RowOf (entry_told body.now place) result }
+{
+    let found = entries::step_from(body, place)?;
+    Ok(entry_told(found.entry, found.behind as u64))
+}
+
 // The entry of a body at a place. Results: 1 for an entry of MD001, which has neither size nor
 // position, else 0; type, price, size, position, and the place after it.
 pub fn rk_entry(body: &[u8], place: usize, told: &mut [u64; 6]) -> u32
     ensures { Tells (entry_told body.now place) told.old result told.new }
 {
-    let s = entries::step_from(body, place);
-    let answer = s.answer;
-    match answer {
-        entries::Answer::Refused(why) => u32::from(why),
-        entries::Answer::Done(entry) => {
-            *told = entry_told(entry, s.place as u64);
-            0
-        }
-    }
+    tell(entry_row(body, place), told)
 }

@@ -4,7 +4,6 @@ use mathlib.Core.List.{[], ◌∷◌, ◌++◌}
 use Rattle.entries.specs.Papers.{entry_paper}
 use Rattle.entries.specs.declared.Entry.{Entry}
 use Rattle.host_frames.specs.Frames.{entry_numbers}
-use borrow.Author.Rules.{rules}
 use Rattle.host_frames.proofs.entry_told.Goals as goal
 
 pub returns-in-Short : goal.returns-in-Short

@@ -11,12 +11,12 @@ use Rattle.tick_map.specs.Ring.{rotated}
 use Rattle.ledger_spec.specs.State.{range}
 use Rattle.ledger.specs.State.{book_of, ledger_of}
 use Rattle.ledger_spec.specs.Calls.{waiting, asked}
-use Rattle.ledger.proofs.Ledger.granted.Goals as goal
+use Rattle.ledger.proofs.Sound.granted.Goals as goal
 
 pub returns : goal.returns
 unfolding asked book_of
 returns c =
-    let l = c.args.self in
+    let l = c.args.self.ledger in
     let clear-is = c.first_from-clear.ensures ∙ ap (λ (x : ℕ). count_trailing_zeros 256 (rotated (x + 1) (bits_in l.map))) c.value-floor.ensures in
     let Known-is = ap₂ (λ (x y : ℕ). x - y) c.value.ensures c.value-floor.ensures in
     let count_is = c.min-count.ensures ∙ ap (λ (x : ℕ). min x 200) (c.min.ensures ∙ ap₂ min Known-is clear-is) in

@@ -17,47 +17,32 @@ use Rattle.ledger_spec.specs.Calls.{leaps}
 use Rattle.ledger_spec.proofs.Rules.{rules_facts}
 use Rattle.ledger.specs.State.{book_of, laid_from}
 use Rattle.ledger.proofs.Seam.{sound_low, book_known, laid_kept, leaps_of, replied_of, given_lt, given_of, passed_lt, passed_of}
-use Rattle.ledger.proofs.Ledger.given_up.Goals as goal
-use Rattle.ledger.proofs.Ledger.given_up.Goals.{After-run_from, Start}
+use Rattle.ledger.proofs.Sound.given_up.Goals as goal
+use Rattle.ledger.proofs.Sound.given_up.Goals.{After-run_from, Start}
 
-words : (c : goal.Start) → Words c.args.self.map.words
+words : (c : goal.Start) → Words c.args.self.ledger.map.words
 words c = record { four = search rules; low = λ i. search rules }
 
--- floor + 1 and all that is added to it stay far below 64 bits
-low : (c : goal.Start) → c.args.self.floor.0 ≤ 999999999999999999
-low c = let h = sound_low c.args.self c.requires.0 in omega (arith, h.0, h.1)
-
 run_small : (c : goal.After-run_from) → c.run_from.result ≤ 256
-run_small c = omega (arith, c.run_from.ensures, run_le 256 (rotated (c.value-floor.result + 1 + c.args.w) (bits_in c.args.self.map)))
+run_small c = omega (arith, c.run_from.ensures, run_le 256 (rotated (c.value-floor.result + 1 + c.args.w) (bits_in c.args.self.ledger.map)))
 
-pub overflow_add-floor : goal.overflow_add-floor
-overflow_add-floor c = omega (arith, c.value-floor.ensures, low (goal.at.overflow_add-floor c).Start)
-
-pub overflow_add-floor-2 : goal.overflow_add-floor-2
-overflow_add-floor-2 c = omega (arith, c.value-floor.ensures, low (goal.at.overflow_add-floor-2 c).Start, c.requires.1)
-
+-- floor + 1 and all that is added to it stay far below 64 bits
 pub overflow_add-count : goal.overflow_add-count
-overflow_add-count c = omega (arith, run_small (goal.at.overflow_add-count c).After-run_from, c.requires.1)
+overflow_add-count c = omega (arith, run_small (goal.at.overflow_add-count c).After-run_from, c.requires.0)
 
 pub overflow_add-floor-3 : goal.overflow_add-floor-3
-overflow_add-floor-3 c = omega (arith, run_small (goal.at.overflow_add-floor-3 c).After-run_from, c.requires.1, c.value-floor.ensures, low (goal.at.overflow_add-floor-3 c).Start)
-
-pub overflow_add-floor-4 : goal.overflow_add-floor-4
-overflow_add-floor-4 c = omega (arith, c.value-floor.ensures, low (goal.at.overflow_add-floor-4 c).Start)
-
-pub overflow_add-floor-5 : goal.overflow_add-floor-5
-overflow_add-floor-5 c = omega (arith, c.value-floor.ensures, low (goal.at.overflow_add-floor-5 c).Start)
+overflow_add-floor-3 c = let h = sound_low c.args.self.ledger c.args.self.rules in omega (arith, run_small (goal.at.overflow_add-floor-3 c).After-run_from, c.requires.0, c.value-floor.ensures, h.0, h.1)
 
 pub returns : goal.returns
 returns c =
     let r = c in
     let v = r in
     let st = v in
-    let l = st.args.self in
+    let l = st.args.self.ledger in
     let w = st.args.w in
-    let rules = rules_facts (book_of l) st.requires.0 in
-    let known = book_known l w st.requires.2 in
-    let short = st.requires.1 in
+    let rules = rules_facts (book_of l) st.args.self.rules in
+    let known = book_known l w st.requires.1 in
+    let short = st.requires.0 in
     let e : v.value-floor.result ≡ l.floor.0 = v.value-floor.ensures in
     let k : w + r.run_from.result ≡ leaps (book_of l) w =
     ap (λ (x : ℕ). w + x) (r.run_from.ensures ∙ ap (λ (x : ℕ). run 256 (rotated (x + 1 + w) (bits_in l.map))) e) ∙ leaps_of l (words (goal.at.returns c).Start) rules w known short in
