@@ -1,7 +1,7 @@
 -- What a call on STEP frames comes to, from the promises that the checker makes of the `ensures`:
 -- the number that it answers, and with it the condition of that number. Assumes nothing.
 use Prim.Native.Nat.{ℕ}
-use mathlib.Core.Path.{◌≡◌, refl, sym, ◌∙◌}
+use mathlib.Core.Path.{◌≡◌, sym, ◌∙◌}
 use mathlib.Core.List.{List}
 use mathlib.Core.Logic.{⊎_elim}
 use borrow.Author.Tests.{ne_eqb}
@@ -9,7 +9,6 @@ use contract.Lifetimes.{Lfts}
 use borrow.Fn.Kinds.{Dens, ended_of, res_t}
 use denote.Triple.Clauses.{AtExit}
 use lib.ListN.{length, drop}
-use Rattle.terms.specs.Paper.{Paper}
 use Rattle.terms.specs.Cases.{same}
 use Rattle.step_spec.specs.Frame.{step_read_of}
 use Rattle.step_spec.specs.Given.{Answer, numeral, Reads, Writes}

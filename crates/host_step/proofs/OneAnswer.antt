@@ -1,7 +1,7 @@
 -- For each function: two answers that its promise allows are equal; so are two later contents of
 -- all that it is lent, and a refusal leaves them as they were. What a function is lent is put in
 -- one list, told row first, then buffer. Assumes nothing.
-use mathlib.Core.Path.{◌≡◌, sym, ap₂, ◌∙◌}
+use mathlib.Core.Path.{sym, ap₂, ◌∙◌}
 use mathlib.Core.List.{[], ◌∷◌}
 use Rattle.terms.specs.OneAnswer.{OneAnswer}
 use Rattle.terms.specs.OneBuffer.{OneBuffer, RefusedKeeps}

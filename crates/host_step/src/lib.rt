@@ -8,27 +8,10 @@ ghost use Rattle.host_words.specs.Told.{Tells};
 ghost use Rattle.step_spec.specs.Fields.{field_at};
 ghost use Rattle.step_spec.specs.Frame.{step_read_of};
 ghost use Rattle.step_spec.specs.Written.{step_write_of, step_left_of};
-ghost use Rattle.step_frame.specs.Papers.{step_number, step_written_paper};
+ghost use Rattle.step_frame.specs.Papers.{step_written_paper};
 ghost use Rattle.step_scrub.specs.Scrubbed.{step_scrub_of, step_scrub_left};
 
-use step_frame::{Field, Read, StepRefusal, StepWritten};
-
-// The number of a refusal.
-fn number(why: StepRefusal) -> u32
-    ensures { result ≡ step_number why }
-{
-    match why {
-        StepRefusal::More => 1,
-        StepRefusal::Long => 3,
-        StepRefusal::Sum => 5,
-        StepRefusal::Time => 7,
-        StepRefusal::Room => 8,
-        StepRefusal::Begin => 23,
-        StepRefusal::Length => 24,
-        StepRefusal::MsgType => 25,
-        StepRefusal::Fields => 26,
-    }
-}
+use step_frame::StepRefusal;
 
 // Reads the frame at a place. Results: its type, the place of the fields after the frame's start,
 // their length, the frame's length.
@@ -36,16 +19,16 @@ pub fn rk_step_read(bytes: &[u8], place: usize, told: &mut [u64; 4]) -> u32
     ensures { Tells (step_read_of (drop place bytes.now)) told.old result told.new }
 {
     match step_frame::read_at(bytes, place) {
-        Read::Refused(why) => number(why),
-        Read::Frame {
-            kind,
-            place,
-            len,
-            total,
-        } => {
-            *told = [kind as u64, place as u64, len as u64, total as u64];
+        Ok(frame) => {
+            *told = [
+                frame.kind as u64,
+                frame.place as u64,
+                frame.len as u64,
+                frame.total as u64,
+            ];
             0
         }
+        Err(why) => u32::from(why),
     }
 }
 
@@ -55,29 +38,29 @@ pub fn rk_step_field(fields: &[u8], place: usize, told: &mut [u64; 4]) -> u32
     ensures { Tells (field_at place fields.now) told.old result told.new }
 {
     match step_frame::field_at(fields, place) {
-        Field::NoField => 26,
-        Field::At {
-            tag,
-            value,
-            len,
-            next,
-        } => {
-            *told = [tag, value as u64, len as u64, next as u64];
+        Some(field) => {
+            *told = [
+                field.tag,
+                field.value as u64,
+                field.len as u64,
+                field.next as u64,
+            ];
             0
         }
+        None => u32::from(StepRefusal::Fields),
     }
 }
 
 // What a call that writes returns: its number; the result is how many bytes.
-fn told_bytes(w: StepWritten, told: &mut u64) -> u32
-    ensures { Tells (step_written_paper w) (told.old ∷ []) result (told.new ∷ []) }
+fn told_bytes(written: Result<usize, StepRefusal>, told: &mut u64) -> u32
+    ensures { Tells (step_written_paper written) (told.old ∷ []) result (told.new ∷ []) }
 {
-    match w {
-        StepWritten::Refused(why) => number(why),
-        StepWritten::Bytes(n) => {
+    match written {
+        Ok(n) => {
             *told = n as u64;
             0
         }
+        Err(why) => u32::from(why),
     }
 }
 

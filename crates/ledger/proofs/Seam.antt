@@ -740,9 +740,8 @@ module _ (l : Ledger) where
     announce_refused_call r e = refused_call (Announce channel n) r e (announce_not_12 (book_of l) channel n)
 
   module _ (channel : ℕ) where
-    pub request_sound : 0 ≡ number_to (book_of l) (Request channel) → (l.floor.0 ≤ l.top.0) × (l.top.0 ≤ largest)
-    unfolding book_of
-    request_sound e = let r = (checked_facts (book_of l) (Request channel) (sym e) (λ q. omega arith) (λ q. omega arith)).rules in (r.low, r.top_small)
+    pub request_sound : 0 ≡ number_to (book_of l) (Request channel) → sound_of (book_of l) ≡ true
+    request_sound e = rules_test (book_of l) (checked_facts (book_of l) (Request channel) (sym e) (λ q. omega arith) (λ q. omega arith)).rules
 
     pub request_done_call : 0 ≡ number_to (book_of l) (Request channel)
         → (answer 0 ((l.floor.0 + 1) ∷ (l.floor.0 + asked (book_of l)) ∷ []) ≡ answer_to (book_of l) (Request channel))
@@ -774,9 +773,8 @@ module _ (l : Ledger) where
     reply_refused_call r e = refused_call (Reply channel first status) r e (reply_not_12 (book_of l) channel first status)
 
   module _ (channel a z : ℕ) where
-    pub between_bounds : 0 ≡ number_to (book_of l) (Ask (Between channel a z)) → (l.floor.0 ≤ l.top.0) × (l.top.0 ≤ largest) × (a ≤ largest)
-    unfolding book_of
-    between_bounds e = let g = (given_0 (book_of l) (Ask (Between channel a z))).0 (sym e) in (g.rules.low, g.rules.top_small, g.fine.from_digits)
+    pub between_bounds : 0 ≡ number_to (book_of l) (Ask (Between channel a z)) → (sound_of (book_of l) ≡ true) × (a ≤ largest)
+    between_bounds e = let g = (given_0 (book_of l) (Ask (Between channel a z))).0 (sym e) in (rules_test (book_of l) g.rules, g.fine.from_digits)
 
     pub between_done_call : Words l.map.words → 0 ≡ number_to (book_of l) (Ask (Between channel a z))
         → (answer 0 (between_count (book_of l) a z ∷ []) ≡ answer_to (book_of l) (Ask (Between channel a z))) × (l ≡ next_in l (Ask (Between channel a z)))

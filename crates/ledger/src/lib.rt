@@ -145,6 +145,193 @@ fn reach_of(pending: Option<Range>, floor: u64) -> u64
     }
 }
 
+// A ledger that keeps the state rules.
+#[derive(Clone, Copy)]
+struct Sound {
+    ledger: Ledger,
+    ghost rules: { sound_of (book_of ledger) ≡ true },
+}
+
+impl Sound {
+    // A tick whose place is marked: the floor passes the run of held places above it, which are
+    // then free for the numbers 256 above.
+    fn passed_run(self, n: u64) -> Called<Passed>
+        requires { (self.ledger.floor.0 < n) × (n ≤ self.ledger.floor.0 + 256) × (n ≤ largest) }
+        ensures { (tick_paper result.answer ≡ answer 0 ((self.ledger.floor.0 + 1) ∷ passes (book_of self.ledger) n ∷ []))
+            × (result.next ≡ ledger_of (taken (book_of self.ledger) n)) }
+    {
+        let floor = self.ledger.floor.value();
+        let marked = self.ledger.map.with(n % 256);
+        let count = marked.run_from(floor + 1);
+        Called {
+            next: Ledger {
+                floor: TickNumber::new(floor + count),
+                top: TickNumber::new(self.ledger.top.value().max(n)),
+                map: marked.cleared(floor + 1, count),
+                ..self.ledger
+            },
+            answer: Ok(Passed {
+                first: TickNumber::new(floor + 1),
+                count,
+            }),
+        }
+    }
+
+    // A tick above floor + 1: the floor stays below that number, which is not held.
+    fn held_back(self, n: u64) -> Called<Passed>
+        requires { (self.ledger.floor.0 + 1 < n) × (n ≤ self.ledger.floor.0 + 256) × (n ≤ largest) }
+        ensures { (tick_paper result.answer ≡ answer 0 ((self.ledger.floor.0 + 1) ∷ passes (book_of self.ledger) n ∷ []))
+            × (result.next ≡ ledger_of (taken (book_of self.ledger) n)) }
+    {
+        let first = TickNumber::new(self.ledger.floor.value() + 1);
+        Called {
+            next: Ledger {
+                top: TickNumber::new(self.ledger.top.value().max(n)),
+                map: self.ledger.map.with(n % 256),
+                ..self.ledger
+            },
+            answer: Ok(Passed { first, count: 0 }),
+        }
+    }
+
+    // The tick of floor + 1, where the number after it is not held: one is passed, and the map
+    // stays.
+    fn passed_one(self, n: u64) -> Called<Passed>
+        requires { (n ≡ self.ledger.floor.0 + 1) × (n ≤ largest) × (is_set (bits_in self.ledger.map) ((n + 1) % 256) ≡ false) }
+        ensures { (tick_paper result.answer ≡ answer 0 ((self.ledger.floor.0 + 1) ∷ passes (book_of self.ledger) n ∷ []))
+            × (result.next ≡ ledger_of (taken (book_of self.ledger) n)) }
+    {
+        let first = TickNumber::new(n);
+        Called {
+            next: Ledger {
+                floor: first,
+                top: TickNumber::new(self.ledger.top.value().max(n)),
+                ..self.ledger
+            },
+            answer: Ok(Passed { first, count: 1 }),
+        }
+    }
+
+    // A tick that is taken. In order, and with nothing held behind it, no place need be looked for.
+    fn taken(self, number: TickNumber) -> Called<Passed>
+        requires { (self.ledger.floor.0 < number.0) × (number.0 ≤ self.ledger.floor.0 + 256) × (number.0 ≤ largest) }
+        ensures { (tick_paper result.answer ≡ answer 0 ((self.ledger.floor.0 + 1) ∷ passes (book_of self.ledger) number.0 ∷ []))
+            × (result.next ≡ ledger_of (taken (book_of self.ledger) number.0)) }
+    {
+        let n = number.value();
+        if self.ledger.floor.value() + 1 < n {
+            return self.held_back(n);
+        }
+        if self.ledger.map.holds((n + 1) % 256) {
+            return self.passed_run(n);
+        }
+        self.passed_one(n)
+    }
+
+    // The range from floor + 1 on: it ends before the first held number, at the top, or after
+    // 200 numbers.
+    #[tactic(auto, using(crate::proofs::Seam::sound_low))]
+    fn granted(self) -> Called<Range>
+        ensures { (request_paper result.answer ≡ answer 0 ((self.ledger.floor.0 + 1) ∷ (self.ledger.floor.0 + asked (book_of self.ledger)) ∷ []))
+            × (result.next ≡ ledger_of (waiting (book_of self.ledger) (range (self.ledger.floor.0 + 1) (self.ledger.floor.0 + asked (book_of self.ledger))))) }
+    {
+        let floor = self.ledger.floor.value();
+        let known = self.ledger.top.value() - floor;
+        let clear = self.ledger.map.first_from(floor + 1);
+        let count = known.min(clear).min(200);
+        let range = Range {
+            first: TickNumber::new(floor + 1),
+            last: TickNumber::new(floor + count),
+        };
+        Called {
+            next: self.ledger.waiting(Some(range)),
+            answer: Ok(range),
+        }
+    }
+
+    // How many numbers from `from` to `to` lie above the floor and not above the top and are not
+    // held. The map has places for floor + 1 to floor + 256 alone, and from the place of `low` on
+    // they end before the count comes round.
+    #[tactic(auto, using(crate::proofs::Seam::sound_low))]
+    fn between(self, from: u64, to: u64) -> u64
+        requires { from ≤ largest }
+        ensures { result ≡ between_count (book_of self.ledger) from to }
+    {
+        let floor = self.ledger.floor.value();
+        let low = from.max(floor + 1);
+        let high = to.min(self.ledger.top.value());
+        if high < low {
+            return 0;
+        }
+        let width = high + 1 - low;
+        let off = low - floor - 1;
+        if 256 <= off {
+            return width;
+        }
+        width - self.ledger.map.held_from(low, width.min(256 - off))
+    }
+
+    // The pending request is cleared, and the floor passes the w numbers above it and the run of
+    // held ones after them: floor + 1 is not held, so that run ends before it comes round. Those of
+    // the w not held are given up; the held ones passed are named apart.
+    #[tactic(auto, using(crate::proofs::Seam::sound_low))]
+    fn given_up(self, w: u64) -> Called<Settled>
+        requires { (w ≤ 256) × (w ≤ self.ledger.top.0 - self.ledger.floor.0) }
+        ensures { (reply_paper result.answer ≡ answer 0 ((self.ledger.floor.0 + 1) ∷ gave_up (book_of self.ledger) w ∷ handed (book_of self.ledger) w ∷ []))
+            × (result.next ≡ ledger_of (replied (book_of self.ledger) w))
+            × (result.answer ≡ laid_reply result.answer) }
+    {
+        let map = self.ledger.map;
+        let floor = self.ledger.floor.value();
+        let count = w + map.run_from(floor + 1 + w);
+        Called {
+            next: Ledger {
+                floor: TickNumber::new(floor + count),
+                map: map.cleared(floor + 1, count),
+                pending: None,
+                ..self.ledger
+            },
+            answer: Ok(Settled {
+                first: TickNumber::new(floor + 1),
+                given_up: map.lacking(floor + 1, w),
+                passed: map.only(floor + 1, count),
+            }),
+        }
+    }
+
+    // The pending request is cleared, and the range reaches no number above the floor: floor + 1 is
+    // not held, so that nothing is passed.
+    #[tactic(auto, using(crate::proofs::Seam::sound_low, crate::proofs::Seam::empty_set, ledger_spec::proofs::Rules::rules_facts, ledger_spec::proofs::GivenUp::replied_0, ledger_spec::proofs::GivenUp::values_0))]
+    fn settled(self) -> Called<Settled>
+        ensures { (reply_paper result.answer ≡ answer 0 ((self.ledger.floor.0 + 1) ∷ gave_up (book_of self.ledger) 0 ∷ handed (book_of self.ledger) 0 ∷ []))
+            × (result.next ≡ ledger_of (replied (book_of self.ledger) 0))
+            × (result.answer ≡ laid_reply result.answer) }
+    {
+        Called {
+            next: self.ledger.waiting(None),
+            answer: Ok(Settled {
+                first: TickNumber::new(self.ledger.floor.value() + 1),
+                given_up: Map::new(),
+                passed: Map::new(),
+            }),
+        }
+    }
+
+    // The pending request is cleared, and the floor goes on over the w numbers above it, perhaps
+    // none.
+    fn replied(self, w: u64) -> Called<Settled>
+        requires { (w ≤ 256) × (w ≤ self.ledger.top.0 - self.ledger.floor.0) }
+        ensures { (reply_paper result.answer ≡ answer 0 ((self.ledger.floor.0 + 1) ∷ gave_up (book_of self.ledger) w ∷ handed (book_of self.ledger) w ∷ []))
+            × (result.next ≡ ledger_of (replied (book_of self.ledger) w))
+            × (result.answer ≡ laid_reply result.answer) }
+    {
+        if w == 0 {
+            return self.settled();
+        }
+        self.given_up(w)
+    }
+}
+
 impl Ledger {
     // Whether the state rules hold.
     #[tactic(auto, unfolding(ledger_spec::specs::State::sound_of, crate::specs::State::book_of))]
@@ -223,81 +410,6 @@ impl Ledger {
         self
     }
 
-    // A tick whose place is marked: the floor passes the run of held places above it, which are
-    // then free for the numbers 256 above.
-    fn passed_run(self, n: u64) -> Called<Passed>
-        requires { (self.floor.0 < n) × (n ≤ self.floor.0 + 256) × (n ≤ largest) }
-        ensures { (tick_paper result.answer ≡ answer 0 ((self.floor.0 + 1) ∷ passes (book_of self) n ∷ []))
-            × (result.next ≡ ledger_of (taken (book_of self) n)) }
-    {
-        let floor = self.floor.value();
-        let marked = self.map.with(n % 256);
-        let count = marked.run_from(floor + 1);
-        Called {
-            next: Ledger {
-                floor: TickNumber::new(floor + count),
-                top: TickNumber::new(self.top.value().max(n)),
-                map: marked.cleared(floor + 1, count),
-                ..self
-            },
-            answer: Ok(Passed {
-                first: TickNumber::new(floor + 1),
-                count,
-            }),
-        }
-    }
-
-    // A tick above floor + 1: the floor stays below that number, which is not held.
-    fn held_back(self, n: u64) -> Called<Passed>
-        requires { (self.floor.0 + 1 < n) × (n ≤ self.floor.0 + 256) × (n ≤ largest) × (sound_of (book_of self) ≡ true) }
-        ensures { (tick_paper result.answer ≡ answer 0 ((self.floor.0 + 1) ∷ passes (book_of self) n ∷ []))
-            × (result.next ≡ ledger_of (taken (book_of self) n)) }
-    {
-        let first = TickNumber::new(self.floor.value() + 1);
-        Called {
-            next: Ledger {
-                top: TickNumber::new(self.top.value().max(n)),
-                map: self.map.with(n % 256),
-                ..self
-            },
-            answer: Ok(Passed { first, count: 0 }),
-        }
-    }
-
-    // The tick of floor + 1, where the number after it is not held: one is passed, and the map
-    // stays.
-    fn passed_one(self, n: u64) -> Called<Passed>
-        requires { (n ≡ self.floor.0 + 1) × (n ≤ largest) × (sound_of (book_of self) ≡ true) × (is_set (bits_in self.map) ((n + 1) % 256) ≡ false) }
-        ensures { (tick_paper result.answer ≡ answer 0 ((self.floor.0 + 1) ∷ passes (book_of self) n ∷ []))
-            × (result.next ≡ ledger_of (taken (book_of self) n)) }
-    {
-        let first = TickNumber::new(n);
-        Called {
-            next: Ledger {
-                floor: first,
-                top: TickNumber::new(self.top.value().max(n)),
-                ..self
-            },
-            answer: Ok(Passed { first, count: 1 }),
-        }
-    }
-
-    // A tick that is taken. In order, and with nothing held behind it, no place need be looked for.
-    fn taken(self, number: TickNumber) -> Called<Passed>
-        requires { (self.floor.0 < number.0) × (number.0 ≤ self.floor.0 + 256) × (number.0 ≤ largest) × (sound_of (book_of self) ≡ true) }
-        ensures { (tick_paper result.answer ≡ answer 0 ((self.floor.0 + 1) ∷ passes (book_of self) number.0 ∷ []))
-            × (result.next ≡ ledger_of (taken (book_of self) number.0)) }
-    {
-        let n = number.value();
-        if self.floor.value() + 1 < n {
-            return self.held_back(n);
-        }
-        if self.map.holds((n + 1) % 256) {
-            return self.passed_run(n);
-        }
-        self.passed_one(n)
-    }
-
     // 13, 18, 10, 11, 12 of a tick. Beyond floor + 256 its place is another number's, and it is not
     // held.
     #[tactic(auto, using(crate::proofs::Seam::checked_bad), unfolding(ledger_spec::specs::Calls::number_to))]
@@ -330,7 +442,7 @@ impl Ledger {
             × (result.next ≡ next_in self (Tick channel.0 number.0)) }
     {
         match self.tick_verdict(channel, number) {
-            Ok(()) => self.taken(number),
+            Ok(()) => Sound { ledger: self }.taken(number),
             Err(why) => Called {
                 next: if why == Refusal::Far {
                     self.raised(number)
@@ -386,34 +498,13 @@ impl Ledger {
         Ok(())
     }
 
-    // The range from floor + 1 on: it ends before the first held number, at the top, or after
-    // 200 numbers.
-    fn granted(self) -> Called<Range>
-        requires { (self.floor.0 ≤ self.top.0) × (self.top.0 ≤ largest) }
-        ensures { (request_paper result.answer ≡ answer 0 ((self.floor.0 + 1) ∷ (self.floor.0 + asked (book_of self)) ∷ []))
-            × (result.next ≡ ledger_of (waiting (book_of self) (range (self.floor.0 + 1) (self.floor.0 + asked (book_of self))))) }
-    {
-        let floor = self.floor.value();
-        let known = self.top.value() - floor;
-        let clear = self.map.first_from(floor + 1);
-        let count = known.min(clear).min(200);
-        let range = Range {
-            first: TickNumber::new(floor + 1),
-            last: TickNumber::new(floor + count),
-        };
-        Called {
-            next: self.waiting(Some(range)),
-            answer: Ok(range),
-        }
-    }
-
     // The range to ask for, pending from now on. Refusals 13, 18, 14, 15.
     pub fn request(self, channel: ChannelNumber) -> Called<Range>
         ensures { (request_paper result.answer ≡ answer_to (book_of self) (Request channel.0))
             × (result.next ≡ next_in self (Request channel.0)) }
     {
         match self.request_verdict(channel) {
-            Ok(()) => self.granted(),
+            Ok(()) => Sound { ledger: self }.granted(),
             Err(why) => Called {
                 next: self,
                 answer: Err(why),
@@ -452,66 +543,6 @@ impl Ledger {
         reach_of(self.pending, self.floor.value())
     }
 
-    // The pending request is cleared, and the floor passes the w numbers above it and the run of
-    // held ones after them: floor + 1 is not held, so that run ends before it comes round. Those of
-    // the w not held are given up; the held ones passed are named apart.
-    fn given_up(self, w: u64) -> Called<Settled>
-        requires { (sound_of (book_of self) ≡ true) × (w ≤ 256) × (w ≤ self.top.0 - self.floor.0) }
-        ensures { (reply_paper result.answer ≡ answer 0 ((self.floor.0 + 1) ∷ gave_up (book_of self) w ∷ handed (book_of self) w ∷ []))
-            × (result.next ≡ ledger_of (replied (book_of self) w))
-            × (result.answer ≡ laid_reply result.answer) }
-    {
-        let map = self.map;
-        let floor = self.floor.value();
-        let count = w + map.run_from(floor + 1 + w);
-        Called {
-            next: Ledger {
-                floor: TickNumber::new(floor + count),
-                map: map.cleared(floor + 1, count),
-                pending: None,
-                ..self
-            },
-            answer: Ok(Settled {
-                first: TickNumber::new(floor + 1),
-                given_up: map.lacking(floor + 1, w),
-                passed: map.only(floor + 1, count),
-            }),
-        }
-    }
-
-    // The pending request is cleared, and the range reaches no number above the floor: floor + 1 is
-    // not held, so that nothing is passed.
-    #[tactic(auto, using(crate::proofs::Seam::sound_low, crate::proofs::Seam::empty_set, ledger_spec::proofs::Rules::rules_facts, ledger_spec::proofs::GivenUp::replied_0, ledger_spec::proofs::GivenUp::values_0))]
-    fn settled(self) -> Called<Settled>
-        requires { sound_of (book_of self) ≡ true }
-        ensures { (reply_paper result.answer ≡ answer 0 ((self.floor.0 + 1) ∷ gave_up (book_of self) 0 ∷ handed (book_of self) 0 ∷ []))
-            × (result.next ≡ ledger_of (replied (book_of self) 0))
-            × (result.answer ≡ laid_reply result.answer) }
-    {
-        Called {
-            next: self.waiting(None),
-            answer: Ok(Settled {
-                first: TickNumber::new(self.floor.value() + 1),
-                given_up: Map::new(),
-                passed: Map::new(),
-            }),
-        }
-    }
-
-    // The pending request is cleared, and the floor goes on over the w numbers above it, perhaps
-    // none.
-    fn replied(self, w: u64) -> Called<Settled>
-        requires { (sound_of (book_of self) ≡ true) × (w ≤ 256) × (w ≤ self.top.0 - self.floor.0) }
-        ensures { (reply_paper result.answer ≡ answer 0 ((self.floor.0 + 1) ∷ gave_up (book_of self) w ∷ handed (book_of self) w ∷ []))
-            × (result.next ≡ ledger_of (replied (book_of self) w))
-            × (result.answer ≡ laid_reply result.answer) }
-    {
-        if w == 0 {
-            return self.settled();
-        }
-        self.given_up(w)
-    }
-
     // The pending request is cleared; on status 4 what is missing of it is given up, and the floor
     // goes on. Refusals 13, 18, 17, 16.
     pub fn reply(self, channel: ChannelNumber, first: TickNumber, status: u8) -> Called<Settled>
@@ -520,7 +551,7 @@ impl Ledger {
             × (result.answer ≡ laid_reply result.answer) }
     {
         match self.reply_verdict(channel, first, status) {
-            Ok(()) => self.replied(self.reach(status)),
+            Ok(()) => Sound { ledger: self }.replied(self.reach(status)),
             Err(why) => Called {
                 next: self,
                 answer: Err(why),
@@ -584,27 +615,6 @@ impl Ledger {
         }
     }
 
-    // How many numbers from `from` to `to` lie above the floor and not above the top and are not
-    // held. The map has places for floor + 1 to floor + 256 alone, and from the place of `low` on
-    // they end before the count comes round.
-    fn between(self, from: u64, to: u64) -> u64
-        requires { (self.floor.0 ≤ self.top.0) × (self.top.0 ≤ largest) × (from ≤ largest) }
-        ensures { result ≡ between_count (book_of self) from to }
-    {
-        let floor = self.floor.value();
-        let low = from.max(floor + 1);
-        let high = to.min(self.top.value());
-        if high < low {
-            return 0;
-        }
-        let width = high + 1 - low;
-        let off = low - floor - 1;
-        if 256 <= off {
-            return width;
-        }
-        width - self.map.held_from(low, width.min(256 - off))
-    }
-
     // 13, 18, then 10 of the span, whichever of its ends is wrong.
     #[tactic(auto, using(crate::proofs::Seam::checked_bad, crate::proofs::Seam::checked_fine), unfolding(ledger_spec::specs::Calls::number_to, ledger_spec::specs::Calls::own_number, crate::specs::State::book_of))]
     fn span_verdict(
@@ -636,7 +646,7 @@ impl Ledger {
         Called {
             next: self,
             answer: match self.span_verdict(channel, a, b) {
-                Ok(()) => Ok(self.between(a.value(), b.value())),
+                Ok(()) => Ok(Sound { ledger: self }.between(a.value(), b.value())),
                 Err(why) => Err(why),
             },
         }

@@ -1,6 +1,5 @@
 -- `rk_step_write`: the writer's paper is told, and the buffer is as it left it. Assumes nothing.
 use Rattle.host_words.specs.Told.{tells_as}
-use borrow.Author.Rules.{rules}
 use Rattle.host_step.proofs.rk_step_write.Goals as goal
 
 pub returns : goal.returns

@@ -3,11 +3,10 @@ use mathlib.Core.Path.{sym, ap, ◌∙◌}
 use Rattle.terms.specs.Paper.{one_number}
 use Rattle.step_frame.specs.Papers.{step_written_paper, step_pos}
 use Rattle.host_words.specs.Told.{tells_done, tells_refused}
-use borrow.Author.Rules.{rules}
 use Rattle.host_step.proofs.told_bytes.Goals as goal
 
-pub returns-in-Refused : goal.returns-in-Refused
-returns-in-Refused c = tells_refused _ _ _ (c.number.ensures ∙ sym (one_number (ap step_written_paper c.in-Refused.is))) (λ z. step_pos c.in-Refused.why (sym c.number.ensures ∙ z))
+pub returns-in-Ok : goal.returns-in-Ok
+returns-in-Ok c = tells_done _ _ _ (sym (ap step_written_paper c.in-Ok.is))
 
-pub returns-in-Bytes : goal.returns-in-Bytes
-returns-in-Bytes c = tells_done _ _ _ (sym (ap step_written_paper c.in-Bytes.is))
+pub returns-in-Err : goal.returns-in-Err
+returns-in-Err c = tells_refused _ _ _ (c.from.ensures ∙ sym (one_number (ap step_written_paper c.in-Err.is))) (λ z. step_pos c.in-Err.why (sym c.from.ensures ∙ z))

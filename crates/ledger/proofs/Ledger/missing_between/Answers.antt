@@ -15,10 +15,13 @@ use Rattle.ledger.proofs.Ledger.missing_between.Goals.{Start}
 words : (c : goal.Start) → Words c.args.self.map.words
 words c = record { four = search rules; low = λ i. search rules }
 
+pub invariant_of-between : goal.invariant_of-between
+invariant_of-between c = record { rules = (between_bounds c.args.self _ _ _ c.in-Ok.ensures).0 }
+
 pub between-requires : goal.between-requires
 between-requires c =
     let b = between_bounds c.args.self _ _ _ c.in-Ok.ensures in
-    (b.0, b.1, omega (arith, b.2, c.value.ensures))
+    omega (arith, b.1, c.value.ensures)
 
 pub returns-in-Ok : goal.returns-in-Ok
 returns-in-Ok c =

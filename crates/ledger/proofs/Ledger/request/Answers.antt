@@ -3,8 +3,8 @@ use mathlib.Core.Path.{◌∙◌}
 use Rattle.ledger.proofs.Seam.{request_sound, request_done_call, request_refused_call}
 use Rattle.ledger.proofs.Ledger.request.Goals as goal
 
-pub granted-requires : goal.granted-requires
-granted-requires c = request_sound c.args.self _ c.in-Ok.ensures
+pub invariant_of-granted : goal.invariant_of-granted
+invariant_of-granted c = record { rules = request_sound c.args.self _ c.in-Ok.ensures }
 
 pub returns-in-Ok : goal.returns-in-Ok
 returns-in-Ok c =
