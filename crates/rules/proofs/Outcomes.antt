@@ -1,11 +1,9 @@
 -- Each number of `measure_of` and `judge_of` from the facts that lead to it, and the same by cases.
-use Rattle.std.specs.Prelude.{ℕ, ◌<◌, ◌≤◌, ◌≡◌, true, false, List}
+use Rattle.std.specs.Prelude.{ℕ, ◌≡◌, true, false, List}
 use Rattle.std.proofs.Common.{⊎_elim, arith}
-use borrow.Author.Tests.{lt-ltb, le-ltb}
-use Rattle.terms.specs.Cases.{two, less}
+use Rattle.terms.specs.Cases.{two}
 use Rattle.calendar.specs.Calendar.{real_time}
 use Rattle.rules.specs.declared.Kind.{Kind}
-use Rattle.rules.specs.Table.{known, suits, measure_of}
 use Rattle.rules.specs.Fields.{fields_ok, judge_of}
 use Rattle.rules.specs.Outcomes.{j_fine, j_time, j_field, Judged}
 

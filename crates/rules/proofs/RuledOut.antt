@@ -7,10 +7,10 @@ use mathlib.Core.List.{List, [], ◌∷◌, ◌++◌}
 use Rattle.terms.specs.Paper.{Paper, answer, refusal}
 use Rattle.terms.specs.RuledOut.{Row, ◌never◌, ◌only◌, Kept, RulesOut, ruled, numbers, bools, papers}
 use Rattle.rules.specs.declared.Kind.{Kind}
-use Rattle.rules.specs.declared.Kind.TheVariants.{S003, M101, M102, M201, Unknown, S001, P001, P002}
+use Rattle.rules.specs.declared.Kind.TheVariants.{S003, M101, M102, M201, Unknown, P001, P002}
 use Rattle.rules.specs.declared.Layout.{Layout}
 use Rattle.rules.specs.declared.Layout.TheVariants.{Order, Trade, Other}
-use Rattle.rules.specs.Fields.{layout_of, suits_tail, s001_ok, p001_ok, p002_ok, tail_ok, m201_ok, pair_ok, m102_values_ok, m102_fixed_ok, entry_size, entry_ok, entries_ok, m102_ok, fields_ok, judge_of}
+use Rattle.rules.specs.Fields.{layout_of, suits_tail, p001_ok, p002_ok, tail_ok, m201_ok, pair_ok, m102_values_ok, m102_fixed_ok, entry_size, entry_ok, entries_ok, m102_ok, fields_ok, judge_of}
 use Rattle.rules.specs.Table.{kind_paper, kind_of, type_of, known, suits, measure_of}
 use Rattle.terms.specs.Verdicts.{verdict_number}
 use Rattle.rules.proofs.KindFromU32.from.Reads as kind-of

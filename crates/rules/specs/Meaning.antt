@@ -1,8 +1,7 @@
 -- The tests say the rules: each definition that a promise cites holds exactly when document
 -- 01's words do.
-use Rattle.std.specs.Prelude.{ℕ, zero, suc, ◌+◌, ◌*◌, ◌<◌, ◌≤◌, ◌^◌, ◌≡◌, refl, Bool, true, false, ◌⊎◌, List, eqb, length}
-use Rattle.std.proofs.Common.{sym, ◌∙◌, inl, inr, ⊎_elim, arith, eq-or-lt_of_le, le_of_suc-le-suc, not-suc-le-zero, eq-eqb, ne_eqb, eqb-true}
-use Rattle.octets.specs.Octets.{be}
+use Rattle.std.specs.Prelude.{ℕ, ◌≤◌, ◌≡◌, refl, Bool, true, false, ◌⊎◌, eqb}
+use Rattle.std.proofs.Common.{sym, ◌∙◌, inl, inr, ⊎_elim, arith, eq-eqb, ne_eqb, eqb-true}
 use Rattle.terms.specs.Letters.{spelled}
 use Rattle.terms.specs.Paper.{pick}
 use Rattle.terms.specs.Cases.{two, same, clash}
@@ -11,9 +10,9 @@ use Rattle.rules.specs.declared.Kind.TheVariants.{S001, S002, S003, P001, P002, 
 use Rattle.rules.specs.Table.{kind_of, known, suits}
 use Rattle.rules.specs.declared.Layout.{Layout}
 use Rattle.rules.specs.declared.Layout.TheVariants.{Order, Trade, Other}
-use Rattle.rules.specs.Fields.{s001_ok, s002_ok, p001_ok, p002_ok, orders_ok, trades_ok, layout_of, suits_tail, named_in, tail_ok, m201_ok, pair_ok, m102_values_ok, entry_size, entry_ok, entries_ok, m102_ok, fields_ok}
-use Rattle.rules.specs.Rules.{TypeRule, LengthRule, S001Rules, S002Rules, P001Rules, P002Rules, Pair, pair_1, pair_2, pair_3_MD101, pair_3_MD102, pair_12, pair_13, pair_14, EntrySize, short, long, EntryRules, M102Rules, Orders, order_0, order_4, Trades, trade_F, LayoutRule, is_order, is_trade, is_other, TailRule, M201Rules, FieldRules}
-use Rattle.terms.specs.Says.{Says, says_lt, says_le, says_eq, says_and, says_or, says_as}
+use Rattle.rules.specs.Fields.{suits_tail, pair_ok, entry_size}
+use Rattle.rules.specs.Rules.{TypeRule, LengthRule, Pair, pair_1, pair_2, pair_3_MD101, pair_3_MD102, pair_12, pair_13, pair_14, EntrySize, short, long, Orders, order_0, order_4, Trades, trade_F, LayoutRule, is_order, is_trade, is_other, TailRule}
+use Rattle.terms.specs.Says.{Says, says_le, says_eq, says_and, says_or, says_as}
 
 -- NOT SO: a test fails exactly where its fact does not hold
 

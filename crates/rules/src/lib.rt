@@ -7,6 +7,7 @@ ghost use Rattle.rules.specs.Table.{kind_paper, type_of, known, suits, measure_o
 ghost use Rattle.terms.specs.Verdicts.{verdict_number};
 ghost use Rattle.rules.specs.Fields.{layout_of, suits_tail, s001_ok, s002_ok, p001_ok, p002_ok, tail_ok, m201_ok, pair_ok, m102_values_ok, m102_fixed_ok, entry_size, entry_ok, entries_ok, m102_ok, fields_ok, judge_of};
 ghost use Rattle.rules.specs.Sizes.{Entries};
+ghost use Rattle.std.specs.Fn.{FnReturnsAt};
 
 use octets::Number;
 use terms::Refusal;
@@ -38,6 +39,7 @@ pub enum Layout {
 impl From<u32> for Kind {
     ghost from_gives = { λ letters kind. kind_paper kind ≡ type_of letters };
 
+    #[tactic(auto, using(crate::specs::Table::kind_none), unfolding(crate::specs::Table::type_of, crate::specs::Table::kind_of))]
     fn from(letters: u32) -> Kind {
         if letters / 256 % 256 != 0x30 {
             return Kind::Unknown;
@@ -64,6 +66,7 @@ pub fn is_known(kind: Kind) -> bool
 }
 
 // Whether a body of n bytes suits the type.
+#[tactic(auto, unfolding(crate::specs::Table::suits))]
 fn suits_length(kind: Kind, n: usize) -> bool
     ensures { result ≡ suits kind n }
 {
@@ -81,6 +84,7 @@ fn suits_length(kind: Kind, n: usize) -> bool
 }
 
 // The checks 2, 3 and 4, in this order, of a body of n bytes.
+#[tactic(auto, unfolding(crate::specs::Table::measure_of))]
 pub fn measure(kind: Kind, n: usize) -> Result<(), Refusal>
     ensures { verdict_number result ≡ measure_of kind n }
 {
@@ -98,20 +102,20 @@ pub fn measure(kind: Kind, n: usize) -> Result<(), Refusal>
 
 // The layout of an M201's extension, by its stream, the five letters as a number, and its ExecType:
 // an order's in MD211 to MD216 where that is 0 or 4, a trade's in MD217 where it is F.
+#[tactic(auto, unfolding(crate::specs::Fields::layout_of))]
 pub fn layout_of(stream: u64, exec: u8) -> Layout
     ensures { result ≡ layout_of stream exec }
 {
-    if (0x4D44323131 <= stream) & (stream <= 0x4D44323136) & ((exec == b'0') | (exec == b'4')) {
-        return Layout::Order;
+    match (stream, exec) {
+        (0x4D44323131..=0x4D44323136, b'0' | b'4') => Layout::Order,
+        (0x4D44323137, b'F') => Layout::Trade,
+        _ => Layout::Other,
     }
-    if (stream == 0x4D44323137) & (exec == b'F') {
-        return Layout::Trade;
-    }
-    Layout::Other
 }
 
 // Whether an M201 body of n bytes suits the layout of its extension: 45 bytes and 139 for an order,
 // 45 and 53 for a trade.
+#[tactic(auto, unfolding(crate::specs::Fields::suits_tail))]
 pub fn suits_tail(layout: Layout, n: usize) -> bool
     ensures { result ≡ suits_tail layout n }
 {
@@ -122,6 +126,7 @@ pub fn suits_tail(layout: Layout, n: usize) -> bool
     }
 }
 
+#[tactic(auto, unfolding(crate::specs::Fields::s001_ok))]
 fn s001_ok(b: &[u8]) -> bool
     ensures { result ≡ s001_ok b.now }
 {
@@ -129,6 +134,7 @@ fn s001_ok(b: &[u8]) -> bool
     0 < heart_bt_int
 }
 
+#[tactic(auto, unfolding(crate::specs::Fields::s002_ok))]
 fn s002_ok(b: &[u8]) -> bool
     ensures { result ≡ s002_ok b.now }
 {
@@ -136,6 +142,7 @@ fn s002_ok(b: &[u8]) -> bool
     session_status <= 9999
 }
 
+#[tactic(auto, unfolding(crate::specs::Fields::p001_ok))]
 fn p001_ok(b: &[u8]) -> bool
     ensures { result ≡ p001_ok b.now }
 {
@@ -149,17 +156,7 @@ fn p001_ok(b: &[u8]) -> bool
         & ((end_of_channel == b'Y') | (end_of_channel == b'N'))
 }
 
-// The same. A body that holds all fields takes a way of its own: there the compiler knows that no
-// field lies past the end, and loads each of them without asking. So it is with the next two.
-fn p001_kept(b: &[u8]) -> bool
-    ensures { result ≡ p001_ok b.now }
-{
-    if b.len() < 12 {
-        return p001_ok(b);
-    }
-    p001_ok(b)
-}
-
+#[tactic(auto, unfolding(crate::specs::Fields::p002_ok))]
 fn p002_ok(b: &[u8]) -> bool
     ensures { result ≡ p002_ok b.now }
 {
@@ -177,23 +174,15 @@ fn p002_ok(b: &[u8]) -> bool
         & ((0 < status) | (last == 0) | (first <= last))
 }
 
-fn p002_kept(b: &[u8]) -> bool
-    ensures { result ≡ p002_ok b.now }
-{
-    if b.len() < 20 {
-        return p002_ok(b);
-    }
-    p002_ok(b)
-}
-
 // Whether an M201 body has the length of the layout that its stream and ExecType name.
+#[tactic(auto, unfolding(crate::specs::Fields::tail_ok))]
 fn tail_ok(b: &[u8]) -> bool
     ensures { result ≡ tail_ok b.now }
 {
-    let layout = layout_of(octets::letters_at(b, 11), u8::at(b, 28));
-    suits_tail(layout, b.len())
+    suits_tail(layout_of(octets::letters_at(b, 11), u8::at(b, 28)), b.len())
 }
 
+#[tactic(auto, unfolding(crate::specs::Fields::m201_ok))]
 fn m201_ok(b: &[u8]) -> bool
     ensures { result ≡ m201_ok b.now }
 {
@@ -216,20 +205,12 @@ fn m201_ok(b: &[u8]) -> bool
         & tail
 }
 
-fn m201_kept(b: &[u8]) -> bool
-    ensures { result ≡ m201_ok b.now }
-{
-    if b.len() < 45 {
-        return m201_ok(b);
-    }
-    m201_ok(b)
-}
-
 // Whether a security type and a stream, its five letters as a number, go together in an M102: 1 and
 // MD001 to MD004, 2 and MD301, 3 and MD101 or MD102, 12 and MD201, 13 and MD210, 14 and MDE01.
 pub fn pair_ok(t: u8, s: u64) -> bool
     ensures { result ≡ pair_ok t s }
 {
+    // no branch: which of them comes next a processor can't guess
     ((t == 1) & (0x4D44303031 <= s) & (s <= 0x4D44303034))
         | ((t == 2) & (s == 0x4D44333031))
         | ((t == 3) & ((s == 0x4D44313031) | (s == 0x4D44313032)))
@@ -238,6 +219,7 @@ pub fn pair_ok(t: u8, s: u64) -> bool
         | ((t == 14) & (s == 0x4D44453031))
 }
 
+#[tactic(auto, unfolding(crate::specs::Fields::m102_values_ok))]
 fn m102_values_ok(b: &[u8]) -> bool
     ensures { result ≡ m102_values_ok b.now }
 {
@@ -264,12 +246,11 @@ fn m102_values_ok(b: &[u8]) -> bool
 pub fn m102_fixed_ok(b: &[u8]) -> bool
     ensures { result ≡ m102_fixed_ok b.now }
 {
-    let pair = pair_ok(u8::at(b, 0), octets::letters_at(b, 10));
-    let values = m102_values_ok(b);
-    pair & values
+    pair_ok(u8::at(b, 0), octets::letters_at(b, 10)) & m102_values_ok(b)
 }
 
 // How many bytes an M102 entry has whose stream's five letters are this number: 10 for MD001.
+#[tactic(auto, unfolding(crate::specs::Fields::entry_size))]
 pub fn entry_size(s: u64) -> usize
     ensures { result ≡ entry_size s }
 {
@@ -278,6 +259,7 @@ pub fn entry_size(s: u64) -> usize
 
 // Whether an M102 entry of w bytes, lent alone, keeps its widths. The short one, of 10 bytes, has a
 // price alone: what stands behind it is not looked at.
+#[tactic(auto, unfolding(crate::specs::Fields::entry_ok))]
 pub fn entry_ok(e: &[u8], w: usize) -> bool
     ensures { result ≡ entry_ok w 0 e.now }
 {
@@ -294,15 +276,11 @@ fn entries_ok(b: &[u8], n: usize, w: usize) -> bool
     requires { Entries w n b.now }
     ensures { result ≡ entries_ok n w b.now }
 {
-    let mut at: usize = 73;
-    let mut i: usize = 0;
-    while at < b.len() {
-        let end = at + w;
-        if !entry_ok(&b[at..end], w) {
+    for i in 0..n {
+        let at = 73 + i * w;
+        if !entry_ok(&b[at..at + w], w) {
             return false;
         }
-        at = end;
-        i += 1;
     }
     true
 }
@@ -325,29 +303,40 @@ fn m102_ok(b: &[u8]) -> bool
         return false;
     }
     if w == 10 {
-        return entries_ok(b, n, 10);
+        entries_ok(b, n, 10)
+    } else {
+        entries_ok(b, n, 19)
     }
-    entries_ok(b, n, 19)
+}
+
+// A check of a body that holds n bytes takes a way of its own: there the compiler knows that none of
+// its fields lies past the end, and loads each of them without asking.
+fn known_long<F: Fn(&[u8]) -> bool>(b: &[u8], n: usize, check: F) -> bool
+    requires { F.IsAlwaysCallable check }
+    ensures { FnReturnsAt F.Fn check b.now result }
+{
+    if b.len() < n { check(b) } else { check(b) }
 }
 
 // Whether a body keeps the field rules of its type; one of no type of the table does not.
+#[tactic(auto, unfolding(crate::specs::Fields::fields_ok))]
 pub fn fields_ok(kind: Kind, b: &[u8]) -> bool
     ensures { result ≡ fields_ok kind b.now }
 {
     match kind {
         Kind::S001 => s001_ok(b),
         Kind::S002 => s002_ok(b),
-        Kind::S003 => true,
-        Kind::P001 => p001_kept(b),
-        Kind::P002 => p002_kept(b),
-        Kind::M101 => true,
+        Kind::P001 => known_long(b, 12, p001_ok),
+        Kind::P002 => known_long(b, 20, p002_ok),
         Kind::M102 => m102_ok(b),
-        Kind::M201 => m201_kept(b),
+        Kind::M201 => known_long(b, 45, m201_ok),
+        Kind::S003 | Kind::M101 => true,
         Kind::Unknown => false,
     }
 }
 
 // The checks after the checksum, in this order: 7, the time; 6, the field rules.
+#[tactic(auto, unfolding(crate::specs::Fields::judge_of))]
 pub fn judge(kind: Kind, sending_time: u64, body: &[u8]) -> Result<(), Refusal>
     ensures { verdict_number result ≡ judge_of kind sending_time body.now }
 {
