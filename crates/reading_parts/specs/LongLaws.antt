@@ -1,12 +1,10 @@
 -- A long frame: its fields from its front, its entries where they stand, and what it reads as.
-use Rattle.std.specs.Prelude.{◌≡◌, ℕ, ◌+◌, ◌-◌, ◌<◌, ◌≤◌, true, false, List, [], ◌∷◌, ◌++◌, length, take, drop, ◌≢◌}
+use Rattle.std.specs.Prelude.{◌≡◌, ℕ, ◌+◌, ◌-◌, ◌<◌, ◌≤◌, true, false, List, [], ◌∷◌, ◌++◌, length, take, drop, ◌≢◌, Ok}
 use Rattle.std.proofs.Math.Path.{refl}
 use Rattle.std.proofs.Common.{sym, ap, ◌∙◌, inl, inr, arith, add_assoc, length-drop, drop_of_length-le, length-take-le, ne_eqb}
 use Rattle.std.proofs.lemmas.List.{take-append-le, drop-append-le}
-use Rattle.terms.specs.Cases.{clash}
 use Rattle.terms.specs.Paper.{answer}
 use Rattle.terms.specs.declared.SessionNumber.{SessionNumber}
-use Rattle.terms.specs.declared.Verdict.TheVariants.{Fine}
 use Rattle.terms.specs.declared.Refusal.TheVariants.{Sum, Time, Field}
 use Rattle.octets.specs.Octets.{be, sum8}
 use Rattle.octets.specs.Numerals.{numeral_take, numeral_drop}
@@ -17,7 +15,7 @@ use Rattle.rules.specs.declared.Kind.{Kind}
 use Rattle.rules.specs.declared.Kind.TheVariants.{S001, S002, S003, P001, P002, M101, M102, M201, Unknown}
 use Rattle.rules.specs.declared.Layout.{Layout}
 use Rattle.rules.specs.declared.Layout.TheVariants.{Order, Trade, Other}
-use Rattle.rules.specs.Fields.{s001_ok, s002_ok, p001_ok, p002_ok, named_in, suits_tail, tail_ok, m201_ok, m102_values_ok, m102_fixed_ok, entry_ok, m102_ok, fields_ok}
+use Rattle.rules.specs.Fields.{s001_ok, s002_ok, p001_ok, p002_ok, named_in, suits_tail, tail_ok, m201_ok, m102_values_ok, m102_fixed_ok, entry_ok, fields_ok}
 use Rattle.rules.specs.Sizes.{Wide, entry_part}
 use Rattle.frame_spec.specs.Frame.{msg_type, sending_time, msg_seq_num, body_length, body, plain, check_sum, read_of, Whole}
 use Rattle.frame_spec.specs.Outcomes.{read_sum, read_judgement, read_frame}
@@ -27,7 +25,7 @@ use Rattle.frame_view.specs.View.{view_of}
 use Rattle.reading.specs.declared.Seen.{Seen}
 use Rattle.reading.specs.Seen.{blank, seen_of}
 use Rattle.reading.proofs.SeenLaws.{seen_refused, seen_read}
-use Rattle.reading_parts.specs.Parts.{Gathers, Long, is_m102}
+use Rattle.reading_parts.specs.Parts.{Gathers, Long}
 use Rattle.reading_parts.specs.PartLaws.{drop_parts, rest_of, gathered_part}
 
 -- no layout has more than 184 bytes
@@ -63,7 +61,7 @@ module _ (front s : List ℕ) (l : Long front s) where
       (suits_long (named_in (body s)) (length (drop 24 front)) (length (body s)) (rw (length-drop 24 front, front_long) (omega arith)) (omega (arith, body_is, l.big)))
 
   -- what the rules of a body ask, but for an M102's
-  fields_front : (k : Kind) → is_m102 k ≡ false → fields_ok k (drop 24 front) ≡ fields_ok k (body s)
+  fields_front : (k : Kind) → (k ≡ M102 → ⊥) → fields_ok k (drop 24 front) ≡ fields_ok k (body s)
   unfolding fields_ok s001_ok s002_ok p001_ok p002_ok m201_ok
   fields_front S001 e = rw (behind 2 64 (omega arith))
   fields_front S002 e = rw (behind 4 0 (omega arith))
@@ -71,13 +69,13 @@ module _ (front s : List ℕ) (l : Long front s) where
   fields_front P001 e = rw (behind 1 0 (omega arith), behind 2 1 (omega arith), behind 8 3 (omega arith), behind 1 11 (omega arith))
   fields_front P002 e = rw (behind 2 0 (omega arith), behind 1 2 (omega arith), behind 8 3 (omega arith), behind 8 11 (omega arith), behind 1 19 (omega arith))
   fields_front M101 e = refl
-  fields_front M102 e = absurd (clash refl e)
+  fields_front M102 e = absurd (e refl)
   fields_front M201 e =
       rw (behind 1 0 (omega arith), behind 2 1 (omega arith), behind 8 3 (omega arith), behind 4 24 (omega arith), behind 1 28 (omega arith), behind 8 29 (omega arith), behind 8 37 (omega arith), tail_front)
   fields_front Unknown e = refl
 
   -- the part of the front behind the header, as it is lent
-  pub fields_lent : (k : Kind) → is_m102 k ≡ false → fields_ok k (take (length front - 24) (drop 24 front)) ≡ fields_ok k (body s)
+  pub fields_lent : (k : Kind) → (k ≡ M102 → ⊥) → fields_ok k (take (length front - 24) (drop 24 front)) ≡ fields_ok k (body s)
   fields_lent k e = ap (fields_ok k) (rest_of 24 front) ∙ fields_front k e
 
   -- and of an M102's fixed part
@@ -104,18 +102,6 @@ module _ (front s : List ℕ) (l : Long front s) where
 
   pub view_lent : (k : Kind) → view_of k (take (length front - 24) (drop 24 front)) ≡ view_of k (body s)
   view_lent k = ap (view_of k) (rest_of 24 front) ∙ view_front k
-
-pub fields_m102 : (k : Kind) (b : List ℕ) → is_m102 k ≡ true → m102_ok b ≡ fields_ok k b
-unfolding fields_ok
-fields_m102 S001 b e = absurd (clash e refl)
-fields_m102 S002 b e = absurd (clash e refl)
-fields_m102 S003 b e = absurd (clash e refl)
-fields_m102 P001 b e = absurd (clash e refl)
-fields_m102 P002 b e = absurd (clash e refl)
-fields_m102 M101 b e = absurd (clash e refl)
-fields_m102 M102 b e = refl
-fields_m102 M201 b e = absurd (clash e refl)
-fields_m102 Unknown b e = absurd (clash e refl)
 
 -- AN ENTRY WHERE IT STANDS
 
@@ -183,7 +169,7 @@ module _ (s : List ℕ) (w : Whole s) where
 
     pub seen_fine : (t n : ℕ) (q : SessionNumber) (k : Kind) (v : View) → t ≡ msg_type s → q.0 ≡ msg_seq_num s → n ≡ body_length s → k ≡ kind_of (msg_type s) → v ≡ view_of k (body s)
         → real_time (sending_time s) ≡ true → fields_ok (kind_of (msg_type s)) (body s) ≡ true
-        → ◌≡◌ {A = Seen} (record { answer = Fine; msg_type = t; seq = q; channel = v.channel; tick = v.tick; status = v.status; body_len = n; size = 28 + n }) (seen_of s)
+        → ◌≡◌ {A = Seen} (record { answer = Ok tt; msg_type = t; seq = q; channel = v.channel; tick = v.tick; status = v.status; body_len = n; size = 28 + n }) (seen_of s)
     seen_fine t n q k v is_type is_seq is_length is-kind is_view r f =
         let paper : answer 0 (t ∷ sending_time s ∷ q.0 ∷ n ∷ []) ≡ read_of s = rw (is_type, is_seq, is_length) (sym (read_frame s w sum (judge_fine _ _ _ r f))) in
         seen_read s t (sending_time s) n q k v paper (is-kind ∙ ap kind_of (sym is_type)) is_view

@@ -1,8 +1,8 @@
 -- Two parts, one behind the other: their first bytes, bytes laid together, and what the front of
 -- both says of all.
-use Rattle.std.specs.Prelude.{◌≡◌, ℕ, zero, suc, ◌+◌, ◌-◌, ◌%◌, ◌^◌, ◌<◌, ◌≤◌, min, Bool, true, false, ◌⊎◌, List, [], ◌∷◌, ◌++◌, length, take, drop, ◌==◌, ◌≢◌, nat_lt, refl}
-use Rattle.std.proofs.Common.{sym, ap, ◌∙◌, inl, inr, ⊎_elim, arith, add-zero, length-append, length-take, length-drop, take-append-drop, drop_of_length-le, take_all, take-take, length-take-le, le-leb, le-ltb, lt-ltb, eqb-true, ltb-true, ltb-false}
-use Rattle.std.proofs.lemmas.Bool.{lt-leb, eqb-false}
+use Rattle.std.specs.Prelude.{◌≡◌, ℕ, zero, suc, ◌+◌, ◌-◌, ◌%◌, ◌^◌, ◌<◌, ◌≤◌, min, ◌⊎◌, List, [], ◌∷◌, ◌++◌, length, take, drop, ◌≢◌, refl}
+use Rattle.std.proofs.Common.{sym, ap, ◌∙◌, inl, inr, ⊎_elim, arith, add-zero, length-append, length-take, length-drop, take-append-drop, drop_of_length-le, take_all, take-take, length-take-le, le-leb}
+use Rattle.std.proofs.lemmas.Bool.{lt-leb}
 use Rattle.terms.specs.Cases.{less}
 use Rattle.terms.specs.Paper.{Paper, refusal, one_number}
 use Rattle.terms.specs.Refusals.{refusal_of}
@@ -55,18 +55,8 @@ drop_both at n m a b h k =
     rw (i, j) (sym (drop_parts at a b))
 
 -- the sum of both parts' shares
-pub sum_both : (n m x y : ℕ) (a b : List ℕ) → m ≡ min (length a) n → x ≡ sum8 (take n a) → y ≡ sum8 (take (n - m) b) → (x + y) % 2 ^ 8 ≡ sum8 (take n (a ++ b))
-sum_both n m x y a b h p q =
-    let r : n - m ≡ n - length a = omega arith in
-    rw (take_parts n a b, sum8_append, p, q, r)
-
--- whether bytes are missing of w, asked without the sum
-pub none_lacks : (a b w : ℕ) → w ≤ a → false ≡ nat_lt (a + b) w
-none_lacks a b w h = sym (le-ltb (a + b) w (omega arith))
-
-pub some_lack : (a b w : ℕ) → a < w → nat_lt b (w - a) ≡ nat_lt (a + b) w
-some_lack a b w h =
-    ⊎_elim (λ (l : b < w - a). lt-ltb b (w - a) l ∙ sym (lt-ltb (a + b) w (omega arith))) (λ (l : w - a ≤ b). le-ltb b (w - a) l ∙ sym (le-ltb (a + b) w (omega arith))) (less b (w - a))
+pub sum_both : (n m x y : ℕ) (a b : List ℕ) → m ≡ n - length a → x ≡ sum8 (take n a) → y ≡ sum8 (take m b) → (x + y) % 2 ^ 8 ≡ sum8 (take n (a ++ b))
+sum_both n m x y a b h p q = rw (take_parts n a b, sum8_append, p, q, h)
 
 -- BYTES LAID TOGETHER
 
@@ -100,6 +90,12 @@ rest_of n s = take_all (length s - n) (drop n s) (omega (arith, length-drop n s)
 
 pub gathers_from : (at n m : ℕ) (a b e : List ℕ) (k r : ℕ) → n ≡ min (length a) at → m ≡ min (length b) (at - n) → Gathers k (take (length a - n) (drop n a) ++ take (length b - m) (drop m b)) e r → Gathers k (drop at (a ++ b)) e r
 gathers_from at n m a b e k r h i g = rw (rest_of n a, rest_of m b, drop_both at n m a b h i) at g
+
+-- what is laid together is a front
+pub front_of : (n r : ℕ) (s e : List ℕ) → Gathers n s e r → take r e ≡ take (length (take r e)) s
+front_of n r s e g =
+    let l : length (take r e) ≡ min (length s) n = omega (arith, ap length g.same, length-take n s) in
+    g.same ∙ sym (ap (λ (k : ℕ). take k s) l ∙ take_lower n s)
 
 -- k bytes from a place on, of those laid together
 pub gathered_part : (n k r at : ℕ) (s e : List ℕ) → Gathers n (drop at s) e r → k ≤ n → at + k ≤ length s → take k e ≡ take k (drop at s)
@@ -195,24 +191,24 @@ long_of s (inr c) l =
     }
 
 -- else it is a long frame
-long_frame : (front s : List ℕ) → front ≡ take 512 s → seen_number (seen_of front) ≡ 1 → wanted_by front ≤ length s → Long front s
+pub long_frame : (front s : List ℕ) → front ≡ take 512 s → seen_number (seen_of front) ≡ 1 → wanted_by front ≤ length s → Long front s
 long_frame front s e z l = rw e (long_of s (missing (take 512 s) (ap (λ (x : List ℕ). seen_number (seen_of x)) (sym e) ∙ z)) (rw (← e) l))
 
--- THE SAME OF WHAT THE CODE ASKS: whether bytes are missing for the front h, and whether both parts
--- of a and b bytes lack some of what it wants
+-- THE SAME OF WHAT THE CODE ASKS
 
-module _ (k : ℕ) (h s : List ℕ) (x : Seen) (e : h ≡ take k s) (seen : x ≡ seen_of h) (waits : Bool) (asked : waits ≡ (seen_number x == 1)) where
-  number : waits ≡ true → seen_number (seen_of h) ≡ 1
-  number w = ap seen_number (sym seen) ∙ eqb-true (seen_number x) 1 (sym asked ∙ w)
+module _ (h s : List ℕ) (x : Seen) (e : h ≡ take (length h) s) (seen : x ≡ seen_of h) where
+  -- what is seen, unless bytes are missing
+  pub seen_told : (seen_number x ≢ 1) → x ≡ seen_of s
+  seen_told ne =
+      seen ∙ ap seen_of e ∙ seen_front (length h) s (λ (z : seen_number (seen_of (take (length h) s)) ≡ 1). ne (ap seen_number (seen ∙ ap seen_of e) ∙ z))
 
-  pub seen_told : waits ≡ false → x ≡ seen_of s
-  seen_told w =
-      seen ∙ ap seen_of e
-      ∙ seen_front k s (λ (z : seen_number (seen_of (take k s)) ≡ 1). eqb-false (seen_number x) 1 (sym asked ∙ w) (ap seen_number (seen ∙ ap seen_of e) ∙ z))
+  module _ (z : seen_number x ≡ 1) where
+    missed : seen_number (seen_of h) ≡ 1
+    missed = ap seen_number (sym seen) ∙ z
 
-  module _ (a b : ℕ) (size : length s ≡ a + b) (cut : Bool) (lacks : cut ≡ nat_lt (a + b) (wanted_by h)) (w : waits ≡ true) where
-    pub seen_cut : cut ≡ true → x ≡ seen_of s
-    seen_cut c = seen ∙ seen_still k h s e (number w) (omega (arith, ltb-true (a + b) (wanted_by h) (sym lacks ∙ c)))
+    -- and where all lack some of what is wanted
+    pub seen_cut : length s < wanted_by h → x ≡ seen_of s
+    seen_cut l = seen ∙ seen_still (length h) h s e missed l
 
-    pub seen_behind : k ≡ 512 → cut ≡ false → Long h s
-    seen_behind f c = long_frame h s (rw f at e) (number w) (omega (arith, ltb-false (a + b) (wanted_by h) (sym lacks ∙ c)))
+    pub seen_lacks : wanted_by h ≤ length s → (seen_number (seen_of h) ≡ 1) × (wanted_by h ≤ length s)
+    seen_lacks l = (missed, l)

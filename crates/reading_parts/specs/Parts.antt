@@ -1,9 +1,9 @@
 -- What the functions over two parts need of each other.
-use Rattle.std.specs.Prelude.{◌≡◌, ℕ, ◌+◌, ◌<◌, ◌≤◌, Bool, true, false, List, length, take, nat_le}
+use Rattle.std.specs.Prelude.{◌≡◌, ℕ, ◌+◌, ◌<◌, ◌≤◌, List, Option, Some, None, length, take, nat_le}
 use Rattle.terms.specs.Paper.{pick}
-use Rattle.rules.specs.declared.Kind.{Kind}
-use Rattle.rules.specs.declared.Kind.TheVariants.{S001, S002, S003, P001, P002, M101, M102, M201, Unknown}
 use Rattle.frame_spec.specs.Frame.{body_length, Whole}
+use Rattle.reading.specs.declared.Seen.{Seen}
+use Rattle.reading.specs.Seen.{seen_of, seen_number}
 
 -- how many bytes are wanted by the frame that h begins: its header, and then all that this tells
 unfoldable pub wanted_by : List ℕ → ℕ
@@ -21,13 +21,7 @@ pub record Long (front s : List ℕ) : Type 0 where
   pub whole : Whole s
   pub big : 512 < 28 + body_length s
 
-abbrev pub is_m102 : Kind → Bool
-is_m102 S001 = false
-is_m102 S002 = false
-is_m102 S003 = false
-is_m102 P001 = false
-is_m102 P002 = false
-is_m102 M101 = false
-is_m102 M102 = true
-is_m102 M201 = false
-is_m102 Unknown = false
+-- what the front of s tells of it: the reading, or that bytes are missing of the front alone
+abbrev pub Tells : Option Seen → List ℕ → List ℕ → Type 0
+Tells (Some x) front s = x ≡ seen_of s
+Tells None front s = (seen_number (seen_of front) ≡ 1) × (wanted_by front ≤ length s)

@@ -2,34 +2,28 @@
 // laid together; what a longer frame has behind them is summed and judged where it stands.
 #![tactic(auto)]
 
-ghost use Rattle.std.specs.Prelude.{◌≡◌, ◌+◌, ◌*◌, ◌≤◌, min, ◌++◌, length, take, drop, ◌==◌, nat_lt};
+ghost use Rattle.std.specs.Prelude.{◌≡◌, ◌+◌, ◌*◌, ◌≤◌, ◌++◌, length, take, drop, eqb};
+ghost use Rattle.terms.specs.Verdicts.{verdict_number};
 ghost use Rattle.octets.specs.Octets.{be, sum8};
 ghost use Rattle.rules.specs.Fields.{entry_ok, entries_ok, m102_ok, fields_ok};
 ghost use Rattle.rules.specs.Sizes.{Wide};
 ghost use Rattle.frame_spec.specs.Frame.{body_length, body};
-ghost use Rattle.reading.specs.Seen.{seen_of, seen_number};
-ghost use Rattle.reading_parts.specs.Parts.{wanted_by, Gathers, Long, is_m102};
+ghost use Rattle.reading.specs.Seen.{seen_of};
+ghost use Rattle.reading_parts.specs.Parts.{wanted_by, Gathers, Long, Tells};
 
 use octets::Number;
 use reading::Seen;
 use rules::Kind;
 use terms::{Refusal, SessionNumber};
 
-// The lower of two numbers.
-fn lower(a: usize, b: usize) -> usize
-    ensures { result ≡ min a b }
-{
-    if a < b { a } else { b }
-}
-
 // Lays at the front of out as many bytes of both parts as it takes, and returns how many.
 fn gather(first: &[u8], second: &[u8], out: &mut [u8]) -> usize
     ensures { Gathers (length out.old) (first.now ++ second.now) out.new result }
 {
-    let a = lower(first.len(), out.len());
-    let b = lower(second.len(), out.len() - a);
-    octets::lay(out, 0, &first[..a]);
-    octets::lay(out, a, &second[..b]);
+    let a = first.len().min(out.len());
+    let b = second.len().min(out.len() - a);
+    let _ = octets::lay(out, 0, &first[..a]);
+    let _ = octets::lay(out, a, &second[..b]);
     a + b
 }
 
@@ -37,29 +31,9 @@ fn gather(first: &[u8], second: &[u8], out: &mut [u8]) -> usize
 fn gather_from(first: &[u8], second: &[u8], at: usize, out: &mut [u8]) -> usize
     ensures { Gathers (length out.old) (drop at (first.now ++ second.now)) out.new result }
 {
-    let a = lower(first.len(), at);
-    let b = lower(second.len(), at - a);
+    let a = first.len().min(at);
+    let b = second.len().min(at - a);
     gather(&first[a..], &second[b..], out)
-}
-
-// Whether bytes are missing for what was seen.
-fn waits(seen: Seen) -> bool
-    ensures { result ≡ (seen_number seen == 1) }
-{
-    let verdict = seen.answer;
-    terms::number_of(verdict) == 1
-}
-
-// Whether two parts of these lengths lack bytes of the frame that a part begins: of its header, or
-// of what its header tells.
-fn is_cut(begun: &[u8], first: usize, second: usize) -> bool
-    ensures { result ≡ nat_lt (first + second) (wanted_by begun.now) }
-{
-    let wanted = wanted_by(begun);
-    if wanted <= first {
-        return false;
-    }
-    second < wanted - first
 }
 
 // How many bytes the frame wants that a part begins: 24, and with its header all of it.
@@ -76,8 +50,8 @@ fn wanted_by(begun: &[u8]) -> usize
 fn sum_of(first: &[u8], second: &[u8], n: usize) -> u8
     ensures { result ≡ sum8 (take n (first.now ++ second.now)) }
 {
-    let a = lower(first.len(), n);
-    std::num::wrapping_add_u8(octets::sum(first, 0, n), octets::sum(second, 0, n - a))
+    let rest = n.saturating_sub(first.len());
+    octets::sum(first, 0, n).wrapping_add(octets::sum(second, 0, rest))
 }
 
 // The number in the four bytes from a place on.
@@ -116,14 +90,10 @@ fn entries_ok(first: &[u8], second: &[u8], len: usize, n: usize, w: usize) -> bo
     requires { Wide w × ((len ≡ 73 + n * w) × ((len ≤ 8164) × (24 + len ≤ length (first.now ++ second.now)))) }
     ensures { result ≡ entries_ok n w (take len (drop 24 (first.now ++ second.now))) }
 {
-    let mut at: usize = 73;
-    let mut i: usize = 0;
-    while at < len {
-        if !entry_at(first, second, 24 + at, w) {
+    for i in 0..n {
+        if !entry_at(first, second, 97 + i * w, w) {
             return false;
         }
-        at += w;
-        i += 1;
     }
     true
 }
@@ -144,32 +114,16 @@ fn m102_ok(front: &[u8], first: &[u8], second: &[u8], len: usize) -> bool
     entries_ok(first, second, len, n, w)
 }
 
-fn is_m102(kind: Kind) -> bool
-    ensures { result ≡ is_m102 kind }
-{
-    match kind {
-        Kind::S001 => false,
-        Kind::S002 => false,
-        Kind::S003 => false,
-        Kind::P001 => false,
-        Kind::P002 => false,
-        Kind::M101 => false,
-        Kind::M102 => true,
-        Kind::M201 => false,
-        Kind::Unknown => false,
-    }
-}
-
 // Whether the body of a long frame keeps the field rules of its type. But for M102 they look at its
 // first 45 bytes, and at its length only up to 184: the front tells all of it.
 fn fields_ok(kind: Kind, front: &[u8], first: &[u8], second: &[u8], len: usize) -> bool
     requires { Long front.now (first.now ++ second.now) × (len ≡ body_length (first.now ++ second.now)) }
     ensures { result ≡ fields_ok kind (body (first.now ++ second.now)) }
 {
-    if is_m102(kind) {
-        return m102_ok(front, first, second, len);
+    match kind {
+        Kind::M102 => m102_ok(front, first, second, len),
+        _ => rules::fields_ok(kind, &front[24..]),
     }
-    rules::fields_ok(kind, &front[24..])
 }
 
 // The reading of a frame of more than 512 bytes that is there as a whole.
@@ -177,51 +131,54 @@ fn see_long(front: &[u8], first: &[u8], second: &[u8]) -> Seen
     requires { Long front.now (first.now ++ second.now) }
     ensures { result ≡ seen_of (first.now ++ second.now) }
 {
-    let len = u32::at(front, 20);
-    let n = len as usize;
+    let body_len = u32::at(front, 20);
+    let n = body_len as usize;
     let end = 24 + n;
-    let stored = stored_at(first, second, end);
-    let v = sum_of(first, second, end);
-    if stored != v as u32 {
+    if stored_at(first, second, end) != sum_of(first, second, end) as u32 {
         return reading::blank(Refusal::Sum);
     }
     if !calendar::is_real(u64::at(front, 4)) {
         return reading::blank(Refusal::Time);
     }
     let msg_type = u32::at(front, 0);
-    let kind = rules::kind_of(msg_type);
+    let kind = Kind::from(msg_type);
     if !fields_ok(kind, front, first, second, n) {
         return reading::blank(Refusal::Field);
     }
-    let seq = SessionNumber::new(u64::at(front, 12));
     let view = frame_view::view_of(kind, &front[24..]);
-    let channel = view.channel;
-    let tick = view.tick;
     Seen {
         answer: Ok(()),
         msg_type,
-        seq,
-        channel,
-        tick,
+        seq: SessionNumber::new(u64::at(front, 12)),
+        channel: view.channel,
+        tick: view.tick,
         status: view.status,
-        body_len: len,
+        body_len,
         size: 28 + n,
     }
 }
 
-// The reading of both parts, whose first bytes, up to 512, are lent as one.
-fn see_front(front: &[u8], first: &[u8], second: &[u8]) -> Seen
-    requires { front.now ≡ take 512 (first.now ++ second.now) }
-    ensures { result ≡ seen_of (first.now ++ second.now) }
+// Whether bytes are missing.
+fn waits(answer: Result<(), Refusal>) -> bool
+    ensures { result ≡ eqb (verdict_number answer) 1 }
 {
-    let seen = reading::see(front, 0);
-    if !waits(seen) {
-        return seen;
+    answer == Err(Refusal::More)
+}
+
+// What the first bytes of both parts tell of them, of so many bytes: the reading, unless bytes are
+// missing for it and they are all there.
+fn told_by(begun: &[u8], first: &[u8], second: &[u8]) -> Option<Seen>
+    requires { begun.now ≡ take (length begun.now) (first.now ++ second.now) }
+    ensures { Tells result begun.now (first.now ++ second.now) }
+{
+    let seen = reading::see(begun, 0);
+    if !waits(seen.answer) {
+        return Some(seen);
     }
-    if is_cut(front, first.len(), second.len()) {
-        return seen;
+    if second.len() < wanted_by(begun).saturating_sub(first.len()) {
+        return Some(seen);
     }
-    see_long(front, first, second)
+    None
 }
 
 // The reading of both parts, of which at most 512 bytes are laid together.
@@ -230,22 +187,10 @@ fn see_wide(first: &[u8], second: &[u8]) -> Seen
 {
     let mut front: [u8; 512] = [0; 512];
     let m = gather(first, second, &mut front);
-    see_front(&front[..m], first, second)
-}
-
-// The reading of both parts, whose first bytes, up to 24, are lent as one.
-fn see_head(head: &[u8], first: &[u8], second: &[u8]) -> Seen
-    requires { head.now ≡ take 24 (first.now ++ second.now) }
-    ensures { result ≡ seen_of (first.now ++ second.now) }
-{
-    let seen = reading::see(head, 0);
-    if !waits(seen) {
-        return seen;
+    match told_by(&front[..m], first, second) {
+        Some(seen) => seen,
+        None => see_long(&front[..m], first, second),
     }
-    if is_cut(head, first.len(), second.len()) {
-        return seen;
-    }
-    see_wide(first, second)
 }
 
 // The reading of both parts where the header may lie across them: it is laid together and looked at
@@ -255,7 +200,10 @@ fn see_across(first: &[u8], second: &[u8]) -> Seen
 {
     let mut head: [u8; 24] = [0; 24];
     let m = gather(first, second, &mut head);
-    see_head(&head[..m], first, second)
+    match told_by(&head[..m], first, second) {
+        Some(seen) => seen,
+        None => see_wide(first, second),
+    }
 }
 
 // The reading at the front of two parts, one behind the other. Where the first tells, or where its
@@ -266,12 +214,8 @@ pub fn see(first: &[u8], second: &[u8]) -> Seen
     if first.len() < 24 {
         return see_across(first, second);
     }
-    let seen = reading::see(first, 0);
-    if !waits(seen) {
-        return seen;
+    match told_by(first, first, second) {
+        Some(seen) => seen,
+        None => see_wide(first, second),
     }
-    if is_cut(first, first.len(), second.len()) {
-        return seen;
-    }
-    see_wide(first, second)
 }

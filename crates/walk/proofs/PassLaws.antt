@@ -24,7 +24,9 @@ use Rattle.walk_laws.specs.Account as Account
 use Rattle.walk_laws.specs.Account.{Account, first, account_of}
 use Rattle.walk_laws.specs.Literal.{from_of, sight_at, from_end}
 use Rattle.reading.specs.declared.Seen.{Seen}
-use Rattle.walk_step.specs.declared.Offered.{Offered}
+use Rattle.ledger.specs.declared.Called.{Called}
+use Rattle.terms.specs.Verdicts.{verdict_number}
+use Rattle.std.specs.Prelude.{⊤}
 use Rattle.walk.specs.declared.Passed.{Passed}
 use Rattle.reading.specs.Seen.{seen_of, seen_number, says_of}
 use Rattle.walk_spec.specs.Offers.{calls_for, calls_by, offering, offer_of}
@@ -120,10 +122,10 @@ left_start s out l e =
     }
 
 -- one turn of the loop, from the book after some calls
-module _ (s : List ℕ) (p r : ℕ) (calls : Calls) (l : Ledger) (x : Seen) (o : Offered) (m : Record)
+module _ (s : List ℕ) (p r : ℕ) (calls : Calls) (l : Ledger) (x : Seen) (o : Called ⊤) (m : Record)
     (le : l ≡ ledger_of (book_after calls)) (xe : x ≡ seen_of (drop p s))
-    (ae : o.answer ≡ (offer_of (book_of l) x).number) (oe : o.ledger ≡ ledger_of (offer_of (book_of l) x).book)
-    (me : m ≡ made_of p x o.answer o.ledger.floor o.ledger.top) (g : Goes s p r) where
+    (ae : verdict_number o.answer ≡ (offer_of (book_of l) x).number) (oe : o.next ≡ ledger_of (offer_of (book_of l) x).book)
+    (me : m ≡ made_of p x (verdict_number o.answer) o.next.floor o.next.top) (g : Goes s p r) where
   book_is : book_of l ≡ book_after calls
   book_is = ap book_of le ∙ book_of_lem (book_after calls) (agrees 100 (omega arith) calls).rules.places
 
@@ -134,17 +136,17 @@ module _ (s : List ℕ) (p r : ℕ) (calls : Calls) (l : Ledger) (x : Seen) (o :
   unfolding offer_of
   next_book = book_added 100 calls (seen_number x) (calls_by x)
 
-  ledger_is : o.ledger ≡ ledger_of (offer_of (book_after calls) x).book
+  ledger_is : o.next ≡ ledger_of (offer_of (book_after calls) x).book
   ledger_is = oe ∙ ap (λ (b : Book). ledger_of (offer_of b x).book) book_is
 
-  number_is : o.answer ≡ (offer_of (book_after calls) x).number
+  number_is : verdict_number o.answer ≡ (offer_of (book_after calls) x).number
   number_is = ae ∙ ap (λ (b : Book). (offer_of b x).number) book_is
 
-  floor_is : o.ledger.floor ≡ tick_of (offer_of (book_after calls) x).book.floor
+  floor_is : o.next.floor ≡ tick_of (offer_of (book_after calls) x).book.floor
   unfolding ledger_of
   floor_is = ap (λ (k : Ledger). k.floor) ledger_is
 
-  top_is : o.ledger.top ≡ tick_of (offer_of (book_after calls) x).book.top
+  top_is : o.next.top ≡ tick_of (offer_of (book_after calls) x).book.top
   unfolding ledger_of
   top_is = ap (λ (k : Ledger). k.top) ledger_is
 
@@ -152,19 +154,19 @@ module _ (s : List ℕ) (p r : ℕ) (calls : Calls) (l : Ledger) (x : Seen) (o :
   unfolding record_by
   made_is = me ∙ rw (number_is, floor_is, top_is, xe)
 
-  ledger_next : o.ledger ≡ ledger_of (book_after more)
+  ledger_next : o.next ≡ ledger_of (book_after more)
   ledger_next = ledger_is ∙ ap ledger_of next_book
 
   left_next : left_of (book_after calls) p s ≡ first (m ∷ []) (left_of (book_after more) r s)
   unfolding account_of book_by
   left_next = rw (g.rest, ← made_is, ← xe, next_book)
 
-pub left_step : {s out₀ out out' : List ℕ} {p r records frames k : ℕ} {l l' : Ledger} {x : Seen} {o : Offered} {m : Record} (w : Left s out₀ out p records frames l)
-    → l' ≡ l → x ≡ seen_of (drop p s) → (o.answer ≡ (offer_of (book_of l') x).number) × (o.ledger ≡ ledger_of (offer_of (book_of l') x).book)
-    → m ≡ made_of p x o.answer o.ledger.floor o.ledger.top → out' ≡ noted_at records m out → Goes s p r → k ≡ accepts (seen_number x)
-    → Left s out₀ out' r (records + 1) (frames + k) (carried_of o.ledger.floor o.ledger.top o.ledger.map)
+pub left_step : {s out₀ out out' : List ℕ} {p r records frames k : ℕ} {l l' : Ledger} {x : Seen} {m : Record} (o : Called ⊤) (w : Left s out₀ out p records frames l)
+    → l' ≡ l → x ≡ seen_of (drop p s) → (verdict_number o.answer ≡ (offer_of (book_of l') x).number) × (o.next ≡ ledger_of (offer_of (book_of l') x).book)
+    → m ≡ made_of p x (verdict_number o.answer) o.next.floor o.next.top → out' ≡ noted_at records m out → Goes s p r → k ≡ accepts (seen_number x)
+    → Left s out₀ out' r (records + 1) (frames + k) (carried_of o.next.floor o.next.top o.next.map)
 unfolding written_from
-left_step {s} {out₀} {out} {out'} {p} {r} {records} {frames} {k} {l} {l'} {x} {o} {m} w le xe oe me n g ke =
+left_step {s} {out₀} {out} {out'} {p} {r} {records} {frames} {k} {l} {l'} {x} {m} o w le xe oe me n g ke =
     let read = frames_next s p r x xe g in
     let next = left_next s p r w.calls l' x o m (le ∙ w.ledger_is) xe oe.0 oe.1 me g in
     let whole = ledger_next s p r w.calls l' x o m (le ∙ w.ledger_is) xe oe.0 oe.1 me g in
@@ -178,7 +180,7 @@ left_step {s} {out₀} {out} {out'} {p} {r} {records} {frames} {k} {l} {l'} {x} 
       frames_few = omega (arith, w.frames_few, accepts_one (seen_number x) k ke);
       room = ap length n ∙ noted_length records m out ∙ w.room;
       calls = added w.calls (calls_by x);
-      ledger_is = sym (carried_is o.ledger _ whole own calm) ∙ whole;
+      ledger_is = sym (carried_is o.next _ whole own calm) ∙ whole;
       quiet = calm;
       ours = own;
       written = rw n (rw next at w.written);

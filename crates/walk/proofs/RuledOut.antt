@@ -1,10 +1,10 @@
 -- Wrong answers that the promise of `walk` rules out, as a table of what is given and what is then
 -- wrong. Assumes nothing.
 use Prim.Native.Nat.{ℕ}
-use mathlib.Core.Path.{◌≡◌, refl, ap, ap₂}
+use mathlib.Core.Path.{refl, ap₂}
 use mathlib.Core.List.{List, [], ◌∷◌, ◌++◌}
 use lib.Count.{count_trailing_zeros}
-use lib.ListN.{length, drop, replicate}
+use lib.ListN.{length, replicate}
 use Rattle.terms.specs.Letters.{spelled}
 use Rattle.terms.specs.Paper.{Paper, answer}
 use Rattle.terms.specs.Refusals.{refusal_of}
@@ -19,7 +19,7 @@ use Rattle.frame_spec.specs.Examples.{start_of_a, frame_a, frame_b, four, captur
 use Rattle.frame_view.specs.View.{view_of}
 use Rattle.tick_map.specs.Bits.{value_of, map_of, run}
 use Rattle.tick_map.specs.Ring.{rotated}
-use Rattle.ledger_spec.specs.State.{Asked, nothing, range, Book, range_rules, map_rules, sound_of, has}
+use Rattle.ledger_spec.specs.State.{Book, range_rules, map_rules, sound_of, has}
 use Rattle.ledger_spec.specs.Calls.{own_number, checked_of, number_to, raised, done, next_of, fresh, passes, taken}
 use Rattle.ledger.specs.State.{book_of, ledger_of}
 use Rattle.ledger.specs.declared.Ledger.{Ledger}

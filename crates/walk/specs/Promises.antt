@@ -1,19 +1,18 @@
 -- The code's promise in document 01's words.
-use Rattle.std.specs.Prelude.{ℕ, ◌*◌, ◌/◌, ◌≤◌, ◌<◌, ◌≡◌, List, [], ◌∷◌, length}
+use Rattle.std.specs.Prelude.{ℕ, ◌*◌, ◌/◌, ◌≤◌, ◌<◌, ◌≡◌, List, [], ◌∷◌, length, Ok, Err}
 use Rattle.std.proofs.Math.Path.{ap}
 use Rattle.std.proofs.Common.{◌∙◌, arith}
 use Rattle.std.proofs.Math.Bool.{true, false}
 use Rattle.std.proofs.Math.Dec.{leb}
 use borrow.Author.Tests.{le-leb, lt-leb}
-use Rattle.terms.specs.Paper.{Paper, answer, one_number}
+use Rattle.terms.specs.Paper.{answer}
 use Rattle.octets.specs.Octets.{laid}
 use Rattle.ledger.specs.State.{ledger_of}
 use Rattle.ledger_spec.specs.Calls.{fresh}
-use Rattle.ledger.specs.Papers.{paper_of}
-use Rattle.ledger_spec.specs.Words.{value_at}
+use Rattle.terms.specs.declared.Refusal.TheVariants.{Room}
 use Rattle.walk.specs.declared.Walked.{Walked}
 use Rattle.walk_spec.specs.Walk.{sights, walk_of, frames_of, refused_of, fits_in, walk_answer, walk_book, table_of, walk_leaves}
-use Rattle.walk.specs.Papers.{walk_paper}
+use Rattle.walk.specs.Papers.{walk_paper, counts_one}
 use Rattle.walk_spec.specs.Literal.{Walk, literal_walk}
 use Rattle.walk_spec.proofs.LiteralLaws.{literal_walk_lem}
 
@@ -22,20 +21,14 @@ use Rattle.walk_spec.proofs.LiteralLaws.{literal_walk_lem}
 -- with room for all records of the walk w: 0, its counts and its ledger, and its records one behind
 -- the other at the front of the buffer
 pub record Listed (w : Walk) (d d' : List ℕ) (x : Walked) : Type 0 where
-  pub number : (paper_of x.answer).number ≡ 0
-  pub records : x.records ≡ length w.records
-  pub frames : x.frames ≡ w.frames
-  pub refused : x.refused ≡ w.refused
+  pub answer : x.answer ≡ Ok (record { records = length w.records; frames = w.frames; refused = w.refused })
   pub ledger : x.ledger ≡ ledger_of w.ledger
   pub buffer : d' ≡ laid 0 (table_of w.records) d
 
 -- where not all records fit: 8, nothing written, and the ledger just opened (document 01, Records,
 -- paragraph 1)
 pub record Untouched (d d' : List ℕ) (x : Walked) : Type 0 where
-  pub number : (paper_of x.answer).number ≡ 8
-  pub records : x.records ≡ 0
-  pub frames : x.frames ≡ 0
-  pub refused : x.refused ≡ 0
+  pub answer : x.answer ≡ Err Room
   pub ledger : x.ledger ≡ ledger_of (fresh 100)
   pub buffer : d' ≡ d
 
@@ -50,10 +43,7 @@ module _ (s d d' : List ℕ) (x : Walked) (p : walk_paper x ≡ walk_answer s (l
       let q : walk_paper x ≡ answer 0 (length (walk_of s).records ∷ frames_of (sights s) ∷ refused_of (sights s) ∷ []) = p ∙ rw f in
       rw (literal_walk_lem s)
       (record {
-        number = one_number q;
-        records = ap (λ (y : Paper). value_at y 0) q;
-        frames = ap (λ (y : Paper). value_at y 1) q;
-        refused = ap (λ (y : Paper). value_at y 2) q;
+        answer = counts_one x.answer _ q;
         ledger = l ∙ rw f;
         buffer = o ∙ rw f;
       })
@@ -64,10 +54,7 @@ module _ (s d d' : List ℕ) (x : Walked) (p : walk_paper x ≡ walk_answer s (l
       let f : leb (length (walk_of s).records) (length d / 64) ≡ false = lt-leb (length (walk_of s).records) (length d / 64) (omega (arith, as_many)) in
       let q : walk_paper x ≡ answer 8 (0 ∷ 0 ∷ 0 ∷ []) = p ∙ rw f in
       record {
-        number = one_number q;
-        records = ap (λ (y : Paper). value_at y 0) q;
-        frames = ap (λ (y : Paper). value_at y 1) q;
-        refused = ap (λ (y : Paper). value_at y 2) q;
+        answer = counts_one x.answer _ q;
         ledger = l ∙ rw f;
         buffer = o ∙ rw f;
       }

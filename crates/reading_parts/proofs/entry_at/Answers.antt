@@ -1,5 +1,5 @@
 -- `entry_at`: in the second part, in the first, or laid together. Assumes nothing.
-use Rattle.std.proofs.Common.{◌+◌, ◌-◌, ◌≤◌, length, refl, ◌∙◌, arith, length-append, rules}
+use Rattle.std.proofs.Common.{◌+◌, ◌-◌, ◌≤◌, length, refl, ◌∙◌, arith, length-append}
 use Rattle.reading_parts.specs.LongLaws.{entry_first, entry_second, entry_across}
 use Rattle.reading_parts.proofs.entry_at.Goals as goal
 use Rattle.reading_parts.proofs.entry_at.Goals.{Start}

@@ -1,7 +1,6 @@
 -- `m102_ok`: the front has the fixed part; behind all tests the entries alone decide. Assumes
 -- nothing.
-use Rattle.std.proofs.Common.{◌≡◌, ℕ, ◌+◌, ◌*◌, ◌≤◌, List, ◌++◌, length, take, drop, sym, ap, ◌∙◌, arith, rules, eq-eqb, ne_eqb}
-use borrow.Author.Tests.{not-true, not-false}
+use Rattle.std.proofs.Common.{◌≡◌, ℕ, ◌+◌, ◌*◌, ◌≤◌, List, ◌++◌, length, take, drop, sym, ap, ◌∙◌, arith, eq-eqb, ne_eqb}
 use Rattle.octets.specs.Octets.{be}
 use Rattle.rules.specs.Fields.{m102_fixed_ok, entry_size, entries_ok}
 use Rattle.rules.specs.Sizes.{size_small, size_wide, entries_small, m102_length, m102_fields, m102_entries, same_whole}

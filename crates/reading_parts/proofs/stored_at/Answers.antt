@@ -1,5 +1,5 @@
 -- `stored_at`: the four bytes are there, and laid together. Assumes nothing.
-use Rattle.std.proofs.Common.{◌∙◌, rules}
+use Rattle.std.proofs.Common.{◌∙◌}
 use Rattle.reading_parts.specs.PartLaws.{gathered_number}
 use Rattle.reading_parts.proofs.stored_at.Goals as goal
 

@@ -1,5 +1,5 @@
 -- `wanted_by`: by the header, where it is there. Assumes nothing.
-use Rattle.std.proofs.Common.{ℕ, ◌+◌, sym, ap, ◌∙◌, rules}
+use Rattle.std.proofs.Common.{ℕ, ◌+◌, sym, ap, ◌∙◌}
 use Rattle.reading_parts.specs.PartLaws.{wanted_header, wanted_frame}
 use Rattle.reading_parts.proofs.wanted_by.Goals as goal
 
