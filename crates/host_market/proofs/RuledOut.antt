@@ -19,6 +19,13 @@ use Rattle.market_spec.specs.ValueBytes.{row_bytes, taken_of, taken_line, taken_
 use Rattle.market_spec.specs.FileBytes.{lines_bytes, values_bytes, values_answer, laid_if0, lines_taken, values_taken, lines_given, values_given, written_answer}
 use Rattle.market_spec.specs.Samples.{head_line, trailer_line, sample, head_values_bytes, sample_values}
 use Rattle.host_market.specs.Findings.{finding_paper}
+use Rattle.std.specs.Prelude.{Result, Ok, Err}
+use Rattle.market.specs.declared.Fault.{Fault}
+use Rattle.market.specs.declared.Fault.TheVariants.{Header, Sum, Room}
+use Rattle.market.specs.declared.Wrong.{Wrong}
+use Rattle.market.specs.Papers.{verdict_paper}
+use Rattle.host_market.proofs.FindingFromResultUsizeWrong.from.Reads as finding
+use Rattle.host_market.proofs.FindingFromResultUsizeWrong.from.Kinds as finding-kinds
 use Rattle.host_market.proofs.rk_market_check.Reads as rk-market-check
 use Rattle.host_market.proofs.rk_market_check.Kinds as rk-market-check-kinds
 use Rattle.host_market.proofs.rk_market_values.Reads as rk-market-values
@@ -28,6 +35,21 @@ use Rattle.host_market.proofs.rk_market_write.Kinds as rk-market-write-kinds
 
 abbrev empty : List ℕ
 empty = head_line 48 ++ trailer_line 2 0 4
+
+-- FINDING: an answer
+abbrev wrong : Fault → ℕ → Result ℕ Wrong
+wrong f p = Err (record { fault = f; place = p })
+
+abbrev pub finding_wrong : List (Row (Result ℕ Wrong) Paper)
+finding_wrong =
+    Ok 3 only fine 3
+    ∷ wrong Header 81 only fault 41 81
+    ∷ wrong Sum 0 never fine 0  -- a fault told as sound
+    ∷ wrong Room 0 only fault 8 0
+    ∷ []
+
+pub Finding_from_rules_out : RulesOut (Kept _ finding-kinds.ps finding-kinds.r finding.Post) (λ c. c.args.0) (λ c. finding_paper c.result) finding_wrong
+Finding_from_rules_out = ruled papers verdict_paper (λ c p. p) _ refl
 
 -- CHECK: a file
 abbrev pub rk_market_check_wrong : List (Row (List ℕ) Paper)

@@ -19,16 +19,18 @@ pub struct Finding {
     pub place: u64,
 }
 
-fn finding_of(answer: Result<usize, Wrong>) -> Finding
-    ensures { finding_paper result ≡ verdict_paper answer }
-{
-    let (number, place) = match answer {
-        Ok(count) => (0, count),
-        Err(wrong) => (u64::from(wrong.fault), wrong.place),
-    };
-    Finding {
-        number,
-        place: place as u64,
+impl From<Result<usize, Wrong>> for Finding {
+    ghost from_gives = { λ answer finding. finding_paper finding ≡ verdict_paper answer };
+
+    fn from(answer: Result<usize, Wrong>) -> Finding {
+        let (number, place) = match answer {
+            Ok(count) => (0, count),
+            Err(wrong) => (u64::from(wrong.fault), wrong.place),
+        };
+        Finding {
+            number,
+            place: place as u64,
+        }
     }
 }
 
@@ -36,7 +38,7 @@ fn finding_of(answer: Result<usize, Wrong>) -> Finding
 pub fn rk_market_check(file: &[u8]) -> Finding
     ensures { finding_paper result ≡ fault_of file.now }
 {
-    finding_of(market::check(file))
+    Finding::from(market::check(file))
 }
 
 // Takes the values out of a file, over the front of out: 0 and how many bytes they are, or as the
@@ -45,7 +47,7 @@ pub fn rk_market_values(file: &[u8], out: &mut [u8]) -> Finding
     ensures { (finding_paper result ≡ values_answer (length out.old) file.now)
         × (out.new ≡ laid_if0 (values_answer (length out.old) file.now) (values_bytes (values_of file.now)) out.old) }
 {
-    finding_of(market_values::values(file, out))
+    Finding::from(market_values::values(file, out))
 }
 
 // Writes the file that values make over the front of out: 0 and how long it is, or 40, 42, 43, then
@@ -54,5 +56,5 @@ pub fn rk_market_write(values: &[u8], out: &mut [u8]) -> Finding
     ensures { (finding_paper result ≡ written_answer (length out.old) values.now)
         × (out.new ≡ laid_if0 (written_answer (length out.old) values.now) (file_of (values_given values.now)) out.old) }
 {
-    finding_of(market_values::written(values, out))
+    Finding::from(market_values::written(values, out))
 }

@@ -76,7 +76,7 @@ pub struct Rows {
 }
 
 // The rows of the header.
-const HEADER: Rows = Rows { first: 0, last: 9 };
+pub const HEADER: Rows = Rows { first: 0, last: 9 };
 
 // The rows of a line's type.
 pub fn rows_of(line: LineType) -> Rows

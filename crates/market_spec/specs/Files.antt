@@ -7,11 +7,9 @@ use Rattle.std.proofs.Math.Seq.{take_all}
 use borrow.Author.Tests.{le-leb, lt-leb, eq-eqb, ne_eqb}
 use Rattle.terms.specs.Paper.{Paper}
 use Rattle.terms.specs.Cases.{two, less, same, clash}
-use Rattle.market_columns.specs.Columns.{alike, columns}
+use Rattle.market_columns.specs.Columns.{alike}
 use Rattle.market_columns.specs.ColumnLaws.{alike_self, alike_is}
 use Rattle.market_columns.specs.Tables.{length_of}
-use Rattle.market_columns.specs.Numbers.{number_at}
-use Rattle.digits.specs.Digits.{nothing, digits_at}
 use Rattle.market_spec.specs.File.{fault, fine, and_then, line_fault, begins_at, type_at, layout_of, marks, mark_ok, tail_fault, count_ok, sum_ok, closing, trailer_fault, lines_fault}
 
 -- ONE AFTER THE OTHER
@@ -139,14 +137,6 @@ layout_some t =
     (two (eqb t 2)))
     (two (eqb t 1))
 
-pub count_lacks : (k : ℕ) (s : List ℕ) → number_at 27 5 0 s ≡ nothing → count_ok k s ≡ false
-unfolding alike
-count_lacks k s e = rw e
-
-pub sum_lacks : (at : ℕ) (s : List ℕ) → digits_at (at + 8) 3 s ≡ nothing → sum_ok at s ≡ false
-unfolding alike
-sum_lacks at s e = rw e
-
 pub close_sum : (k at : ℕ) (s : List ℕ) → count_ok k s ≡ true → sum_ok at s ≡ false → closing k at s ≡ fault 46 0
 close_sum k at s e f = rw (e, f)
 
@@ -161,16 +151,3 @@ module _ (i p : ℕ) (s : List ℕ) (h : i < 5) where
 pub marks_done : (i p : ℕ) (s : List ℕ) → 5 ≤ i → tail_fault (drop i marks) p s ≡ fine p
 unfolding tail_fault
 marks_done i p s h = rw (drop_of_length-le marks {i = i} h)
-
--- the layouts as rows
-pub layout_1 : (t : ℕ) → t ≡ 1 → columns 9 26 ≡ layout_of t
-layout_1 t a = rw a
-
-pub layout_2 : (t : ℕ) → t ≡ 2 → columns 26 36 ≡ layout_of t
-layout_2 t a = rw a
-
-pub layout_3 : (t : ℕ) → t ≡ 3 → columns 36 46 ≡ layout_of t
-layout_3 t a = rw a
-
-pub layout_4 : (t : ℕ) → (t ≡ 1 → ⊥) → (t ≡ 2 → ⊥) → (t ≡ 3 → ⊥) → columns 46 58 ≡ layout_of t
-layout_4 t a b c = rw (ne_eqb t 1 a, ne_eqb t 2 b, ne_eqb t 3 c)

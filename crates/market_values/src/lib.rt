@@ -340,7 +340,7 @@ fn put_head(out: &mut [u8], s: &[u8], k: usize)
     let mut h = [0u8; 47];
     let _ = octets::put(&mut h, 1, 8, k as u64);
     let _ = octets::lay(&mut h, 9, &s[..38]);
-    put_line(out, 0, &h, 0, Rows { first: 0, last: 9 });
+    put_line(out, 0, &h, 0, market::HEADER);
 }
 
 // Lays all lines over out, behind the header.
