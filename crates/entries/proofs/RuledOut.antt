@@ -114,11 +114,11 @@ step_from_rules_out =
     refl
 
 -- of a reader: the same wrong answers
-pub step_rules_out : RulesOut (λ (c : Entries × (Result Entry Refusal × Entries)). Steps c.0 c.1.0 c.1.1) (λ c. (c.0.body.now, c.0.place)) (λ c. stop (answer_paper c.1.0) c.1.1.place) step_from_wrong
+pub Entries_step_rules_out : RulesOut (λ (c : Entries × (Result Entry Refusal × Entries)). Steps c.0 c.1.0 c.1.1) (λ c. (c.0.body.now, c.0.place)) (λ c. stop (answer_paper c.1.0) c.1.1.place) step_from_wrong
 unfolding numeral digits_of entry_size placed stands entry_at step_of place_after
-step_rules_out = ruled (beside papers numbers) (λ (i : List ℕ × ℕ). stop (step_of i.0 i.1) (place_after i.0 i.1)) (λ c p. ap₂ stop p.answered p.place) _ refl
+Entries_step_rules_out = ruled (beside papers numbers) (λ (i : List ℕ × ℕ). stop (step_of i.0 i.1) (place_after i.0 i.1)) (λ c p. ap₂ stop p.answered p.place) _ refl
 
 -- and as an iterator
-pub next_rules_out : RulesOut (λ (c : Entries × (Option Entry × Entries)). Steps c.0 (answer_of c.1.0) c.1.1) (λ c. (c.0.body.now, c.0.place)) (λ c. stop (answer_paper (answer_of c.1.0)) c.1.1.place) step_from_wrong
+pub EntriesIterator_next_rules_out : RulesOut (λ (c : Entries × (Option Entry × Entries)). Steps c.0 (answer_of c.1.0) c.1.1) (λ c. (c.0.body.now, c.0.place)) (λ c. stop (answer_paper (answer_of c.1.0)) c.1.1.place) step_from_wrong
 unfolding numeral digits_of entry_size placed stands entry_at step_of place_after
-next_rules_out = ruled (beside papers numbers) (λ (i : List ℕ × ℕ). stop (step_of i.0 i.1) (place_after i.0 i.1)) (λ c p. ap₂ stop p.answered p.place) _ refl
+EntriesIterator_next_rules_out = ruled (beside papers numbers) (λ (i : List ℕ × ℕ). stop (step_of i.0 i.1) (place_after i.0 i.1)) (λ c p. ap₂ stop p.answered p.place) _ refl

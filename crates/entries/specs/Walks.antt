@@ -2,8 +2,8 @@
 -- the one at 73 + k sizes, and every later step answers 20. By induction over the steps still to
 -- come; the invariant is that after k steps the place is 73 + k sizes.
 use Prim.Native.Nat.{ℕ, zero, suc, ◌+◌, ◌*◌, ◌<◌, ◌≤◌}
-use Rattle.std.specs.Prelude.{◌≡◌, refl, true, false, List, [], ◌∷◌, ◌++◌, map, length, get_or, replicate, Result, Ok}
-use Rattle.std.proofs.Common.{sym, ap, ◌∙◌, suc-mul, zero-mul, add-zero, zero-add, mul-le-mul_right, le_of_suc-le-suc, not-suc-le-zero}
+use Rattle.std.specs.Prelude.{◌≡◌, refl, true, false, List, [], ◌∷◌, ◌++◌, map, length, get_or, replicate, Result, Ok, ◌⊎◌}
+use Rattle.std.proofs.Common.{sym, ap, ◌∙◌, suc-mul, zero-mul, add-zero, zero-add, mul-le-mul_right, le_of_suc-le-suc, not-suc-le-zero, ⊎_elim}
 use native.Mathlib.Omega.{arith}
 use Rattle.std.specs.Borrow.{Bor}
 use Rattle.terms.specs.Paper.{Paper, refusal}
@@ -131,6 +131,12 @@ pub nothing_walk : (d : Entries) (xs : List (Result Entry Refusal)) → d.body.n
 nothing_walk d xs e r =
     turns_walked d xs r
     ∙ rw e (stuck [] d.place (length xs) (denied (stands_says [] d.place) (λ h. omega (arith, h.body))))
+
+-- FROM A REFUSED BODY, whatever reader is taken for the one that there is not, an opened one or one
+-- over nothing, every step answers 20
+pub refused_walk : (s : Bor (List ℕ)) (x : Result Entries Refusal) (d : Entries) (xs : List (Result Entry Refusal)) → Opens s x → (verdict_number x ≡ 0 → ⊥)
+    → (x ≡ Ok d) ⊎ (d.body.now ≡ []) → Turns d xs → map answer_paper xs ≡ replicate (length xs) (refusal 20)
+refused_walk s x d xs t n o r = ⊎_elim (λ (e : x ≡ Ok d). absurd (n (ap verdict_number e))) (λ (e : d.body.now ≡ []). nothing_walk d xs e r) o
 
 pub same_reader : (c d : Entries) → c.body ≡ d.body → c.place ≡ d.place → c ≡ d
 same_reader c d p q = ap (λ (m : Bor (List ℕ)). reader m c.place) p ∙ ap (λ (n : ℕ). reader d.body n) q

@@ -9,6 +9,9 @@ use Rattle.terms.specs.Counters.{session_of}
 use Rattle.rules.specs.Table.{kind_of}
 use Rattle.frame.specs.declared.Header.{Header}
 use Rattle.frame.specs.declared.Head.{Head}
+use Rattle.frame.specs.declared.Message.{Message}
+use Rattle.frame_spec.specs.Write as Text
+use Rattle.frame_spec.specs.Write.{message}
 use Rattle.frame_spec.specs.Frame.{msg_type, body_length, read_of, Whole}
 
 -- a frame's paper has MsgType, SendingTime, MsgSeqNum and BodyLength
@@ -46,6 +49,10 @@ found_told (Err w) = told_refused place_told Err w
 
 pub found_one : (x y : Result (Option ℕ) Refusal) → found_paper x ≡ found_paper y → x ≡ y
 found_one x y e = sym (found_told x) ∙ ap (told place_told Err) e ∙ found_told y
+
+-- the message that is written, in the words of the definitions
+abbrev pub text_of : Message → Text.Message
+text_of m = message m.msg_type m.sending_time m.seq.0 m.body.now
 
 -- what the checks up to the whole length say of the bytes at the front of s: their refusal is
 -- reading's, or they are passed

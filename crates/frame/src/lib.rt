@@ -6,7 +6,7 @@ ghost use Rattle.octets.specs.Octets.{be, sum8, laid};
 ghost use Rattle.octets.specs.Papers.{written_paper};
 ghost use Rattle.rules.specs.Table.{kind_of};
 ghost use Rattle.frame_spec.specs.Frame.{msg_type, body_length, read_of, reads, body_read, Whole};
-ghost use Rattle.frame.specs.Papers.{read_paper, found_paper, HeadSays};
+ghost use Rattle.frame.specs.Papers.{read_paper, found_paper, HeadSays, text_of};
 ghost use Rattle.frame_spec.specs.Write.{message, frame_of, write_of, left_of};
 ghost use Rattle.frame_spec.specs.Search.{search_of};
 
@@ -69,11 +69,11 @@ fn rest_at(bytes: &[u8], at: usize, head: Head, v: u8) -> Result<Header, Refusal
     if stored != v as u32 {
         return Err(Refusal::Sum);
     }
-    let sending_time = u64::at(bytes, at + 4);
-    rules::judge(head.kind, sending_time, &bytes[start..end])?;
+    let sent = u64::at(bytes, at + 4);
+    rules::judge(head.kind, sent, &bytes[start..end])?;
     Ok(Header {
         msg_type: u32::at(bytes, at),
-        sending_time,
+        sending_time: sent,
         seq: SessionNumber::new(u64::at(bytes, at + 12)),
         body_len: head.body_len,
     })
@@ -103,20 +103,23 @@ pub fn body_at(bytes: &[u8], at: usize) -> &[u8]
     }
 }
 
-// What writing a message into so much room returns.
-fn may_write(
+// What is written: the fields that writing does not work out.
+#[derive(Clone, Copy)]
+struct Message<'a> {
     msg_type: u32,
     sending_time: u64,
     seq: SessionNumber,
-    body: &[u8],
-    room: usize,
-) -> Result<usize, Refusal>
-    ensures { written_paper result ≡ write_of (message msg_type sending_time seq.0 body.now) room }
+    body: &'a [u8],
+}
+
+// What writing a message into so much room returns.
+fn may_write(message: Message<'_>, room: usize) -> Result<usize, Refusal>
+    ensures { written_paper result ≡ write_of (text_of message.entry) room }
 {
-    let kind = Kind::from(msg_type);
-    rules::measure(kind, body.len())?;
-    rules::judge(kind, sending_time, body)?;
-    let size = 28 + body.len();
+    let kind = Kind::from(message.msg_type);
+    rules::measure(kind, message.body.len())?;
+    rules::judge(kind, message.sending_time, message.body)?;
+    let size = 28 + message.body.len();
     if room < size {
         return Err(Refusal::Room);
     }
@@ -125,14 +128,15 @@ fn may_write(
 
 // Stores a message's frame at the front of out. It has room for all of it, so that nothing here is
 // refused.
-fn store(msg_type: u32, sending_time: u64, seq: SessionNumber, body: &[u8], out: &mut [u8])
-    requires { 28 + length body.now ≤ length out.old }
-    ensures { out.new ≡ laid 0 (frame_of (message msg_type sending_time seq.0 body.now)) out.old }
+fn store(message: Message<'_>, out: &mut [u8])
+    requires { 28 + length message.body.now ≤ length out.old }
+    ensures { out.new ≡ laid 0 (frame_of (text_of message.entry)) out.old }
 {
+    let body = message.body;
     let end = 24 + body.len();
-    let _ = octets::put(out, 0, 4, msg_type as u64);
-    let _ = octets::put(out, 4, 8, sending_time);
-    let _ = octets::put(out, 12, 8, seq.value());
+    let _ = octets::put(out, 0, 4, message.msg_type as u64);
+    let _ = octets::put(out, 4, 8, message.sending_time);
+    let _ = octets::put(out, 12, 8, message.seq.value());
     let _ = octets::put(out, 20, 4, body.len() as u64);
     let _ = octets::lay(out, 24, body);
     let v = octets::sum(out, 0, end);
@@ -150,8 +154,14 @@ pub fn write(
 ) -> Result<usize, Refusal>
     ensures { (written_paper result ≡ write_of (message msg_type sending_time seq.0 body.now) (length out.old)) × (out.new ≡ left_of (message msg_type sending_time seq.0 body.now) out.old) }
 {
-    let size = may_write(msg_type, sending_time, seq, body, out.len())?;
-    store(msg_type, sending_time, seq, body, out);
+    let message = Message {
+        msg_type,
+        sending_time,
+        seq,
+        body,
+    };
+    let size = may_write(message, out.len())?;
+    store(message, out);
     Ok(size)
 }
 
@@ -171,25 +181,17 @@ pub fn search(bytes: &[u8], from: usize) -> Result<Option<usize>, Refusal>
     if bytes.len() < from {
         return Err(Refusal::Place);
     }
-    let mut p = from;
     let mut found = None;
-    'places: while p < bytes.len() {
-        let at = p;
-        p += 1;
+    'places: for at in from..bytes.len() {
         if let Ok(head) = head_at(bytes, at) {
             let end = at + 24 + head.body_len;
             let mut v: u8 = 0;
-            let mut i = at;
-            'bytes: loop {
-                if i == end {
-                    if accepts(bytes, at, head, v) {
-                        found = Some(at);
-                        break 'places;
-                    }
-                    continue 'places;
-                }
-                v = std::num::wrapping_add_u8(v, bytes[i]);
-                i += 1;
+            for i in at..end {
+                v = v.wrapping_add(bytes[i]);
+            }
+            if accepts(bytes, at, head, v) {
+                found = Some(at);
+                break 'places;
             }
         }
     }

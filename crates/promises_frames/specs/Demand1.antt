@@ -34,6 +34,7 @@ octets_answers =
     let u64_at_one_answer = octets.u64_at_one_answer in
     let sum_one_answer = octets.sum_one_answer in
     let sum_after_one_answer = octets.sum_after_one_answer in
+    let has_room_one_answer = octets.has_room_one_answer in
     let fill_one_answer = octets.fill_one_answer in
     let put_one_answer = octets.put_one_answer in
     let lay_one_answer = octets.lay_one_answer in
@@ -89,7 +90,8 @@ entries_answers =
     let open_at_one_answer = entries.open_at_one_answer in
     let reader_of_one_answer = entries.reader_of_one_answer in
     let reader_of_one_reader = entries.reader_of_one_reader in
-    let step_one_answer = entries.step_one_answer in
+    let Entries_step_one_answer = entries.Entries_step_one_answer in
+    let EntriesIterator_next_one_answer = entries.EntriesIterator_next_one_answer in
     let step_from_one_answer = entries.step_from_one_answer in
     named
 
@@ -206,6 +208,15 @@ frame_buffers : Named
 frame_buffers =
     let write_one_buffer = frame.write_one_buffer in
     let write_refused_keeps = frame.write_refused_keeps in
+    named
+
+-- the reader itself is lent to a step
+entries_buffers : Named
+entries_buffers =
+    let Entries_step_one_buffer = entries.Entries_step_one_buffer in
+    let Entries_step_refused_keeps = entries.Entries_step_refused_keeps in
+    let EntriesIterator_next_one_buffer = entries.EntriesIterator_next_one_buffer in
+    let EntriesIterator_next_refused_keeps = entries.EntriesIterator_next_refused_keeps in
     named
 
 scrub_buffers : Named

@@ -3,11 +3,10 @@
 -- `HostScrubbed` of `host_frames` have it. The search rule is `HostFound`'s own. Bytes are below
 -- 256 (`Bytes`), and a message's numbers fit their widths (`Widths`): both hold of every value that
 -- a host can lend.
-use Rattle.std.specs.Prelude.{ℕ, ◌+◌, ◌≤◌, ◌≡◌, ◌↔◌, List, [], ◌∷◌, length, take, drop, get_or}
+use Rattle.std.specs.Prelude.{ℕ, ◌+◌, ◌≤◌, ◌≡◌, ◌↔◌, List, [], ◌∷◌, length, take, drop, get_or, Ok}
 use Rattle.std.proofs.Common.{sym, ap, ◌∙◌, drop-drop, get_or-drop}
 use Rattle.terms.specs.Paper.{answer, one_number}
 use Rattle.octets.specs.Octets.{Bytes}
-use Rattle.octets.specs.declared.Written.TheVariants as written
 use Rattle.frame_spec.specs.Frame.{body_length, read_of}
 use Rattle.frame_spec.specs.Given.{Reads0}
 use Rattle.frame_spec.specs.Outcomes.{read_length}
@@ -77,10 +76,10 @@ module _ {d d' : List ℕ} {x told : ℕ} (c : HostScrubbed d x told d') where
   scrub_answers : x ≡ (read_of d).number
   scrub_answers = one_number c.scrubbing ∙ scrub_number d
 
-  pub host_scrubbed_frame : (read_of d).number ≡ 0 → (x ≡ 0) × ScrubbedFrame d d' (written.Bytes told)
+  pub host_scrubbed_frame : (read_of d).number ≡ 0 → (x ≡ 0) × ScrubbedFrame d d' (Ok told)
   host_scrubbed_frame z =
       let e : x ≡ 0 = scrub_answers ∙ z in
-      (e, scrubbed_frame d d' (written.Bytes told) (record { paper = rw e at c.scrubbing; buffer = c.buffer }) z)
+      (e, scrubbed_frame d d' (Ok told) (record { paper = rw e at c.scrubbing; buffer = c.buffer }) z)
 
   -- what does not read is passed on as it stands, with reading's number
   pub host_passed_on : ((read_of d).number ≡ 0 → ⊥) → (x ≡ (read_of d).number) × (d' ≡ d)

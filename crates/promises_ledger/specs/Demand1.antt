@@ -61,7 +61,6 @@ words_answers =
     let state_of_one_answer = host_words.state_of_one_answer in
     let first_asked_one_answer = host_words.first_asked_one_answer in
     let last_asked_one_answer = host_words.last_asked_one_answer in
-    let number_of_one_answer = host_words.number_of_one_answer in
     let keep_one_answer = host_words.keep_one_answer in
     let told_bytes_one_answer = host_words.told_bytes_one_answer in
     named

@@ -17,14 +17,6 @@ use private::{Parts, Span};
 use rules::Kind;
 use terms::Refusal;
 
-// Paints the bytes from a up to e: that part of the lent frame is passed on and filled.
-fn paint(buf: &mut [u8], a: usize, e: usize, fill: u8)
-    requires { (a ≤ e) × (e ≤ length buf.old) }
-    ensures { buf.new ≡ laid a (replicate (e - a) fill) buf.old }
-{
-    octets::fill(&mut buf[a..e], fill);
-}
-
 // Paints a span of the body that lies after the 24 header bytes of buf. v is a sum that counts its
 // bytes; the answer is that sum then. It is worked out before the span is filled, from its bytes
 // alone. They are lent alone: of a span whose length is a constant the compiler then makes no loop.
@@ -35,7 +27,7 @@ fn paint_span(buf: &mut [u8], s: Span, v: u8) -> u8
     let a = 24 + s.place;
     let e = a + s.len;
     let w = octets::sum_after(v, &buf[a..e], 0, s.len, s.fill);
-    paint(buf, a, e, s.fill);
+    octets::fill(&mut buf[a..e], s.fill);
     w
 }
 
@@ -95,37 +87,6 @@ pub fn scrub(buf: &mut [u8]) -> Result<usize, Refusal>
     Ok(28 + header.body_len)
 }
 
-// Paints the frame that lies from a up to e, as `repaint` does: that part of the lent buffer
-// is passed on.
-fn repaint_part(out: &mut [u8], a: usize, e: usize, kind: Kind, n: usize, v: u8)
-    requires { (a ≤ e) × ((e ≤ length out.old) × ((28 + n ≤ e - a) × ((suits kind n ≡ true) × ((v ≡ sum8 (take (24 + n) (take (e - a) (drop a out.old)))) × SmallSum (24 + n) (take (e - a) (drop a out.old)))))) }
-    ensures { out.new ≡ laid a (scrubbed_as kind n (take (e - a) (drop a out.old))) out.old }
-{
-    repaint(&mut out[a..e], kind, n, v);
-}
-
-// Writes the frame that was read at a place of bytes, with that type and body length, over out from
-// `to` on, scrubbed; or returns 8.
-fn lay_scrubbed(
-    bytes: &[u8],
-    at: usize,
-    out: &mut [u8],
-    to: usize,
-    kind: Kind,
-    n: usize,
-) -> Result<usize, Refusal>
-    requires { ((read_of (drop at bytes.now)).number ≡ 0) × ((kind ≡ kind_of (msg_type (drop at bytes.now))) × (n ≡ body_length (drop at bytes.now))) }
-    ensures { (written_paper result ≡ into_answer (drop at bytes.now) to (length out.old))
-        × (out.new ≡ into_leaves (drop at bytes.now) to out.old) }
-{
-    let end = at + 28 + n;
-    let size = octets::lay(out, to, &bytes[at..end])?;
-    let v = u8::at(bytes, end - 1);
-    let behind = to + size;
-    repaint_part(out, to, behind, kind, n, v);
-    Ok(size)
-}
-
 // Reads the frame at a place and writes it over out from `to` on, scrubbed; returns how many bytes
 // it has. A refusal of reading is passed on, and 8 is given where out has no room for it; then out
 // keeps its bytes. So do its bytes beside the frame.
@@ -135,5 +96,11 @@ pub fn scrub_into(bytes: &[u8], at: usize, out: &mut [u8], to: usize) -> Result<
 {
     let header = frame::read_at(bytes, at)?;
     let kind = Kind::from(header.msg_type);
-    lay_scrubbed(bytes, at, out, to, kind, header.body_len)
+    let n = header.body_len;
+    let end = at + 28 + n;
+    let size = octets::lay(out, to, &bytes[at..end])?;
+    let v = u8::at(bytes, end - 1);
+    let behind = to + size;
+    repaint(&mut out[to..behind], kind, n, v);
+    Ok(size)
 }

@@ -5,23 +5,33 @@ use Prim.Native.Nat.{ℕ}
 use Rattle.terms.specs.OneAnswer.{OneAnswer}
 use Rattle.terms.specs.Counters.{session_of}
 use Rattle.terms.proofs.Verdicts.{verdict_one}
-use Rattle.terms.specs.declared.Verdict.{Verdict}
+use Rattle.terms.specs.declared.Refusal.{Refusal}
+use Rattle.terms.specs.Refusals.{number_of, refusal_of, refusal_pos}
+use Rattle.terms.proofs.Refusals.{refusal_back}
+use Rattle.terms.specs.Paper.{pick}
+use Rattle.std.specs.Prelude.{Option, Some, None, Result, Ok, Err}
+use lib.Dec.{eqb}
+use borrow.Author.Tests.{ne_eqb}
 use Rattle.session_spec.specs.Faults as faults
 use Rattle.session_spec.specs.Table as table
 use Rattle.session_spec.specs.Calls as calls
-use Rattle.session.specs.Papers.{state_of, kind_of, fault_of, event_of, line_of, said_of}
+use Rattle.session.specs.Papers.{state_of, kind_of, fault_of, event_of, sent_kind, sent_number, answer_of, line_of, said_of}
 use Rattle.session.specs.declared.State.{State}
 use Rattle.session.specs.declared.State.TheVariants.{New, Waiting, Active, Leaving, Over}
 use Rattle.session.specs.declared.Kind.{Kind}
-use Rattle.session.specs.declared.Kind.TheVariants.{Nothing, S001, S002, S003, P002}
+use Rattle.session.specs.declared.Kind.TheVariants.{S001, S002, S003, P002}
 use Rattle.session.specs.declared.Fault.{Fault}
 use Rattle.session.specs.declared.Fault.TheVariants as fault
 use Rattle.session.specs.declared.Event.{Event}
 use Rattle.session.specs.declared.Event.TheVariants.{Begin, Time, Leave, Ask, Logon, Logout, Other, Faulty}
 use Rattle.session.specs.declared.Session.{Session}
+use Rattle.session.specs.declared.Message.{Message}
+use Rattle.session.specs.declared.Outcome.{Outcome}
 use Rattle.session.specs.declared.Turn.{Turn}
 use Rattle.session.specs.declared.Arrival.{Arrival}
 use Rattle.session.specs.declared.Told.{Told}
+use Rattle.session.proofs.RefusalFromFault.from.Reads as refusal
+use Rattle.session.proofs.RefusalFromFault.from.Kinds as refusal-kinds
 use Rattle.session.proofs.Session.opened.Reads as opened
 use Rattle.session.proofs.Session.opened.Kinds as opened-kinds
 use Rattle.session.proofs.Session.turn.Reads as turn
@@ -47,19 +57,30 @@ state_back Active = refl
 state_back Leaving = refl
 state_back Over = refl
 
-abbrev kind_from : table.Kind → Kind
-kind_from table.none = Nothing
-kind_from table.S001 = S001
-kind_from table.S002 = S002
-kind_from table.S003 = S003
-kind_from table.P002 = P002
+abbrev message_from : table.Kind → ℕ → Option Message
+message_from table.none n = None
+message_from table.S001 n = Some (record { kind = S001; number = session_of n })
+message_from table.S002 n = Some (record { kind = S002; number = session_of n })
+message_from table.S003 n = Some (record { kind = S003; number = session_of n })
+message_from table.P002 n = Some (record { kind = P002; number = session_of n })
 
-kind_back : (k : Kind) → kind_from (kind_of k) ≡ k
-kind_back Nothing = refl
-kind_back S001 = refl
-kind_back S002 = refl
-kind_back S003 = refl
-kind_back P002 = refl
+kind_back : (k : Kind) (n : ℕ) → message_from (kind_of (Some k)) n ≡ Some (record { kind = k; number = session_of n })
+kind_back S001 n = refl
+kind_back S002 n = refl
+kind_back S003 n = refl
+kind_back P002 n = refl
+
+message_back : (m : Option Message) → message_from (sent_kind m) (sent_number m) ≡ m
+message_back None = refl
+message_back (Some m) = kind_back m.kind m.number.0
+
+-- a refusal from its number, which 0 is none of
+abbrev answer_from : calls.Answer → Result Outcome Refusal
+answer_from a = pick (eqb a.number 0) (Ok (record { message = message_from a.kind a.seq; dead = a.dead })) (Err (refusal_of a.number))
+
+answer_back : (r : Result Outcome Refusal) → answer_from (answer_of r) ≡ r
+answer_back (Ok o) = rw (message_back o.message)
+answer_back (Err why) = rw (ne_eqb (number_of why) 0 (refusal_pos why)) (ap Err (refusal_back why))
 
 abbrev fault_from : faults.Fault → Fault
 fault_from faults.More = fault.More
@@ -126,26 +147,23 @@ session_back s = rw (state_back s.state)
 pub session_one : (s t : Session) → line_of s ≡ line_of t → s ≡ t
 session_one s t e = sym (session_back s) ∙ ap session_from e ∙ session_back t
 
--- a turn with this verdict
-abbrev turn_from : Verdict → calls.Answer → calls.Line → Turn
-turn_from v a l = record { next = session_from l; answer = v; kind = kind_from a.kind; number = session_of a.seq; dead = a.dead }
+abbrev turn_from : calls.Answer → calls.Line → Turn
+turn_from a l = record { next = session_from l; answer = answer_from a }
 
-turn_back : (t : Turn) → turn_from t.answer (said_of t) (line_of t.next) ≡ t
-turn_back t = rw (state_back t.next.state, kind_back t.kind)
-
-turn_as : (v w : Verdict) (a b : calls.Answer) (l m : calls.Line) → v ≡ w → a ≡ b → l ≡ m → turn_from v a l ≡ turn_from w b m
-turn_as v w a b l m p q r = rw (p, q, r)
+turn_back : (t : Turn) → turn_from (said_of t) (line_of t.next) ≡ t
+turn_back t = rw (state_back t.next.state, answer_back t.answer)
 
 pub turn_one : (t u : Turn) → said_of t ≡ said_of u → line_of t.next ≡ line_of u.next → t ≡ u
-turn_one t u p q =
-    let v = verdict_one t.answer u.answer (ap (λ (a : calls.Answer). a.number) p) in
-    sym (turn_back t) ∙ turn_as _ _ _ _ _ _ v p q ∙ turn_back u
+turn_one t u p q = sym (turn_back t) ∙ ap₂ turn_from p q ∙ turn_back u
 
 abbrev arrival_from : Turn → ℕ → Arrival
 arrival_from t n = record { turn = t; length = n }
 
 pub arrival_one : (x y : Arrival) → said_of x.turn ≡ said_of y.turn → line_of x.turn.next ≡ line_of y.turn.next → x.length ≡ y.length → x ≡ y
 arrival_one x y p q r = ap₂ arrival_from (turn_one x.turn y.turn p q) r
+
+pub RefusalFromFault_from_one_answer : OneAnswer _ refusal-kinds.ps refusal-kinds.r refusal.Post
+RefusalFromFault_from_one_answer κs a x y s t p q = sym (refusal_back x) ∙ ap refusal_of (p ∙ sym q) ∙ refusal_back y
 
 pub Session-opened-one-answer : OneAnswer _ opened-kinds.ps opened-kinds.r opened.Post
 Session-opened-one-answer κs a x y s t p q = session_one x y (p ∙ sym q)

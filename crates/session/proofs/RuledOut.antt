@@ -12,11 +12,14 @@ use Rattle.rules.specs.Fields.{s001_ok, p001_ok, fields_ok, judge_of}
 use Rattle.frame_spec.specs.Frame.{checked, read_of}
 use Rattle.frame_spec.specs.Write.{plain_of, frame_of}
 use Rattle.frame_spec.specs.Examples.{start_of_a, frame_a, frame_b, ending, A, heartbeat, logon}
-use Rattle.session_spec.specs.Faults.{Sum, fault_number, fault_numbered}
+use Rattle.session_spec.specs.Faults.{Fault, More, Sum, Time as TimeFault, fault_number, fault_numbered}
 use Rattle.session_spec.specs.Table.{State, new, waiting, active, leaving, over, Kind, none, S001, S002, S003, P002, Event, Begin, Time, Leave, Ask, Logon, Logout, Other, Faulty}
 use Rattle.session_spec.specs.Calls.{Line, Answer, one, sound_of, dead_at, due_at, cell_of, own_number, number_to, done, answer_to, next_of, opened}
-use Rattle.session.specs.Papers.{event_of, line_of, said_of}
+use Rattle.session.specs.Papers.{fault_of, event_of, line_of, said_of}
+use Rattle.terms.specs.Refusals.{number_of}
 use Rattle.session.specs.Arrivals.{event_in, length_in}
+use Rattle.session.proofs.RefusalFromFault.from.Reads as refusal
+use Rattle.session.proofs.RefusalFromFault.from.Kinds as refusal-kinds
 use Rattle.session.proofs.Session.opened.Reads as opened-reads
 use Rattle.session.proofs.Session.opened.Kinds as opened-kinds
 use Rattle.session.proofs.Session.turn.Reads as turn
@@ -85,6 +88,17 @@ closed = line over 6 8 1000 1000 1000 1000
 
 abbrev full : ℕ
 full = 18446744073709551615
+
+-- FROM: a fault, and the number of its refusal
+abbrev pub RefusalFromFault_from_wrong : List (Row Fault ℕ)
+RefusalFromFault_from_wrong =
+    More only 1  -- counted from 0
+    ∷ Sum only 5
+    ∷ TimeFault never 30  -- a number of the session's own
+    ∷ []
+
+pub RefusalFromFault_from_rules_out : RulesOut (Kept _ refusal-kinds.ps refusal-kinds.r refusal.Post) (λ c. fault_of c.args.0) (λ c. number_of c.result) RefusalFromFault_from_wrong
+RefusalFromFault_from_rules_out = ruled numbers fault_number (λ c p. p) _ refl
 
 -- TURN
 abbrev pub turn_wrong : List (Row Given (List ℕ))

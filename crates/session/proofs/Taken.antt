@@ -1,6 +1,6 @@
 -- An ordinary frame that a live line takes: its cell is to send nothing and to stay, and each test
 -- passes. Assumes nothing.
-use mathlib.Core.Path.{◌≡◌, refl, sym, ap, ◌∙◌}
+use mathlib.Core.Path.{◌≡◌, refl, ◌∙◌}
 use mathlib.Core.Bool.{Bool, true, false, ◌&&◌, ◌||◌, not}
 use Prim.Native.Nat.{ℕ, ◌+◌, ◌≤◌}
 use native.Mathlib.Nat.{add-zero}
@@ -10,7 +10,7 @@ use Rattle.session_spec.specs.Table.{State, new, waiting, active, leaving, over,
 use Rattle.session_spec.specs.Calls.{Line, last_number, sound_of, listening, clock_of, cell_of, misnumbered, gone, spent, own_number, refused, done, answer_to, next_of}
 use Rattle.session_spec.proofs.Fine.{or_false, step_fits}
 use Rattle.session_spec.proofs.Outcome.{done_call}
-use Rattle.session.specs.Taken.{is_other, takes, taken_line}
+use Rattle.session.specs.Taken.{takes, taken_line}
 
 all_true : (a b c : Bool) → a && (not b && not c) ≡ true → (a ≡ true) × ((b ≡ false) × (c ≡ false))
 all_true true false false e = (refl, (refl, refl))

@@ -3,7 +3,8 @@
 use Rattle.std.proofs.Common.{◌≡◌, length, sym, refl, ◌∙◌}
 use Rattle.std.proofs.lemmas.Result.{err_from_is_err_and}
 use Rattle.frame_spec.specs.WriteLaws.{measure_in, judgement_in, write_measured, write_judged, write_room, write_done}
-use Rattle.frame_spec.specs.Write.{Message, message}
+use Rattle.frame_spec.specs.Write.{Message}
+use Rattle.frame.specs.Papers.{text_of}
 use Rattle.rules.specs.Fields.{judge_of}
 use Rattle.rules.specs.Outcomes.{measure_same, judge_same}
 use Rattle.rules.specs.Table.{kind_of, kind_is, measure_of}
@@ -13,15 +14,15 @@ use Rattle.frame.proofs.may_write.Goals.{After-from-kind, In_ok-measure, In_ok-j
 
 -- the message, as the function was called
 abbrev text : goal.After-from-kind → Message
-text c = message c.args.msg_type c.args.sending_time c.args.seq.0 c.args.body.now
+text c = text_of c.args.message
 
-kind : (c : goal.After-from-kind) → kind_of c.args.msg_type ≡ c.from-kind.result
+kind : (c : goal.After-from-kind) → kind_of c.args.message.msg_type ≡ c.from-kind.result
 kind c = sym (kind_is _ _ c.from-kind.ensures)
 
-measured : (c : goal.After-from-kind) → measure_in (text c) ≡ measure_of c.from-kind.result (length c.args.body.now)
+measured : (c : goal.After-from-kind) → measure_in (text c) ≡ measure_of c.from-kind.result (length c.args.message.body.now)
 measured c = measure_same _ _ _ _ (kind c) refl
 
-judged : (c : goal.After-from-kind) → judgement_in (text c) ≡ judge_of c.from-kind.result c.args.sending_time c.args.body.now
+judged : (c : goal.After-from-kind) → judgement_in (text c) ≡ judge_of c.from-kind.result c.args.message.sending_time c.args.message.body.now
 judged c = judge_same _ _ _ _ _ _ (kind c) refl refl
 
 fine : (c : goal.In_ok-measure) → measure_in (text (goal.at.In_ok-measure c).After-from-kind) ≡ 0

@@ -27,10 +27,10 @@ stored c = let s = c in c.at-stored.ensures ∙ stored_at s.args.at s.args.bytes
 right : (c : goal.Else-stored-v) → check_sum (text (goal.at.Else-stored-v c).Start) ≡ sum8 (plain (text (goal.at.Else-stored-v c).Start))
 right c = sym (stored (goal.at.Else-stored-v c).After-at-stored) ∙ c.if-stored-v.false ∙ sum (goal.at.Else-stored-v c).Start
 
-judged : (c : goal.After-judge) → judgement (text (goal.at.After-judge c).Start) ≡ judge_of c.args.head.kind c.at-sending_time.result (take (c.args.at + 24 + c.args.head.body_len - (c.args.at + 24)) (drop (c.args.at + 24) c.args.bytes.now))
+judged : (c : goal.After-judge) → judgement (text (goal.at.After-judge c).Start) ≡ judge_of c.args.head.kind c.at-sent.result (take (c.args.at + 24 + c.args.head.body_len - (c.args.at + 24)) (drop (c.args.at + 24) c.args.bytes.now))
 judged c =
     let s = c in
-    judge_same _ _ _ _ _ _ (sym s.requires.0.0) (sym (c.at-sending_time.ensures ∙ be_at s.args.at s.args.bytes.now 8 4))
+    judge_same _ _ _ _ _ _ (sym s.requires.0.0) (sym (c.at-sent.ensures ∙ be_at s.args.at s.args.bytes.now 8 4))
     (sym (part_body s.args.at s.args.bytes.now s.args.head.body_len s.requires.0.1))
 
 frame_is : (s : List ℕ) (t time q n : ℕ) → t ≡ msg_type s → time ≡ sending_time s → q ≡ msg_seq_num s → n ≡ body_length s → answer 0 (t ∷ time ∷ q ∷ n ∷ []) ≡ accepted s
@@ -50,7 +50,7 @@ returns-in_err-judge c =
 pub returns : goal.returns
 returns c =
     let s = c in
-    frame_is _ _ _ _ _ (c.at.ensures ∙ be_here s.args.at s.args.bytes.now 4) (c.at-sending_time.ensures ∙ be_at s.args.at s.args.bytes.now 8 4)
+    frame_is _ _ _ _ _ (c.at.ensures ∙ be_here s.args.at s.args.bytes.now 4) (c.at-sent.ensures ∙ be_at s.args.at s.args.bytes.now 8 4)
     (ap (λ (x : SessionNumber). x.0) c.new.ensures ∙ c.at-2.ensures ∙ be_at s.args.at s.args.bytes.now 8 12)
     s.requires.0.1
     ∙ sym (read_frame _ c.requires.0.2 (right (goal.at.returns c).Else-stored-v) (judged (goal.at.returns c).After-judge ∙ sym c.in_ok-judge.ensures))

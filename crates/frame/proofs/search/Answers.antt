@@ -1,60 +1,45 @@
-use Rattle.frame_spec.specs.Places.{inside_at}
-use Rattle.frame_spec.specs.SearchLaws.{first_hit, first_miss, first_end, search_beyond, search_first, refused_read}
-use Rattle.frame.specs.Papers.{found_paper, HeadSays}
-use Rattle.frame_spec.specs.Frame.{reads}
-use Rattle.octets.specs.Sums.{sum8_on}
-use Rattle.octets.specs.Octets.{sum8, sum_of}
+-- `search`: a head's refusal is reading's, so that place does not read; of a frame that is there as
+-- a whole all bytes are passed. Assumes nothing.
+use Rattle.std.proofs.Common.{◌≡◌, ℕ, ◌+◌, ◌≤◌, false, length, drop, Option, Ok, refl, sym, ap, ◌∙◌, arith}
 use native.Mathlib.Nat.{sub_self}
-use Rattle.std.proofs.Common.{Ok, Option, ◌≡◌, ℕ, ◌+◌, ◌≤◌, false, List, length, drop, sym, ap, ◌∙◌, arith}
+use Rattle.octets.specs.Octets.{sum8, sum_of}
+use Rattle.octets.specs.Sums.{sum8_on}
+use Rattle.frame_spec.specs.Frame.{reads}
+use Rattle.frame_spec.specs.Places.{inside_at}
+use Rattle.frame_spec.specs.SearchLaws.{first_hit, first_miss, first_end, search_beyond, search_first, refused_read, all_passed}
+use Rattle.frame.specs.Papers.{found_paper}
 use Rattle.frame.proofs.search.Goals as goal
-use Rattle.frame.proofs.search.Goals.{After-accepts, In-Ok, In-places, In_default, Start}
-
--- the turn that a place of the code stands in, its start place, and what lies behind that
-abbrev In : Type 0
-In = goal.In-places
-
-abbrev place : In → ℕ
-place c = c.before.places.p
-
-abbrev text : In → List ℕ
-text c = drop (place c) c.args.bytes.now
-
-abbrev turn : goal.In-Ok → In
-turn c = (goal.at.In-Ok c).In-places
-
--- what the head said, in the arm of its case
-whole : (c : goal.In-Ok) → HeadSays (Ok c.in-Ok.head) (text (turn c))
-whole c = rw c.in-Ok.is at c.head_at.ensures
-
-refused : (c : goal.In_default) → reads (text (goal.at.In_default c).In-places) ≡ false
-refused c = refused_read _ c.in_default.field-0 (rw c.in_default.is at c.head_at.ensures)
+use Rattle.frame.proofs.search.Goals.{In-Ok, in-Ok+else-loop-i-test+else-accepts, in_default}
 
 -- the frame ends within the bytes
-inside : (c : goal.In-Ok) → place (turn c) + (28 + c.in-Ok.head.body_len) ≤ length c.args.bytes.now
-inside c = inside_at (place (turn c)) c.args.bytes.now c.in-Ok.head.body_len (whole c).1 (whole c).2.there
-
--- the way from the inner loop's test to the head's case
-abbrev known : goal.After-accepts → goal.In-Ok
-known c = (goal.at.After-accepts c).In-Ok
+inside : (c : goal.In-Ok) → c.places.at + (28 + c.in-Ok.head.body_len) ≤ length c.args.bytes.now
+inside c = inside_at c.places.at c.args.bytes.now c.in-Ok.head.body_len c.in-Ok.ensures.1 c.in-Ok.ensures.2.there
 
 pub returns-then-bytes-from : goal.returns-then-bytes-from
-returns-then-bytes-from c = sym (search_beyond _ _ (omega arith))
+returns-then-bytes-from c = sym (search_beyond _ _ c.if-bytes-from.true)
 
-pub bytes-init : goal.bytes-init
+pub places-init : goal.places-init
+places-init c = (refl, refl)
+
+pub loop-i-init : goal.loop-i-init
 unfolding sum8 sum_of
-bytes-init c = (omega arith, (omega arith, (rw (sub_self (place (turn (goal.at.bytes-init c).In-Ok))), (turn (goal.at.bytes-init c).In-Ok).before.places.invariant.1.1)))
+loop-i-init c = rw (sub_self c.places.at) refl
 
-pub places-preserved-then-i-end : goal.places-preserved-then-i-end
-places-preserved-then-i-end c = (omega arith, (sym (first_miss _ _ (omega arith) (sym c.accepts.ensures ∙ c.if-accepts.false)) ∙ (turn (goal.at.places-preserved-then-i-end c).In-Ok).before.places.invariant.1.0, c.bytes.invariant.1.1.1))
+pub loop-i-preserved : goal.loop-i-preserved
+loop-i-preserved c = sum8_on _ _ _ _ c.loop-i.auto.i (omega (arith, inside (goal.at.loop-i-preserved c).In-Ok)) c.loop-i.invariant
 
-pub bytes-preserved : goal.bytes-preserved
-bytes-preserved c = (omega arith, (omega arith, (c.wrapping_add_u8-v.ensures.value ∙ sum8_on _ _ _ _ c.bytes.invariant.0 (omega (arith, inside (goal.at.bytes-preserved c).In-Ok)) c.bytes.invariant.1.1.0, c.bytes.invariant.1.1.1)))
+pub accepts-requires : goal.accepts-requires
+accepts-requires c =
+    let n = c.in-Ok.head.body_len in
+    (c.in-Ok.ensures, all_passed c.args.bytes.now c.places.at n c.loop-i.i c.loop-i.v (omega (arith, c.loop-i.auto.i-end (omega arith))) c.loop-i.invariant)
 
 pub places-preserved : goal.places-preserved
-places-preserved c = (omega arith, (sym (first_miss _ _ (omega arith) (refused (goal.at.places-preserved c).In_default)) ∙ c.places.invariant.1.0, c.places.invariant.1.1))
+places-preserved c =
+    let miss : reads (drop c.places.at c.args.bytes.now) ≡ false = elim c.match-head_at.branch [ in-Ok+else-loop-i-test+else-accepts w ↦ sym w.accepts.ensures ∙ w.if-accepts.false | in_default w ↦ refused_read _ w.in_default.field-0 w.in_default.ensures ] in
+    (sym (first_miss _ _ c.places-test.true miss) ∙ c.places.invariant.0, c.places.invariant.1)
 
 pub returns-after-places : goal.returns-after-places
-returns-after-places c = ap (λ (o : Option ℕ). found_paper (Ok o)) c.places.invariant.1.1 ∙ sym (first_end _ _ c.places-test.false) ∙ c.places.invariant.1.0 ∙ sym (search_first _ _ (omega arith))
+returns-after-places c = ap (λ (o : Option ℕ). found_paper (Ok o)) c.places.invariant.1 ∙ sym (first_end _ _ c.places-test.false) ∙ c.places.invariant.0 ∙ sym (search_first _ _ c.if-bytes-from.false)
 
 pub returns-then-accepts : goal.returns-then-accepts
-returns-then-accepts c = sym (first_hit _ _ (omega arith) (sym c.accepts.ensures ∙ c.if-accepts.true)) ∙ (turn (goal.at.returns-then-accepts c).In-Ok).before.places.invariant.1.0 ∙ sym (search_first _ _ (omega arith))
+returns-then-accepts c = sym (first_hit _ _ c.places-test.true (sym c.accepts.ensures ∙ c.if-accepts.true)) ∙ c.places.invariant.0 ∙ sym (search_first _ _ c.if-bytes-from.false)

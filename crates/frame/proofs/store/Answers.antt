@@ -4,7 +4,8 @@
 use Rattle.std.proofs.Common.{◌≡◌, ℕ, ◌+◌, ◌≤◌, List, ◌++◌, length, take, refl, ap, ◌∙◌, arith, length-append, le-leb}
 use Rattle.octets.specs.Papers.{laid_there}
 use Rattle.frame_spec.specs.WriteLaws.{plain_length, put_next}
-use Rattle.frame_spec.specs.Write.{Message, message, plain_of, frame_of}
+use Rattle.frame_spec.specs.Write.{Message, plain_of, frame_of}
+use Rattle.frame.specs.Papers.{text_of}
 use Rattle.octets.specs.Overlays.{take_front}
 use Rattle.octets.specs.Numerals.{length_digits}
 use Rattle.octets.specs.Octets.{bytes_of, laid, sum8}
@@ -28,7 +29,7 @@ abbrev entry6 : goal.After-put-5 → goal.Start
 entry6 c = (goal.at.After-put-5 c).Start
 
 abbrev text : goal.Start → Message
-text c = message c.args.msg_type c.args.sending_time c.args.seq.0 c.args.body.now
+text c = text_of c.args.message
 
 -- the frame's parts so far
 abbrev parts1 : Message → List ℕ
@@ -43,7 +44,7 @@ parts3 m = parts2 m ++ bytes_of 8 m.seq
 abbrev parts4 : Message → List ℕ
 parts4 m = parts3 m ++ bytes_of 4 (length m.content)
 
-room : (c : goal.Start) → 28 + length c.args.body.now ≤ length c.args.out.now
+room : (c : goal.Start) → 28 + length c.args.message.body.now ≤ length c.args.out.now
 room c = c.requires
 
 laid1 : (c : goal.After-put) → c.put.new.d ≡ laid 0 (parts1 (text (goal.at.After-put c).Start)) c.args.out.now
@@ -66,7 +67,7 @@ laid5 c = put_next 24 _ _ _ _ _ _ c.lay.ensures.1 refl (laid4 (goal.at.After-lay
 sum : (c : goal.After-put-5) → c.sum-v.result ≡ sum8 (plain_of (text (goal.at.After-put-5 c).Start))
 sum c =
     c.sum-v.ensures
-    ∙ ap (λ (l : List ℕ). sum8 (take (24 + length (entry6 c).args.body.now) l)) (laid5 (goal.at.After-put-5 c).After-lay)
+    ∙ ap (λ (l : List ℕ). sum8 (take (24 + length (entry6 c).args.message.body.now) l)) (laid5 (goal.at.After-put-5 c).After-lay)
     ∙ ap sum8 (take_front _ (plain_of (text (goal.at.After-put-5 c).Start)) _ (plain_length (text (goal.at.After-put-5 c).Start)))
 
 laid6 : (c : goal.After-put-5) → c.put-5.new.d ≡ laid 0 (frame_of (text (goal.at.After-put-5 c).Start)) (entry6 c).args.out.now

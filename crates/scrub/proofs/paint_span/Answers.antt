@@ -8,6 +8,7 @@ use lib.Seq.{take-take}
 use Rattle.octets.specs.Octets.{laid, sum_after}
 use Rattle.private.specs.declared.Span.{Span}
 use Rattle.private.specs.Within.{span_painted}
+use Rattle.scrub.proofs.Parts.{filled}
 use Rattle.scrub.proofs.paint_span.Goals as goal
 
 part_is : (p : Span) (d : List ℕ) → laid (24 + p.place) (replicate (24 + p.place + p.len - (24 + p.place)) p.fill) d ≡ span_painted p d
@@ -21,7 +22,8 @@ lent_is p d = take-take p.len (24 + p.place + p.len - (24 + p.place)) (drop (24 
 
 pub returns : goal.returns
 returns c =
-    let a = c.args in (
-      c.paint.ensures ∙ part_is _ _,
+    let a = c.args in
+    let from = 24 + a.s.place in (
+      filled from (from + a.s.len) a.s.fill a.buf.now _ (omega arith) (omega (arith, c.requires)) c.fill.ensures ∙ part_is _ _,
       c.sum_after-w.ensures ∙ ap (λ (l : List ℕ). sum_after a.v l a.s.fill) (lent_is a.s a.buf.now),
     )

@@ -1,6 +1,5 @@
 -- Field by field. Assumes nothing.
 use Rattle.session_spec.specs.Calls.{opened}
-use borrow.Author.Rules.{rules}
 use Rattle.session.proofs.Session.opened.Goals as goal
 
 pub returns : goal.returns

@@ -1,17 +1,15 @@
--- Each test of the rules in turn. Assumes nothing.
-use borrow.Author.Tests.{lt-leb, le-leb}
-use Rattle.session_spec.specs.Calls.{sound_of}
-use borrow.Author.Rules.{rules}
+-- The tests of the rules. Assumes nothing.
+use mathlib.Core.Bool.{Bool, true, false, ◌&&◌}
+use mathlib.Core.Path.{◌≡◌, refl}
+use Rattle.session_spec.specs.Calls.{sound_of, counters_right}
+use Rattle.session.specs.Papers.{state_of}
+use lib.Dec.{leb}
 use Rattle.session.proofs.Session.sound.Goals as goal
 
-pub returns-then-self : goal.returns-then-self
-unfolding sound_of
-returns-then-self c = rw (lt-leb _ _ c.if-self.true)
-
-pub returns-then-self-2 : goal.returns-then-self-2
-unfolding sound_of
-returns-then-self-2 c = rw (le-leb _ _ c.if-self.false, lt-leb _ _ c.if-self-2.true)
+grouped : (a b c : Bool) → ((a && b) && c) ≡ (a && (b && c))
+grouped true b c = refl
+grouped false b c = refl
 
 pub returns : goal.returns
 unfolding sound_of
-returns c = rw (c.counters_right.ensures, c.value.ensures, c.value-2.ensures, le-leb _ _ c.if-self.false, le-leb _ _ c.if-self-2.false)
+returns c = rw (c.counters_right.ensures, c.value.ensures, c.value-2.ensures) (let a = c.args.self in grouped (leb a.sent a.last) (leb a.heard a.last) (counters_right (state_of a.state) a.sending.0 a.expecting.0))
