@@ -4,11 +4,9 @@
 #![tactic(auto)]
 
 ghost use Rattle.std.specs.Prelude.{◌≡◌, true, [], ◌∷◌, ◌≤◌, ◌<◌, ◌^◌, min};
-ghost use Rattle.std.specs.Int.Count.{count_trailing_zeros};
 ghost use Rattle.terms.specs.Paper.{answer, refusal};
 ghost use Rattle.terms.specs.Refusals.{number_of};
 ghost use Rattle.terms.specs.Verdicts.{verdict_number};
-ghost use Rattle.tick_map.specs.Bits.{is_set};
 ghost use Rattle.ledger_spec.specs.State.{sound_of};
 ghost use Rattle.ledger_spec.specs.Calls.{Tick, Announce, Reply, Ask, Between, Renew};
 ghost use Rattle.ledger.specs.Papers.{tick_paper, paper_of, count_paper, reply_paper, laid_reply, request_paper};
@@ -110,20 +108,6 @@ struct Place {
     ghost within: { turn.at < 32 },
 }
 
-// The lowest set digit of a word, or 64.
-fn zeros_in(w: u64) -> u64
-    ensures { (result ≡ count_trailing_zeros 64 w) × (result ≤ 64) }
-{
-    u64::from(w.trailing_zeros())
-}
-
-fn bit_in(w: u64, i: u64) -> bool
-    requires { i < 64 }
-    ensures { result ≡ is_set w i }
-{
-    w >> i & 1 == 1
-}
-
 fn with_bit(w: u64, i: u64, on: bool) -> u64
     requires { i < 64 }
     ensures { result ≡ with_bit on w i }
@@ -136,7 +120,7 @@ fn with_bit(w: u64, i: u64, on: bool) -> u64
 fn open_at(used: u64, i: u64) -> bool
     ensures { result ≡ open_at used i }
 {
-    i < 32 && bit_in(used, i)
+    i < 32 && used >> i & 1 == 1
 }
 
 // The first open place of a channel at or behind `from`, or 32. Where no higher place is open, the
@@ -150,7 +134,7 @@ fn place_from(channels: &[u64; 33], used: u64, channel: u64, from: usize) -> usi
         if used >> at as u64 == 0 {
             return 32;
         }
-        if (channels[at] == channel) & bit_in(used, at as u64) {
+        if (channels[at] == channel) & (used >> at as u64 & 1 == 1) {
             return at;
         }
     }
@@ -169,7 +153,7 @@ fn at_most_32(n: u64) -> usize
 fn free_place(used: u64) -> usize
     ensures { (result ≡ free_in used) × (result ≤ 32) }
 {
-    at_most_32(zeros_in(!used))
+    at_most_32(u64::from((!used).trailing_zeros()))
 }
 
 // How many places with nothing missing lie behind the place last asked, counted round, or 32: the
@@ -180,7 +164,7 @@ fn steps(lacking: u64, last: u64) -> usize
     ensures { (result ≡ steps_in lacking last) × (result ≤ 32) }
 {
     let twice = lacking * 4294967296 + lacking;
-    at_most_32(zeros_in(twice >> last + 1))
+    at_most_32(u64::from((twice >> last + 1).trailing_zeros()))
 }
 
 impl ChannelTold {
@@ -441,7 +425,7 @@ impl Place {
         let ledger = self.ledger();
         let at = self.turn.at as u64;
         let own = self.turn.name == u64::from(ledger.channel.value());
-        let lacking = bit_in(self.index.lacking, at) == lacks(ledger);
+        let lacking = (self.index.lacking >> at & 1 == 1) == lacks(ledger);
         let waiting = ledger.pending.is_some() == (self.index.asked == at);
         own & lacking & waiting
     }

@@ -20,7 +20,11 @@ use Rattle.walk_spec.specs.Walk.{walk_of, table_of}
 use Rattle.stream_spec.specs.declared.Stream.{Stream}
 use Rattle.stream_spec.specs.declared.Fed.{Fed}
 use Rattle.stream_spec.specs.State.{StreamRules}
-use Rattle.stream_spec.specs.Calls.{Call, Feed, Close, cut_of, closes, share, number_to, answer_for, leaves_for}
+use Rattle.stream_spec.specs.Calls.{Call, Feed, Close, cut_of, closes, share, number_to, answer_for, leaves_for, records_of}
+use Rattle.std.specs.Prelude.{Result, Ok, Err}
+use Rattle.std.specs.Result.{result_unwrap_or}
+use Rattle.terms.specs.declared.Refusal.{Refusal}
+use Rattle.ledger.specs.Papers.{count_paper}
 use Rattle.terms.specs.Verdicts.{verdict_number}
 use Rattle.stream_spec.specs.CallLaws.{Promised}
 use Rattle.stream_spec.specs.Trace.{Calls, ◌▸◌, after, given, taken, ended, Row, opening, one_more, heard}
@@ -46,12 +50,20 @@ close_goes_on κs a x s row p = one_more Close a.1.1.0.now s.1.1.0.now (fed_of x
 
 -- ---- what a call says it wrote, and what stands in its buffer
 
-module _ (x : Stream) (call : Call) (d d' : List ℕ) (r : Fed) (p : Promised x (closes call) (cut_of call) d d' r) where
-  records_are : r.records ≡ pick (eqb (number_to x call (length d)) 0) (length (share x call)) 0
-  unfolding answer_for
-  records_are = ap (λ (y : Paper). get_or y.values 0 0) p.0
+records_by : (a : Result ℕ Refusal) → result_unwrap_or a 0 ≡ get_or (count_paper a).values 0 0
+records_by (Ok n) = refl
+records_by (Err w) = refl
 
-  found_by_lem : (t : Bool) → eqb (number_to x call (length d)) 0 ≡ t → take (64 * r.records) d' ≡ table_of (pick t (share x call) [])
+number_by : (a : Result ℕ Refusal) → verdict_number a ≡ (count_paper a).number
+number_by (Ok n) = refl
+number_by (Err w) = refl
+
+module _ (x : Stream) (call : Call) (d d' : List ℕ) (r : Fed ℕ) (p : Promised x (closes call) (cut_of call) d d' r) where
+  records_are : records_of r ≡ pick (eqb (number_to x call (length d)) 0) (length (share x call)) 0
+  unfolding answer_for
+  records_are = records_by r.answer ∙ ap (λ (y : Paper). get_or y.values 0 0) p.0
+
+  found_by_lem : (t : Bool) → eqb (number_to x call (length d)) 0 ≡ t → take (64 * records_of r) d' ≡ table_of (pick t (share x call) [])
   unfolding leaves_for joined each_of
   found_by_lem true e =
       let w : d' ≡ laid 0 (table_of (share x call)) d = p.1.1 ∙ rw e in
@@ -86,11 +98,11 @@ module _ {calls : Calls} {x : Stream} (row : Row calls x) where
   ran_closed e = rw (ran_is row) (closing_call calls e)
 
   -- one more call of the code
-  module _ (call : Call) (d d' : List ℕ) (r : Fed) (p : Promised x (closes call) (cut_of call) d d' r) where
+  module _ (call : Call) (d d' : List ℕ) (r : Fed ℕ) (p : Promised x (closes call) (cut_of call) d d' r) where
     -- its number is told from the bytes taken alone
     pub ran_number : verdict_number r.answer ≡ number_told calls call (length d)
     unfolding answer_for
-    ran_number = one_number p.0 ∙ rw (ran_is row) ((every_cutting calls).numbers call (length d))
+    ran_number = number_by r.answer ∙ one_number p.0 ∙ rw (ran_is row) ((every_cutting calls).numbers call (length d))
 
     -- where it is 0, its records stand at the front of the buffer, and behind those given before
     -- they make up what is decided

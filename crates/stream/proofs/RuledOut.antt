@@ -5,10 +5,16 @@ use mathlib.Core.Path.{◌≡◌, refl, ap, ap₂}
 use mathlib.Core.Bool.{Bool, true, false}
 use mathlib.Core.List.{List, [], ◌∷◌, ◌++◌}
 use lib.ListN.{length, take, drop, replicate}
+use denote.RattleType.{RattleType}
+use denote.Param.Laws.{Laws}
+use mir.Syntax.{Dict}
+use Rattle.std.specs.Prelude.{Result, Ok, Err}
+use Rattle.terms.specs.declared.Refusal.{Refusal}
+use Rattle.terms.specs.declared.Refusal.TheVariants.{More, Sum}
 use Rattle.terms.specs.Paper.{Paper, answer, pick}
 use Rattle.terms.specs.Refusals.{refusal_of}
 use Rattle.terms.specs.Counters.{session_of, tick_of, channel_of}
-use Rattle.terms.specs.RuledOut.{Row, ◌never◌, ◌only◌, Kept, RulesOut, ruled, lists, papers, beside}
+use Rattle.terms.specs.RuledOut.{Row, ◌never◌, ◌only◌, Kept, RulesOut, ruled, bools, lists, papers, beside}
 use Rattle.octets.specs.Octets.{numeral, digits_of, laid, sum8, sum_of}
 use Rattle.calendar.specs.Calendar.{leap, days_in, real_parts, real_time}
 use Rattle.rules.specs.Table.{kind_of, suits, measure_of}
@@ -37,10 +43,15 @@ use Rattle.stream_spec.specs.declared.Stream.{Stream}
 use Rattle.stream_spec.specs.State as State
 use Rattle.stream_spec.specs.State.{opened}
 use Rattle.stream_spec.specs.Tally as Tally
+use Rattle.stream_spec.specs.Run.{waits_at, passed_over}
 use Rattle.stream_spec.specs.Calls as Calls
 use Rattle.stream_spec.specs.Calls.{Feed, Close, fed_paper, answer_to, next_of, leaves}
 use Rattle.terms.specs.Verdicts.{verdict_number}
 use Rattle.stream.specs.Standing.{whole, fed_of, has_rest, rest_of}
+use Rattle.stream.proofs.waits.Reads as waits
+use Rattle.stream.proofs.waits.Kinds as waits-kinds
+use Rattle.stream.proofs.passes.Reads as passes
+use Rattle.stream.proofs.passes.Kinds as passes-kinds
 use Rattle.stream.proofs.keep_rest.Reads as keep-rest
 use Rattle.stream.proofs.keep_rest.Kinds as keep-rest-kinds
 use Rattle.stream.proofs.may_take.Reads as may-take
@@ -49,6 +60,31 @@ use Rattle.stream.proofs.feed.Reads as feed
 use Rattle.stream.proofs.feed.Kinds as feed-kinds
 use Rattle.stream.proofs.close.Reads as close
 use Rattle.stream.proofs.close.Kinds as close-kinds
+
+-- whether this is the closing call, or the search is under way, and an answer, whatever it holds
+module _ (T : RattleType) (laws : Laws T) (drops : Dict) (held : T.Denot) where
+  abbrev pub waits_wrong : List (Row (Bool × Result T.Denot Refusal) Bool)
+  waits_wrong =
+      (false, Err More) only true
+      ∷ (true, Err More) only false  -- at the closing call none waits
+      ∷ (false, Err Sum) only false  -- any refusal waits
+      ∷ (false, Ok held) only false
+      ∷ []
+
+  pub waits_rules_out : RulesOut (Kept _ (waits-kinds.ps T laws) (waits-kinds.r T laws) (waits.Post T laws drops)) (λ c. (c.args.0, c.args.1.0)) (λ c. c.result) waits_wrong
+  unfolding waits_at
+  waits_rules_out = ruled bools (λ (i : Bool × Result T.Denot Refusal). waits_at i.0 (verdict_number i.1)) (λ c p. p) _ refl
+
+  abbrev pub passes_wrong : List (Row (Bool × Result T.Denot Refusal) Bool)
+  passes_wrong =
+      (true, Err Sum) only true
+      ∷ (false, Err Sum) only false  -- the first refused place unrecorded
+      ∷ (true, Ok held) only false  -- a frame that the search finds passed over
+      ∷ []
+
+  pub passes_rules_out : RulesOut (Kept _ (passes-kinds.ps T laws) (passes-kinds.r T laws) (passes.Post T laws drops)) (λ c. (c.args.0, c.args.1.0)) (λ c. c.result) passes_wrong
+  unfolding passed_over
+  passes_rules_out = ruled bools (λ (i : Bool × Result T.Denot Refusal). passed_over i.0 (verdict_number i.1)) (λ c p. p) _ refl
 
 -- a store, how many bytes of it wait, a place, and the cut behind them; and the store then
 abbrev pub keep_rest_wrong : List (Row (List ℕ × (ℕ × (ℕ × List ℕ))) (List ℕ))

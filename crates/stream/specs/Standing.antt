@@ -16,8 +16,12 @@ abbrev pub whole : Standing → List ℕ → Stream
 whole st kept = record { place = st.place; seeking = st.seeking; closed = st.closed; len = st.len; kept = kept; tally = st.tally }
 
 -- a call's answer, with the store that it left
-abbrev pub fed_of : Answered → List ℕ → Fed
-fed_of r kept = record { answer = r.answer; records = r.records; stream = whole r.next kept }
+abbrev pub fed_of : {T : Type 0} → Answered T → List ℕ → Fed T
+fed_of r kept = record { answer = r.answer; stream = whole r.next kept }
+
+-- the answer told from it
+abbrev pub answered_of : {T : Type 0} → Fed T → Answered T
+answered_of f = record { answer = f.answer; next = record { place = f.stream.place; seeking = f.stream.seeking; closed = f.stream.closed; len = f.stream.len; tally = f.stream.tally } }
 
 -- a store of n bytes: these, and zeros behind them
 abbrev pub store_of : ℕ → List ℕ → List ℕ

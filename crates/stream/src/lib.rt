@@ -14,7 +14,7 @@ ghost use Rattle.terms.specs.Verdicts.{verdict_number};
 ghost use Rattle.stream.specs.Standing.{whole, fed_of, stands_behind, blank_to, has_rest, rest_of, RanOver, Ready};
 ghost use Rattle.stream.specs.Pushed.{PushedIs};
 
-use ledger::{Answer, Ledger};
+use ledger::Ledger;
 use reading::Seen;
 use stream_spec::Tally;
 use terms::Refusal;
@@ -30,11 +30,10 @@ pub struct Standing {
     pub tally: Tally,
 }
 
-// How many records a call gave, 0 beside a refusal; and how the stream stands after it.
+// What a call gave, or why it was refused; and how the stream stands after it.
 #[derive(Clone, Copy)]
-pub struct Answered {
-    pub answer: Result<(), Refusal>,
-    pub records: usize,
+pub struct Answered<T> {
+    pub answer: Result<T, Refusal>,
     pub next: Standing,
 }
 
@@ -48,49 +47,40 @@ struct Ran {
     tally: Tally,
 }
 
-#[derive(Clone, Copy)]
-struct Pushed {
-    next: Standing,
-    count: usize,
-}
-
 // Whether a place with this answer waits for more. At the closing call none does.
-fn waits(closing: bool, answer: u32) -> bool
-    ensures { result ≡ waits_at closing answer }
+#[tactic(auto, unfolding(stream_spec::specs::Run::waits_at))]
+pub fn waits<T: Drop>(closing: bool, answer: Result<T, Refusal>) -> bool
+    ensures { result ≡ waits_at closing (verdict_number answer) }
 {
-    if closing { false } else { answer == 1 }
+    !closing && matches!(answer, Err(Refusal::More))
 }
 
 // Whether the search passes over a place with this answer.
-fn passes(seeking: bool, answer: u32) -> bool
-    ensures { result ≡ passed_over seeking answer }
+#[tactic(auto, unfolding(stream_spec::specs::Run::passed_over))]
+pub fn passes<T: Drop>(seeking: bool, answer: Result<T, Refusal>) -> bool
+    ensures { result ≡ passed_over seeking (verdict_number answer) }
 {
-    if seeking { answer != 0 } else { false }
+    seeking && answer.is_err()
 }
 
 // From a place that was read to the next one to look at.
 fn stride(seen: Seen) -> usize
     ensures { result ≡ stride_of seen }
 {
-    let verdict = seen.answer;
-    if terms::number_of(verdict) == 0 { seen.size } else { 1 }
+    match seen.answer {
+        Ok(()) => seen.size,
+        Err(_) => 1,
+    }
 }
 
 // One reading more, and the ledger after it.
-fn counted(tally: Tally, answer: u32, after: Ledger) -> Tally
+fn counted(tally: Tally, answer: Result<(), Refusal>, after: Ledger) -> Tally
     requires { tally.frames + tally.refused < 2 ^ 64 - 1 }
-    ensures { result ≡ tally_with tally answer after }
+    ensures { result ≡ tally_with tally (verdict_number answer) after }
 {
-    if answer == 0 {
-        return Tally {
-            frames: tally.frames + 1,
-            refused: tally.refused,
-            ledger: after,
-        };
-    }
     Tally {
-        frames: tally.frames,
-        refused: tally.refused + 1,
+        frames: tally.frames + u64::from(answer.is_ok()),
+        refused: tally.refused + u64::from(answer.is_err()),
         ledger: after,
     }
 }
@@ -126,23 +116,19 @@ fn run(
     let mut tally = start;
     while p < end {
         let seen = see_at(a, b, p);
-        let verdict = seen.answer;
-        let answer = terms::number_of(verdict);
-        if waits(closing, answer) {
+        if waits(closing, seen.answer) {
             break;
         }
-        if passes(seeking, answer) {
+        if passes(seeking, seen.answer) {
             p += 1;
             continue;
         }
-        let ledger = tally.ledger;
-        let after = walk_step::offer(ledger, seen);
+        let after = walk_step::offer(tally.ledger, seen);
         walk_step::note(out, count, walk_step::made(base + p as u64, seen, after));
         p += stride(seen);
-        seeking = answer != 0;
+        seeking = seen.answer.is_err();
         count += 1;
-        let next = after.ledger;
-        tally = counted(tally, answer, next);
+        tally = counted(tally, seen.answer, after.next);
     }
     Ran {
         at: p,
@@ -157,37 +143,12 @@ fn behind(st: Standing, ran: Ran, n: usize, closing: bool) -> Standing
     requires { (ran.at ≤ n) × (st.place + n < 2 ^ 64) }
     ensures { result ≡ stands_behind st ran n closing }
 {
-    let tally = ran.tally;
     Standing {
         place: st.place + ran.at as u64,
         seeking: ran.seeking,
         closed: closing,
         len: n - ran.at,
-        tally,
-    }
-}
-
-// Bytes a to e become 0.
-fn clear(w: &mut [u8], a: usize, e: usize)
-    requires { (a ≤ e) × (e ≤ length w.old) }
-    ensures { w.new ≡ laid a (replicate (e - a) 0) w.old }
-{
-    let mut i = a;
-    while i < e {
-        w[i] = 0;
-        i += 1;
-    }
-}
-
-// The m bytes from a on, moved to the front.
-fn down(w: &mut [u8], a: usize, m: usize)
-    requires { a + m ≤ length w.old }
-    ensures { w.new ≡ laid 0 (take m (drop a w.old)) w.old }
-{
-    let mut i: usize = 0;
-    while i < m {
-        w[i] = w[a + i];
-        i += 1;
+        tally: ran.tally,
     }
 }
 
@@ -197,8 +158,8 @@ fn shift(kept: &mut [u8], a: usize, e: usize)
     ensures { kept.new ≡ laid 0 (drop a (take e kept.old)) (blank_to e kept.old) }
 {
     if 0 < a {
-        down(kept, a, e - a);
-        clear(kept, e - a, e);
+        kept.copy_within(a..e, 0);
+        kept[e - a..e].fill(0);
     }
 }
 
@@ -207,24 +168,17 @@ fn keep(kept: &mut [u8], n: usize, rest: &[u8])
     requires { (n ≤ length kept.old) × (length rest.now ≤ length kept.old) }
     ensures { kept.new ≡ laid 0 rest.now (blank_to n kept.old) }
 {
-    clear(kept, 0, n);
-    octets::lay(kept, 0, rest);
+    kept[..n].fill(0);
+    kept[..rest.len()].copy_from_slice(rest);
 }
 
 // Whether a store of so much room has n bytes, and takes of them and m more those from a place on.
+#[tactic(auto, unfolding(crate::specs::Standing::has_rest))]
 fn has_rest(room: usize, n: usize, at: usize, m: usize) -> bool
     ensures { result ≡ has_rest room n at m }
 {
-    if room < n {
-        return false;
-    }
-    if at <= n {
-        return m <= room - (n - at);
-    }
-    if m < at - n {
-        return false;
-    }
-    m - (at - n) <= room
+    let end = n as u128 + m as u128;
+    n <= room && at as u128 <= end && end <= at as u128 + room as u128
 }
 
 // What waits behind a run is kept: of the first n bytes of a store and the cut behind them those
@@ -238,33 +192,45 @@ pub fn keep_rest(kept: &mut [u8], n: usize, at: usize, cut: &[u8])
     }
     if at <= n {
         shift(kept, at, n);
-        octets::lay(kept, n - at, cut);
+        let end = n - at + cut.len();
+        kept[n - at..end].copy_from_slice(cut);
         return;
     }
     keep(kept, n, &cut[at - n..]);
 }
 
 // A run over the bytes that wait and, behind them, a cut: each where it stands.
-fn over(st: Standing, kept: &[u8], cut: &[u8], closing: bool, out: &mut [u8]) -> Ran
+fn over(st: Standing, kept: &[u8; 8191], cut: &[u8], closing: bool, out: &mut [u8]) -> Ran
     requires { Ready st kept.now (length cut.now) }
     ensures { RanOver st kept.now closing cut.now result × (out.new ≡ written_from 0 (given_of (whole st kept.now) closing cut.now) out.old) }
 {
-    let n = st.len;
-    let tally = st.tally;
-    run(&kept[..n], cut, st.place, st.seeking, closing, tally, out)
+    run(
+        &kept[..st.len],
+        cut,
+        st.place,
+        st.seeking,
+        closing,
+        st.tally,
+        out,
+    )
 }
 
 // A cut, or at the closing call none: the run, and what waits behind it is kept.
-fn drawn(st: Standing, kept: &mut [u8], cut: &[u8], closing: bool, out: &mut [u8]) -> Pushed
+fn drawn(
+    st: Standing,
+    kept: &mut [u8; 8191],
+    cut: &[u8],
+    closing: bool,
+    out: &mut [u8],
+) -> Answered<usize>
     requires { Ready st kept.old (length cut.now) }
-    ensures { PushedIs (whole st kept.old) closing cut.now out.old out.new (whole result.next kept.new) result.count }
+    ensures { PushedIs (whole st kept.old) closing cut.now out.old out.new (fed_of result kept.new) }
 {
     let ran = over(st, kept, cut, closing, out);
     keep_rest(kept, st.len, ran.at, cut);
-    let next = behind(st, ran, st.len + cut.len(), closing);
-    Pushed {
-        next,
-        count: ran.count,
+    Answered {
+        answer: Ok(ran.count),
+        next: behind(st, ran, st.len + cut.len(), closing),
     }
 }
 
@@ -272,22 +238,16 @@ fn drawn(st: Standing, kept: &mut [u8], cut: &[u8], closing: bool, out: &mut [u8
 fn fits(place: u64, n: usize, m: usize) -> bool
     ensures { result ≡ leb (place + (n + m)) last_place }
 {
-    let room = 18446744073709551615 - place;
-    if room < n as u64 {
-        return false;
-    }
-    m as u64 <= room - n as u64
+    place as u128 + n as u128 + m as u128 <= 18446744073709551615
 }
 
-// Whether all bytes from a place on are 0. All of them in one: the compiler takes 16 at a time.
-fn blank_from(s: &[u8], from: usize) -> bool
-    ensures { result ≡ all_zero (drop from s.now) }
+// Whether all bytes are 0. All of them in one: the compiler takes 16 at a time.
+fn blank(s: &[u8]) -> bool
+    ensures { result ≡ all_zero s.now }
 {
-    let mut i = from;
     let mut all: u8 = 0;
-    while i < s.len() {
-        all = all | s[i];
-        i += 1;
+    for b in s {
+        all = all | *b;
     }
     all == 0
 }
@@ -296,46 +256,28 @@ fn blank_from(s: &[u8], from: usize) -> bool
 fn ledger_right(ledger: Ledger) -> bool
     ensures { result ≡ ledger_right ledger }
 {
-    let channel = ledger.channel;
-    if channel.value() != 100 {
-        return false;
-    }
-    let counted = ledger.held();
-    let answer = counted.answer;
-    match answer {
-        Answer::Done => true,
-        Answer::Refused(_) => false,
-    }
+    ledger.channel.value() == 100 && ledger.held().answer.is_ok()
 }
 
 // Whether the tally keeps the state rules, where bytes came up to the place.
 fn tally_right(tally: Tally, place: u64) -> bool
     ensures { result ≡ tally_right tally place }
 {
-    let ledger = tally.ledger;
-    if place < tally.frames {
-        return false;
-    }
-    if place - tally.frames < tally.refused {
-        return false;
-    }
-    ledger_right(ledger)
+    tally.frames as u128 + tally.refused as u128 <= place as u128 && ledger_right(tally.ledger)
 }
 
 // Whether the state rules hold.
-fn sound(st: Standing, kept: &[u8]) -> bool
-    requires { length kept.now ≡ 8191 }
+fn sound(st: Standing, kept: &[u8; 8191]) -> bool
     ensures { result ≡ sound_of (whole st kept.now) }
 {
     let n = st.len;
-    let tally = st.tally;
-    if 8191 < n {
+    if n > 8191 {
         return false;
     }
-    if !blank_from(kept, n) {
+    if !blank(&kept[n..]) {
         return false;
     }
-    if !tally_right(tally, st.place) {
+    if !tally_right(st.tally, st.place) {
         return false;
     }
     if !fits(st.place, n, 0) {
@@ -344,12 +286,7 @@ fn sound(st: Standing, kept: &[u8]) -> bool
     if n == 0 {
         return true;
     }
-    if st.closed {
-        return false;
-    }
-    let seen = reading::see(&kept[..n], 0);
-    let verdict = seen.answer;
-    terms::number_of(verdict) == 1
+    !st.closed && waits(false, reading::see(&kept[..n], 0).answer)
 }
 
 // What goes before the room of a call that brings so many bytes: 13, 19, 29, or nothing.
@@ -368,17 +305,6 @@ pub fn may_take(st: Standing, kept: &[u8; 8191], more: usize) -> Result<(), Refu
     Ok(())
 }
 
-// A refusal: the stream as it was.
-fn refused(st: Standing, why: Refusal) -> Answered
-    ensures { (kept : List ℕ) → fed_of result kept ≡ refused_by (whole st kept) why }
-{
-    Answered {
-        answer: Err(why),
-        records: 0,
-        next: st,
-    }
-}
-
 // Whether so much room takes a record for each reading that so many bytes may have.
 fn roomy(kept: usize, more: usize, room: usize) -> bool
     requires { kept + more < 2 ^ 64 }
@@ -389,7 +315,7 @@ fn roomy(kept: usize, more: usize, room: usize) -> bool
 
 // Whether so much room takes the records of a call. Where it may not, they are counted in a run
 // that writes nothing.
-fn takes_all(st: Standing, kept: &[u8], cut: &[u8], closing: bool, room: usize) -> bool
+fn takes_all(st: Standing, kept: &[u8; 8191], cut: &[u8], closing: bool, room: usize) -> bool
     requires { Ready st kept.now (length cut.now) }
     ensures { result ≡ leb (length (given_of (whole st kept.now) closing cut.now)) (room / 64) }
 {
@@ -403,35 +329,34 @@ fn takes_all(st: Standing, kept: &[u8], cut: &[u8], closing: bool, room: usize) 
 
 // One call: 13, 19, 29, 8, or its records. Whether they fit is known before the first is written,
 // so a refusal writes nothing.
-fn call(st: Standing, kept: &mut [u8], cut: &[u8], closing: bool, records: &mut [u8]) -> Answered
-    requires { length kept.old ≡ 8191 }
+fn call(
+    st: Standing,
+    kept: &mut [u8; 8191],
+    cut: &[u8],
+    closing: bool,
+    records: &mut [u8],
+) -> Answered<usize>
     ensures { (fed_paper (fed_of result kept.new) ≡ answer_for (whole st kept.old) closing cut.now (length records.old))
         × (((fed_of result kept.new).stream ≡ next_for (whole st kept.old) closing cut.now (length records.old))
         × (records.new ≡ leaves_for (whole st kept.old) closing cut.now records.old)) }
 {
-    if !sound(st, kept) {
-        return refused(st, Refusal::State);
-    }
-    if st.closed {
-        return refused(st, Refusal::Closed);
-    }
-    if !fits(st.place, st.len, cut.len()) {
-        return refused(st, Refusal::Places);
+    if let Err(why) = may_take(st, kept, cut.len()) {
+        return Answered {
+            answer: Err(why),
+            next: st,
+        };
     }
     if !takes_all(st, kept, cut, closing, records.len()) {
-        return refused(st, Refusal::Room);
+        return Answered {
+            answer: Err(Refusal::Room),
+            next: st,
+        };
     }
-    let done = drawn(st, kept, cut, closing, records);
-    let next = done.next;
-    Answered {
-        answer: Ok(()),
-        records: done.count,
-        next,
-    }
+    drawn(st, kept, cut, closing, records)
 }
 
 // One more cut, perhaps of no bytes: the records that it decides. Refusals 13, 19, 29, 8.
-pub fn feed(st: Standing, kept: &mut [u8; 8191], cut: &[u8], records: &mut [u8]) -> Answered
+pub fn feed(st: Standing, kept: &mut [u8; 8191], cut: &[u8], records: &mut [u8]) -> Answered<usize>
     ensures { ((fed_paper (fed_of result kept.new) ≡ answer_to (whole st kept.old) (Feed cut.now) (length records.old))
         × (((fed_of result kept.new).stream ≡ next_of (whole st kept.old) (Feed cut.now) (length records.old))
         × (records.new ≡ leaves (whole st kept.old) (Feed cut.now) records.old)))
@@ -441,7 +366,7 @@ pub fn feed(st: Standing, kept: &mut [u8; 8191], cut: &[u8], records: &mut [u8])
 }
 
 // No more bytes come: what remains is walked as the end of a closed capture is. Refusals 13, 19, 8.
-pub fn close(st: Standing, kept: &mut [u8; 8191], records: &mut [u8]) -> Answered
+pub fn close(st: Standing, kept: &mut [u8; 8191], records: &mut [u8]) -> Answered<usize>
     ensures { (fed_paper (fed_of result kept.new) ≡ answer_to (whole st kept.old) Close (length records.old))
         × (((fed_of result kept.new).stream ≡ next_of (whole st kept.old) Close (length records.old))
         × (records.new ≡ leaves (whole st kept.old) Close records.old)) }

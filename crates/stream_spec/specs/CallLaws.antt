@@ -20,7 +20,7 @@ use Rattle.walk_spec.specs.Tables.{written_from, written_all}
 use Rattle.stream_spec.specs.declared.Stream.{Stream}
 use Rattle.stream_spec.specs.declared.Fed.{Fed}
 use Rattle.terms.specs.declared.Refusal.{Refusal}
-use Rattle.terms.specs.Refusals.{number_of, refusal_not_0}
+use Rattle.terms.specs.Refusals.{number_of, refusal_not_0, refusal_pos}
 use Rattle.stream_spec.specs.Tally.{record_at, tally_after}
 use Rattle.stream_spec.specs.State.{last_place, head_of, meant_by, sound_of}
 use Rattle.stream_spec.specs.Run.{says_in}
@@ -108,6 +108,31 @@ module _ (x : Stream) (closing : Bool) (cut : List ℕ) where
 
         pub number_0 : leb (length (given_of x closing cut)) (room / 64) ≡ true → number_for x closing cut room ≡ 0
         number_0 l = by_room ∙ ap (λ (b : Bool). pick (not b) 8 0) l
+
+    -- the refusals that go before the room
+    pub number_refused : (why : Refusal) → number_of why ≡ may_take x (length cut) → number_for x closing cut room ≡ number_of why
+    number_refused why e =
+        ⊎_elim
+        (λ (s : sound_of x ≡ true).
+        ⊎_elim (λ (c : x.closed ≡ true). number_19 s c ∙ sym (e ∙ may_19 x (length cut) s c))
+        (λ (c : x.closed ≡ false).
+        ⊎_elim (λ (f : leb (x.place + (x.len + length cut)) last_place ≡ true). absurd (refusal_pos why (e ∙ may_0 x (length cut) s c f)))
+        (λ (f : leb (x.place + (x.len + length cut)) last_place ≡ false). number_29 s c f ∙ sym (e ∙ may_29 x (length cut) s c f))
+        (two (leb (x.place + (x.len + length cut)) last_place)))
+        (two x.closed))
+        (λ (s : sound_of x ≡ false). number_13 s ∙ sym (e ∙ may_13 x (length cut) s))
+        (two (sound_of x))
+
+    -- and the room
+    module _ (z : may_take x (length cut) ≡ 0) where
+      fits : leb (x.place + (x.len + length cut)) last_place ≡ true
+      fits = le-leb _ _ (may_facts x (length cut) z).1.1
+
+      pub room_8 : leb (length (given_of x closing cut)) (room / 64) ≡ false → number_for x closing cut room ≡ 8
+      room_8 l = let f = may_facts x (length cut) z in number_8 f.0 f.1.0 fits l
+
+      pub room_0 : leb (length (given_of x closing cut)) (room / 64) ≡ true → number_for x closing cut room ≡ 0
+      room_0 l = let f = may_facts x (length cut) z in number_0 f.0 f.1.0 fits l
 
   -- what the code promises of a call whose answer is r and whose buffer d is d' later
   abbrev pub Promised : List ℕ → List ℕ → Fed ℕ → Type 0

@@ -1,21 +1,17 @@
 -- A map whose places do not move, read round from a place: its digits, its count, its scans.
 -- Assumes nothing.
-use mathlib.Core.Path.{◌≡◌, sym, ap, ap₂, ◌∙◌, subst}
-use mathlib.Core.List.{List}
+use mathlib.Core.Path.{◌≡◌, sym, ap, ◌∙◌, subst}
 use Prim.Native.Nat.{ℕ, ◌+◌, ◌-◌, ◌*◌, ◌/◌, ◌%◌, ◌^◌, ◌≤◌, ◌<◌}
 use native.Mathlib.Nat.{mod-lt}
-use native.Mathlib.Decide.{dec_lt, ℕ_discrete as dec_eq}
+use native.Mathlib.Decide.{dec_lt}
 use native.Mathlib.Omega.{arith}
 use lib.Arith.{digits_lt}
-use lib.Bits.{bit_or, or_lt}
-use lib.Count.{ones, ones_cat, count_trailing_zeros, trailing_le}
-use lib.ListN.{get_or}
-use lib.Pow.{split, high, low, ones_sub-lt, shr_lt, pow_pos, pow-lt, pow-add}
-use Rattle.tick_map.specs.Bits.{bit, run, value_of_list, Words}
-use Rattle.tick_map.specs.Ring.{rotated, laid}
-use Rattle.tick_map.proofs.Laws.{bit_low, bit_high, not_parts, trailing_not}
-use Rattle.tick_map.proofs.Digits.{bit_shr, bit_ext, bit_above, bit_set_same, bit_set_other, trailing_passed, trailing_stopped}
-use Rattle.tick_map.proofs.Words.{list_lt, list_bit}
+use lib.Count.{ones, ones_cat}
+use lib.Pow.{split, shr_lt, pow_pos, pow-add}
+use Rattle.tick_map.specs.Bits.{bit}
+use Rattle.tick_map.specs.Ring.{rotated}
+use Rattle.tick_map.proofs.Laws.{bit_low, bit_high}
+use Rattle.tick_map.proofs.Digits.{bit_shr}
 
 -- the low digits alone
 pub bit_mod : (m k i : ℕ) → i < k → bit (m % 2 ^ k) i ≡ bit m i

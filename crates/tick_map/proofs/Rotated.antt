@@ -6,17 +6,16 @@ use Prim.Native.Nat.{ℕ, ◌+◌, ◌-◌, ◌*◌, ◌/◌, ◌%◌, ◌^◌, 
 use native.Mathlib.Nat.{mod-lt}
 use native.Mathlib.Decide.{dec_lt, ℕ_discrete as dec_eq}
 use native.Mathlib.Omega.{arith}
-use lib.Arith.{digits_lt}
 use lib.Bits.{bit_or, or_lt}
-use lib.Count.{ones, ones_cat, count_trailing_zeros, trailing_le}
+use lib.Count.{count_trailing_zeros, trailing_le}
 use lib.ListN.{get_or}
-use lib.Pow.{split, high, low, ones_sub-lt, shr_lt, pow_pos, pow-lt, pow-add}
+use lib.Pow.{split, high, low, ones_sub-lt, pow_pos, pow-lt}
 use Rattle.tick_map.specs.Bits.{bit, run, value_of_list, Words}
 use Rattle.tick_map.specs.Ring.{rotated, laid}
-use Rattle.tick_map.proofs.Laws.{bit_low, bit_high, not_parts, trailing_not}
+use Rattle.tick_map.proofs.Laws.{not_parts, trailing_not}
 use Rattle.tick_map.proofs.Digits.{bit_shr, bit_ext, bit_above, bit_set_same, bit_set_other, trailing_passed, trailing_stopped}
 use Rattle.tick_map.proofs.Words.{list_lt, list_bit}
-use Rattle.tick_map.proofs.Ring.{top_lt, rotated_lt, rotated_bit, rotated_ones}
+use Rattle.tick_map.proofs.Ring.{top_lt, rotated_lt, rotated_bit}
 
 module _ (s m : ℕ) (hm : m < 2 ^ 256) where
   -- the complement reads as the complement
@@ -168,7 +167,7 @@ module _ (w : List ℕ) (h : Words w) (s : ℕ) where
     pub word_passes : count_trailing_zeros 64 (get_or w j 0) ≡ 64 → Clear w s (n + 64)
     word_passes e = more 64 (omega arith) (λ i l. trailing_passed 64 (get_or w j 0) i (omega arith))
 
-    pub word_stops : {z : ℕ} → n < 256 → z ≡ count_trailing_zeros 64 (get_or w j 0) → z < 64 → n + z ≡ count_trailing_zeros 256 (rotated s (value_of_list w))
+    pub word_stops : {z : ℕ} → n ≤ 256 → z ≡ count_trailing_zeros 64 (get_or w j 0) → z < 64 → n + z ≡ count_trailing_zeros 256 (rotated s (value_of_list w))
     word_stops {z} b e l =
         let v = get_or w j 0 in
         let set : bit v z ≡ 1 = ap (bit v) e ∙ trailing_stopped 64 v (subst (λ (x : ℕ). x < 64) e l) in

@@ -10,7 +10,6 @@ use lib.Dec.{eqb}
 use Rattle.terms.specs.RuledOut.{Row, ◌never◌, ◌only◌, Kept, RulesOut, ruled, numbers, bools}
 use Rattle.tick_map.specs.Bits.{value_of, bits_in, map_of, is_set, run}
 use Rattle.tick_map.specs.Ring.{rotated, without, only as only_those, lacking}
-use Rattle.tick_map.specs.declared.Map.{Map}
 use Rattle.tick_map.proofs.Map.new.Reads as new
 use Rattle.tick_map.proofs.Map.new.Kinds as new-kinds
 use Rattle.tick_map.proofs.Map.held.Reads as held

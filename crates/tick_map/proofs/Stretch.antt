@@ -1,6 +1,6 @@
 -- A stretch of places counted round: the map without them, and they alone.
 -- Assumes nothing.
-use mathlib.Core.Path.{◌≡◌, refl, sym, ap, ap₂, ◌∙◌}
+use mathlib.Core.Path.{◌≡◌, sym, ap, ap₂, ◌∙◌}
 use Prim.Native.Nat.{ℕ, ◌+◌, ◌-◌, ◌*◌, ◌/◌, ◌%◌, ◌^◌, ◌≤◌, ◌<◌}
 use native.Mathlib.Nat.{mod-le, mod-lt, lt_of_le_of_lt, add-zero}
 use native.Mathlib.Decide.{dec_lt}

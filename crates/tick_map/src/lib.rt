@@ -9,18 +9,11 @@ ghost use Rattle.terms.specs.Paper.{pick};
 ghost use Rattle.tick_map.specs.Bits.{bit, is_set, run, value_of, bits_in, map_of};
 ghost use Rattle.tick_map.specs.Ring.{rotated, without, only, lacking};
 
-// How many digits of a word are set.
-fn ones_in(w: u64) -> u64
-    ensures { (result ≡ ones w) × (result ≤ 64) }
-{
-    u64::count_ones(w) as u64
-}
-
 // How many digits of a word stand below its lowest set one: 64 where none is set.
 fn zeros_in(w: u64) -> u64
     ensures { (result ≡ count_trailing_zeros 64 w) × (result ≤ 64) }
 {
-    u64::trailing_zeros(w) as u64
+    u64::from(w.trailing_zeros())
 }
 
 // A choice without a branch.
@@ -30,19 +23,12 @@ fn either(t: bool, a: u64, b: u64) -> u64
     if t { a } else { b }
 }
 
-fn bit_in(w: u64, i: u64) -> bool
-    requires { i < 64 }
-    ensures { result ≡ is_set w i }
-{
-    w >> i & 1 == 1
-}
-
 // Digit i of a word alone.
 fn digit(i: u64) -> u64
     requires { i < 64 }
     ensures { result ≡ 2 ^ i }
 {
-    1u64 << i
+    1 << i
 }
 
 // The n lowest digits of a word.
@@ -60,14 +46,8 @@ fn place(i: u64, j: u64) -> u64
     either(j == i / 64, digit(i % 64), 0)
 }
 
-fn smaller(a: u64, b: u64) -> u64
-    ensures { result ≡ min a b }
-{
-    if a < b { a } else { b }
-}
-
 // All digits of a word.
-const ALL: u64 = 0xFFFF_FFFF_FFFF_FFFF;
+const ALL: u64 = u64::MAX;
 
 // Word j of the map that holds the places below x.
 fn below(x: u64, j: u64) -> u64
@@ -85,30 +65,6 @@ fn span(s: u64, k: u64, j: u64) -> u64
 {
     let e = s % 256 + k;
     below(s % 256, j) ^ below(e % 256, j) ^ either(256 <= e, ALL, 0)
-}
-
-// Whether four words hold no place but perhaps the k behind place q of the first one, counted
-// round: not q and those before it, and not those behind the k, of which the first is in the word
-// that is shifted.
-fn none_but_in(a: u64, b: u64, c: u64, d: u64, q: u64, k: u64) -> bool
-    requires { (q < 64) × (k < 256) }
-    ensures { result ≡ eqb (rotated (q + 1) (value_of a b c d) / 2 ^ k) 0 }
-{
-    let end = q + 1 + k;
-    let low = a << 63 - q;
-    if end < 64 {
-        return low | a >> end | b | c | d == 0;
-    }
-    if end < 128 {
-        return low | b >> end - 64 | c | d == 0;
-    }
-    if end < 192 {
-        return low | c >> end - 128 | d == 0;
-    }
-    if end < 256 {
-        return low | d >> end - 192 == 0;
-    }
-    low >> k - 192 == 0
 }
 
 // The lowest word first.
@@ -196,20 +152,15 @@ impl Map {
     pub fn held(self) -> u64
         ensures { result ≡ ones (bits_in self) }
     {
-        ones_in(self.words[0])
-            + ones_in(self.words[1])
-            + ones_in(self.words[2])
-            + ones_in(self.words[3])
+        let [a, b, c, d] = self.words;
+        u64::from(a.count_ones() + b.count_ones() + c.count_ones() + d.count_ones())
     }
 
     // Whether place i is held; none from 256 on is.
     pub fn holds(self, i: u64) -> bool
         ensures { result ≡ is_set (bits_in self) i }
     {
-        if 256 <= i {
-            return false;
-        }
-        bit_in(self.word(i / 64), i % 64)
+        i < 256 && self.word(i / 64) >> i % 64 & 1 == 1
     }
 
     // Place i held too; from 256 on there is no place, and nothing changes.
@@ -234,13 +185,9 @@ impl Map {
     fn flipped(self) -> Map
         ensures { bits_in result ≡ (2 ^ 256 - 1) - bits_in self }
     {
+        let [a, b, c, d] = self.words;
         Map {
-            words: [
-                !self.words[0],
-                !self.words[1],
-                !self.words[2],
-                !self.words[3],
-            ],
+            words: [!a, !b, !c, !d],
         }
     }
 
@@ -248,8 +195,33 @@ impl Map {
     pub fn empty(self) -> bool
         ensures { result ≡ eqb (bits_in self) 0 }
     {
-        let w = self.words;
-        w[0] | w[1] | w[2] | w[3] == 0
+        let [a, b, c, d] = self.words;
+        a | b | c | d == 0
+    }
+
+    // Whether no place is held but perhaps the k behind place q of the first word, counted round:
+    // not q and those before it, and not those behind the k, of which the first is in the word that
+    // is shifted.
+    fn front_but(self, q: u64, k: u64) -> bool
+        requires { (q < 64) × (k < 256) }
+        ensures { result ≡ eqb (rotated (q + 1) (bits_in self) / 2 ^ k) 0 }
+    {
+        let [a, b, c, d] = self.words;
+        let end = q + 1 + k;
+        let low = a << 63 - q;
+        if end < 64 {
+            return low | a >> end | b | c | d == 0;
+        }
+        if end < 128 {
+            return low | b >> end - 64 | c | d == 0;
+        }
+        if end < 192 {
+            return low | c >> end - 128 | d == 0;
+        }
+        if end < 256 {
+            return low | d >> end - 192 == 0;
+        }
+        low >> k - 192 == 0
     }
 
     // Whether no place is held but perhaps the k behind place s, counted round.
@@ -259,9 +231,7 @@ impl Map {
         if 256 <= k {
             return true;
         }
-        let t = self.turned(s / 64 % 4);
-        let w = t.words;
-        none_but_in(w[0], w[1], w[2], w[3], s % 64, k)
+        self.turned(s / 64 % 4).front_but(s % 64, k)
     }
 
     // How many places from s on are clear, counted round: 256 where none is held.
@@ -270,21 +240,17 @@ impl Map {
     pub fn first_from(self, s: u64) -> u64
         ensures { result ≡ count_trailing_zeros 256 (rotated s (bits_in self)) }
     {
-        let m = self;
         let q = s % 64;
-        let mut j = s / 64 % 4;
-        let near = zeros_in(m.word(j) >> q);
+        let own = s / 64 % 4;
+        let near = zeros_in(self.word(own) >> q);
         if near < 64 {
             return near;
         }
-        let mut passed = 64 - q;
-        while passed < 256 {
-            j = (j + 1) % 4;
-            let z = zeros_in(m.word(j));
-            if z < 64 {
-                return passed + z;
+        for n in 1..5 {
+            let zeros = zeros_in(self.word((own + n) % 4));
+            if zeros < 64 {
+                return 64 * n - q + zeros;
             }
-            passed += 64;
         }
         256
     }
@@ -301,8 +267,7 @@ impl Map {
     pub fn held_from(self, s: u64, k: u64) -> u64
         ensures { result ≡ ones (rotated s (bits_in self) % 2 ^ k) }
     {
-        let t = self.turned(s / 64 % 4);
-        t.front(s % 64, smaller(k, 256)).held()
+        self.turned(s / 64 % 4).front(s % 64, k.min(256)).held()
     }
 
     // The map without the k places from s on, counted round; beyond 256 nothing is left.
@@ -321,7 +286,7 @@ impl Map {
         ensures { result ≡ map_of (only s k (bits_in self)) }
     {
         let w = self.words;
-        let n = smaller(k, 256);
+        let n = k.min(256);
         Map {
             words: [
                 w[0] & span(s, n, 0),

@@ -2,7 +2,9 @@
 -- Assumes nothing.
 use mathlib.Core.Path.{◌≡◌, sym, ap, ◌∙◌}
 use mathlib.Core.Bool.{Bool, true, ◌&&◌}
+use Prim.Native.Nat.{ℕ, ◌/◌, ◌^◌}
 use native.Mathlib.Omega.{arith}
+use lib.Bits.{and_mask}
 use lib.Dec.{eqb, leb}
 use lib.ListN.{get_or}
 use borrow.Author.Rules.{rules}
@@ -22,7 +24,7 @@ unfolding place_from
 returns-then-channels-at c =
     let a = c.args in
     let at = c.loop-at.at in
-    let e : open_for a.channels.now a.used a.channel at ≡ true = ap (λ (x : Bool). eqb (get_or a.channels.now at 0) a.channel && x) (sym c.bit_in.ensures) ∙ c.if-channels-at.true in
+    let e : open_for a.channels.now a.used a.channel at ≡ true = ap (λ (d : ℕ). eqb (get_or a.channels.now at 0) a.channel && eqb d 1) (sym (and_mask (a.used / 2 ^ at) 1)) ∙ c.if-channels-at.true in
     let g : leb a.from at && open_for a.channels.now a.used a.channel at ≡ true = ap (λ (x : Bool). x && open_for a.channels.now a.used a.channel at) (le-leb _ _ c.loop-at.auto.at) ∙ e in
     (sym (least_at (λ j. leb a.from j && open_for a.channels.now a.used a.channel j) 32 at (omega arith) g c.loop-at.invariant), omega arith)
 

@@ -4,8 +4,8 @@ use borrow.Author.Rules.{rules}
 use Rattle.stream.specs.Pushed.{ran_inside, ran_pushed}
 use Rattle.stream.proofs.drawn.Goals as goal
 
-pub behind-next-requires : goal.behind-next-requires
-behind-next-requires c =
+pub behind-requires : goal.behind-requires
+behind-requires c =
     let s = c in
     (ran_inside s.args.st s.args.kept.now s.args.cut.now s.requires s.args.closing c.over-ran.result c.over-ran.ensures.0, omega (arith, s.requires.fits))
 
@@ -13,4 +13,4 @@ pub returns : goal.returns
 returns c =
     let s = c in
     let o = c.over-ran in
-    rw c.behind-next.ensures (ran_pushed s.args.st s.args.kept.now s.args.cut.now s.requires s.args.closing o.result o.ensures.0 _ _ _ o.ensures.1 c.keep_rest.ensures)
+    rw c.behind.ensures (ran_pushed s.args.st s.args.kept.now s.args.cut.now s.requires s.args.closing o.result o.ensures.0 _ _ _ o.ensures.1 c.keep_rest.ensures)

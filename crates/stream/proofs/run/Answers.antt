@@ -1,8 +1,13 @@
 use borrow.Author.Rules.{rules}
 use native.Mathlib.Omega.{arith}
 use Prim.Native.Nat.{ℕ, ◌+◌, ◌-◌, ◌≤◌, ◌<◌}
-use mathlib.Core.Path.{◌≡◌, sym, ap, ◌∙◌}
-use mathlib.Core.Bool.{false}
+use mathlib.Core.Path.{◌≡◌, refl, sym, ap, ◌∙◌}
+use mathlib.Core.Bool.{false, not}
+use lib.Dec.{eqb}
+use Rattle.std.specs.Prelude.{⊤, Result, Ok, Err, is_err}
+use Rattle.terms.specs.Refusals.{refusal_not_0}
+use Rattle.terms.specs.Verdicts.{verdict_number}
+use Rattle.terms.specs.declared.Refusal.{Refusal}
 use mathlib.Core.List.{List, ◌++◌}
 use lib.ListN.{length, length-append}
 use Rattle.reading.specs.Seen.{seen_number}
@@ -10,6 +15,11 @@ use Rattle.stream_spec.specs.Run.{stride_of, waits_at, passed_over}
 use Rattle.stream_spec.specs.RunLaws.{Left, left_start, left_over_lem, left_note, left_wait, left_end, seen_at}
 use Rattle.stream.proofs.run.Goals as goal
 use Rattle.stream.proofs.run.Goals.{After-passes, After-waits, At-loop-p, Else-passes, Else-waits, In-loop-p, Start}
+
+-- whether it was refused, by its number
+refused_by : (a : Result ⊤ Refusal) → is_err a ≡ not (eqb (verdict_number a) 0)
+refused_by (Ok u) = refl
+refused_by (Err w) = rw (refusal_not_0 w)
 
 abbrev start : goal.At-loop-p → goal.Start
 start c = (goal.at.At-loop-p c).Start
@@ -25,10 +35,10 @@ inside c = omega (arith, long (goal.at.In-loop-p c).At-loop-p, c.loop-p-test.tru
 
 -- what was asked of the reading's number is so of the reading
 waiting : (c : goal.After-waits) → waits_at (start (goal.at.After-waits c).At-loop-p).args.closing (seen_number c.see_at-seen.result) ≡ c.waits.result
-waiting c = ap (waits_at _) (sym c.number-answer.ensures) ∙ sym c.waits.ensures
+waiting c = sym c.waits.ensures
 
 passing : (c : goal.After-passes) → passed_over c.loop-p.seeking (seen_number c.see_at-seen.result) ≡ c.passes.result
-passing c = ap (passed_over _) (sym c.number-answer.ensures) ∙ sym c.passes.ensures
+passing c = sym c.passes.ensures
 
 -- the place does not wait
 not-waiting : (c : goal.Else-waits) → waits_at (start (goal.at.Else-waits c).At-loop-p).args.closing (seen_number c.see_at-seen.result) ≡ false
@@ -54,9 +64,9 @@ loop-p-smaller c = omega (arith, c.stride-p.ensures, (far (goal.at.loop-p-smalle
 
 pub loop-p-preserved : goal.loop-p-preserved
 loop-p-preserved c =
-    rw (c.stride-p.ensures, c.number-answer.ensures)
+    rw (c.stride-p.ensures, c.is_err-seeking.ensures.value, refused_by _)
     (left_note _ _ _ _ _ _ _ _ _ _ _ _ c.loop-p.invariant _ _ _ _ _ (inside (goal.at.loop-p-preserved c).In-loop-p) c.see_at-seen.ensures (not-waiting (goal.at.loop-p-preserved c).Else-waits) (passing (goal.at.loop-p-preserved c).After-passes ∙ c.if-passes.false)
-    c.offer-after.ensures c.made.ensures (rw c.number-answer.ensures at c.counted-tally.ensures) c.note.ensures)
+    c.offer-after.ensures c.made.ensures c.counted-tally.ensures c.note.ensures)
 
 pub returns-after-loop-p : goal.returns-after-loop-p
 returns-after-loop-p c =

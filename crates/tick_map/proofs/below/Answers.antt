@@ -1,11 +1,10 @@
 -- Words before the place's own are whole, its own has the digits below it. Assumes nothing.
-use mathlib.Core.Path.{◌≡◌, ap, ◌∙◌}
+use mathlib.Core.Path.{ap, ◌∙◌}
 use Prim.Native.Nat.{ℕ, ◌-◌, ◌/◌, ◌^◌}
 use lib.Dec.{eqb, ltb}
 use Rattle.terms.specs.Paper.{pick}
 use Rattle.tick_map.specs.Bits.{bit}
 use Rattle.tick_map.proofs.Places.{below_bit}
-use borrow.Author.Rules.{rules}
 use Rattle.tick_map.proofs.below.Goals as goal
 
 pub returns : goal.returns

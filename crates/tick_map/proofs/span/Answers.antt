@@ -1,5 +1,5 @@
 -- Digit by digit: below one end, below the other, and round. Assumes nothing.
-use mathlib.Core.Path.{◌≡◌, ap, ap₂, ◌∙◌}
+use mathlib.Core.Path.{ap, ap₂, ◌∙◌}
 use Prim.Native.Nat.{ℕ, ◌+◌, ◌*◌, ◌%◌, ◌<◌}
 use native.Mathlib.Omega.{arith}
 use lib.Bits.{differ, bit_xor}
@@ -7,7 +7,6 @@ use lib.Dec.{leb}
 use Rattle.tick_map.specs.Bits.{bit}
 use Rattle.tick_map.proofs.Digits.{bit_xor_lem}
 use Rattle.tick_map.proofs.Places.{all_bit, span_digit}
-use borrow.Author.Rules.{rules}
 use Rattle.tick_map.proofs.span.Goals as goal
 
 pub returns : goal.returns

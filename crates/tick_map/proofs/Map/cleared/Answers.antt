@@ -1,5 +1,5 @@
 -- Word by word, the digits that differ from those of the stretch alone. Assumes nothing.
-use mathlib.Core.Path.{◌≡◌, sym, ap, ◌∙◌, subst}
+use mathlib.Core.Path.{sym, ap, ◌∙◌, subst}
 use Rattle.tick_map.specs.Bits.{Words, bits_in}
 use Rattle.tick_map.specs.declared.Map.{Map}
 use Rattle.tick_map.proofs.Places.{xor_words, xor_each, cleared_words}

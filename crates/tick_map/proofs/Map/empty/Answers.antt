@@ -1,5 +1,4 @@
 -- No place is held exactly where no word has a digit set. Assumes nothing.
-use borrow.Author.Rules.{rules}
 use Rattle.tick_map.proofs.Words.{value_zero}
 use Rattle.tick_map.proofs.Map.empty.Goals as goal
 

@@ -17,4 +17,4 @@ pub returns : goal.returns
 returns c =
     let s = c in
     c.held.ensures ∙ ap (λ (x : Map). ones (bits_in x)) c.front.ensures
-    ∙ front_ones s.args.s s.args.k _ (bits_in s.args.self) _ (list_lt _ (words (goal.at.returns c).Start)) c.smaller.ensures c.turned-t.ensures
+    ∙ front_ones s.args.s s.args.k _ (bits_in s.args.self) _ (list_lt _ (words (goal.at.returns c).Start)) c.min.ensures c.turned.ensures

@@ -1,7 +1,6 @@
 -- The places of the complement. Assumes nothing.
-use mathlib.Core.Path.{◌≡◌, ap, ◌∙◌}
+use mathlib.Core.Path.{ap, ◌∙◌}
 use Prim.Native.Nat.{ℕ}
-use borrow.Author.Rules.{rules}
 use Rattle.tick_map.specs.Bits.{map_of}
 use Rattle.tick_map.specs.Ring.{only, lacking}
 use Rattle.tick_map.proofs.Map.lacking.Goals as goal

@@ -24,6 +24,6 @@ returns c =
     let s = c in
     let a = s.args in
     let lt = list_lt _ (words (goal.at.returns c).Start) in
-    c.none_but_in.ensures ∙ ap (λ (x : ℕ). eqb (rotated (a.s % 64 + 1) x / 2 ^ a.k) 0) c.turned-t.ensures
+    c.front_but.ensures ∙ ap (λ (x : ℕ). eqb (rotated (a.s % 64 + 1) x / 2 ^ a.k) 0) c.turned.ensures
     ∙ ap (λ (x : ℕ). eqb (x / 2 ^ a.k) 0) (rotated_turned a.s 1 (bits_in a.self) lt)
     ∙ sym (without_none (a.s + 1) a.k (bits_in a.self) lt)
