@@ -190,8 +190,8 @@ fn tail_at(s: &[u8], at: usize) -> Result<usize, Wrong>
     requires { at ≤ length s.now }
     ensures { verdict_paper result ≡ tail_fault marks at s.now }
 {
-    let mut p = at;
-    for m in MARKS {
+    for (i, &m) in MARKS.iter().enumerate() {
+        let p = at + i;
         if s.len() <= p {
             return Err(Wrong {
                 fault: Fault::CutShort,
@@ -204,9 +204,8 @@ fn tail_at(s: &[u8], at: usize) -> Result<usize, Wrong>
                 place: p,
             });
         }
-        p += 1;
     }
-    Ok(p)
+    Ok(at + MARKS.len())
 }
 
 // The same, and nothing behind them.
