@@ -51,6 +51,7 @@ market_values_answers =
 step_frame_answers : Named
 step_frame_answers =
     let field_at_one_answer = step_frame.field_at_one_answer in
+    let U32FromStepRefusal_from_one_answer = step_frame.U32FromStepRefusal_from_one_answer in
     let read_at_one_answer = step_frame.read_at_one_answer in
     let write_one_answer = step_frame.write_one_answer in
     named
