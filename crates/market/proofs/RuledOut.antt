@@ -78,7 +78,7 @@ rows_of_wrong =
 
 pub rows_of_rules_out : RulesOut (Kept _ rows-of-kinds.ps rows-of-kinds.r rows_of_lem.Post) (λ c. line_number c.args.0) (λ c. c.result.first ∷ c.result.last ∷ []) rows_of_wrong
 rows_of_rules_out =
-    ruled lists (λ (t : ℕ). first_of t ∷ last_of t ∷ []) (λ c p. ap₂ (λ (f : ℕ) (l : ℕ). f ∷ l ∷ []) p.1.1.0 p.1.1.1) _ refl
+    ruled lists (λ (t : ℕ). first_of t ∷ last_of t ∷ []) (λ c p. ap₂ (λ (f : ℕ) (l : ℕ). f ∷ l ∷ []) p.1.0 p.1.1) _ refl
 
 -- CHECK: files
 abbrev empty : List ℕ
