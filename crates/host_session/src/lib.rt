@@ -4,16 +4,16 @@
 // sent, when a frame was last taken, the agreed interval, and 0. A refusal writes nothing.
 #![tactic(auto)]
 
-ghost use Rattle.std.specs.Prelude.{◌≡◌, ◌&&◌, eqb, leb};
+ghost use Rattle.std.specs.Prelude.{◌≡◌, ◌&&◌, eqb, leb, [], ◌∷◌, Some};
 ghost use Rattle.terms.specs.Paper.{pick};
 ghost use Rattle.session_spec.specs.Table.{Begin, Time, Leave, Ask};
 ghost use Rattle.session_spec.specs.Calls.{one, answer_to, opened};
-ghost use Rattle.session.specs.Papers.{state_of, kind_of, event_of, line_of};
+ghost use Rattle.session.specs.Papers.{state_of, kind_of, event_of, sent_kind, sent_number, line_of};
 ghost use Rattle.session.specs.Arrivals.{event_in};
 ghost use Rattle.host_words.specs.Told.{Tells};
 ghost use Rattle.host_session.specs.Words.{state_number, state_numbered, words_of, line_in, type_number, call_told, arrival_told, words_after};
 
-use session::{Event, Kind, Session, State};
+use session::{Event, Kind, Outcome, Session, State};
 use terms::SessionNumber;
 
 fn number_of(state: State) -> u64
@@ -32,19 +32,13 @@ fn number_of(state: State) -> u64
 fn state_in(word: u64) -> State
     ensures { state_of result ≡ state_numbered word }
 {
-    if word == 0 {
-        return State::New;
+    match word {
+        0 => State::New,
+        1 => State::Waiting,
+        2 => State::Active,
+        3 => State::Leaving,
+        _ => State::Over,
     }
-    if word == 1 {
-        return State::Waiting;
-    }
-    if word == 2 {
-        return State::Active;
-    }
-    if word == 3 {
-        return State::Leaving;
-    }
-    State::Over
 }
 
 // Our next number. Where the first word is above 4, or the last is not 0, it is 0, which breaks the
@@ -59,11 +53,9 @@ fn out_in(first: u64, out: u64, behind: u64) -> u64
 fn session_in(words: &[u64; 8]) -> Session
     ensures { line_of result ≡ line_in words.now }
 {
-    let out = out_in(words[0], words[1], words[7]);
-    let state = state_in(words[0]);
     Session {
-        state,
-        sending: SessionNumber::new(out),
+        state: state_in(words[0]),
+        sending: SessionNumber::new(out_in(words[0], words[1], words[7])),
         expecting: SessionNumber::new(words[2]),
         last: words[3],
         sent: words[4],
@@ -75,13 +67,10 @@ fn session_in(words: &[u64; 8]) -> Session
 fn words_of(session: Session) -> [u64; 8]
     ensures { result ≡ words_of (line_of session) }
 {
-    let state = session.state;
-    let sending = session.sending;
-    let expecting = session.expecting;
     [
-        number_of(state),
-        sending.value(),
-        expecting.value(),
+        number_of(session.state),
+        session.sending.value(),
+        session.expecting.value(),
         session.last,
         session.sent,
         session.heard,
@@ -90,12 +79,11 @@ fn words_of(session: Session) -> [u64; 8]
     ]
 }
 
-// The MsgType of what is to be sent, its four letters as one number; 0 for nothing.
+// The MsgType of what is to be sent, its four letters as one number.
 fn type_of(kind: Kind) -> u64
-    ensures { result ≡ type_number (kind_of kind) }
+    ensures { result ≡ type_number (kind_of (Some kind)) }
 {
     match kind {
-        Kind::Nothing => 0,
         Kind::S001 => 0x53303031,
         Kind::S002 => 0x53303032,
         Kind::S003 => 0x53303033,
@@ -103,10 +91,16 @@ fn type_of(kind: Kind) -> u64
     }
 }
 
-fn one_if(b: bool) -> u64
-    ensures { result ≡ one b }
+// What is told of a call that is not refused: the MsgType to send, 0 for nothing, its MsgSeqNum, and
+// whether the line was called dead.
+fn outcome_words(outcome: Outcome) -> [u64; 3]
+    ensures { result ≡ type_number (sent_kind outcome.message) ∷ sent_number outcome.message ∷ one outcome.dead ∷ [] }
 {
-    if b { 1 } else { 0 }
+    let (kind, number) = match outcome.message {
+        Some(message) => (type_of(message.kind), message.number.value()),
+        None => (0, 0),
+    };
+    [kind, number, u64::from(outcome.dead)]
 }
 
 // A new session: both counters 1. Always 0.
@@ -117,24 +111,20 @@ pub fn rk_session_open(state: &mut [u64; 8]) -> u32
     0
 }
 
-// One call of a host. Told beside 0: the MsgType to send, 0 for nothing, its MsgSeqNum, and whether
-// the line was called dead.
+// One call of a host.
 fn call(state: &mut [u64; 8], time: u64, event: Event, told: &mut [u64; 3]) -> u32
     ensures { Tells (call_told state.old time (event_of event)) told.old result told.new
         × (state.new ≡ words_after state.old time (event_of event)) }
 {
     let turn = session_in(state).turn(time, event);
-    let verdict = turn.answer;
-    let answer = verdict.number();
-    if answer != 0 {
-        return answer;
+    match turn.answer {
+        Ok(outcome) => {
+            *state = words_of(turn.next);
+            *told = outcome_words(outcome);
+            0
+        }
+        Err(why) => u32::from(why),
     }
-    let next = turn.next;
-    let kind = turn.kind;
-    let number = turn.number;
-    *state = words_of(next);
-    *told = [type_of(kind), number.value(), one_if(turn.dead)];
-    0
 }
 
 // Begins: our logon is to be sent.
@@ -175,26 +165,21 @@ pub fn rk_session_receive(state: &mut [u64; 8], time: u64, bytes: &[u8], told: &
         × (state.new ≡ words_after state.old time (event_in bytes.now)) }
 {
     let arrived = session::told_by(bytes);
-    let event = arrived.event;
-    let turn = session_in(state).turn(time, event);
-    let verdict = turn.answer;
-    let answer = verdict.number();
-    if answer != 0 {
-        return answer;
+    let turn = session_in(state).turn(time, arrived.event);
+    match turn.answer {
+        Ok(outcome) => {
+            let [kind, number, dead] = outcome_words(outcome);
+            *state = words_of(turn.next);
+            *told = [kind, number, dead, arrived.length.unwrap_or(0) as u64];
+            0
+        }
+        Err(why) => u32::from(why),
     }
-    let next = turn.next;
-    let kind = turn.kind;
-    let number = turn.number;
-    let length = arrived.length as u64;
-    *state = words_of(next);
-    *told = [type_of(kind), number.value(), one_if(turn.dead), length];
-    0
 }
 
 // What sending a request would be answered now. Nothing is sent, and nothing moves.
 pub fn rk_session_may_send(state: &[u64; 8], time: u64) -> u32
     ensures { result ≡ (answer_to (line_in state.now) time Ask).number }
 {
-    let verdict = session_in(state).may_send(time);
-    verdict.number()
+    terms::number_of(session_in(state).may_send(time))
 }

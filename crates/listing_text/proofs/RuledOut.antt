@@ -3,10 +3,10 @@
 use Prim.Native.Nat.{ℕ}
 use mathlib.Core.Path.{refl}
 use mathlib.Core.List.{List, [], ◌∷◌, ◌++◌}
-use lib.ListN.{length, take, replicate}
-use Rattle.terms.specs.Paper.{Paper, answer, refusal}
+use lib.ListN.{length, replicate}
+use Rattle.terms.specs.Paper.{answer, refusal}
 use Rattle.terms.specs.Counters.{tick_of}
-use Rattle.terms.specs.RuledOut.{Row, ◌never◌, ◌only◌, Kept, RulesOut, ruled, lists, papers, Left, left, lefts, left_is}
+use Rattle.terms.specs.RuledOut.{Row, ◌never◌, ◌only◌, Kept, RulesOut, ruled, Left, left, lefts, left_is}
 use Rattle.octets.specs.Octets.{digits_of, laid, numeral}
 use Rattle.octets.specs.Papers.{written_paper, room_for, laid_if_room}
 use Rattle.digits.specs.Digits.{decimal_of, width_in}

@@ -2,15 +2,15 @@
 use Rattle.std.specs.Prelude.{ℕ, ◌+◌, ◌≤◌, ◌≡◌, refl, true, false, List, [], ◌∷◌, leb, length}
 use Rattle.std.proofs.Common.{sym, ◌∙◌, zero-add, arith, le-leb}
 use Rattle.terms.specs.Paper.{answer, refusal}
-use Rattle.octets.specs.declared.Written.{Written}
-use Rattle.octets.specs.declared.Written.TheVariants.{Bytes}
+use Rattle.std.specs.Prelude.{Result, Ok}
+use Rattle.terms.specs.declared.Refusal.{Refusal}
 use Rattle.octets.specs.Papers.{written_paper, room_for, laid_if_room, room_there, room_lacks, laid_there, laid_kept}
 use Rattle.listing_text.specs.Columns.{as_many}
 use Rattle.record.specs.Stored.{Stored, stored}
 
 -- where there is room
-module _ {at : ℕ} {bs d e : List ℕ} {w : Written} (h : at + length bs ≤ length d) (p : written_paper w ≡ room_for at (length bs) (length d)) where
-  pub answered : (m : ℕ) → w ≡ Bytes m → e ≡ laid_if_room at bs d → Stored at bs d e (at + m)
+module _ {at : ℕ} {bs d e : List ℕ} {w : Result ℕ Refusal} (h : at + length bs ≤ length d) (p : written_paper w ≡ room_for at (length bs) (length d)) where
+  pub answered : (m : ℕ) → w ≡ Ok m → e ≡ laid_if_room at bs d → Stored at bs d e (at + m)
   answered m t q =
       let l : m ≡ length bs = as_many at (length bs) (length d) w h p m t in
       stored at m bs d e (sym l) (omega arith) q

@@ -3,7 +3,7 @@
 // there is room for all: without room nothing is written and the answer is 8.
 #![tactic(auto)]
 
-ghost use Rattle.std.specs.Prelude.{◌≡◌, ◌+◌, ◌≤◌, ◌*◌, length, take, leb};
+ghost use Rattle.std.specs.Prelude.{◌≡◌, ◌+◌, ◌≤◌, ◌*◌, length, leb};
 ghost use Rattle.octets.specs.Papers.{written_paper, room_for, laid_if_room};
 ghost use Rattle.digits.specs.Digits.{width_of};
 ghost use Rattle.record.specs.Stored.{Stored};
@@ -30,37 +30,21 @@ const BLANK: u32 = 0x20202020;
 // What stands for it in a line.
 const DASHES: u32 = 0x2D2D2D2D;
 
-// Writes the first n bytes of src over out from at on.
-fn lay_front(out: &mut [u8], at: usize, src: &[u8], n: usize) -> Result<usize, Refusal>
-    requires { n ≤ length src.now }
-    ensures { (written_paper result ≡ room_for at n (length out.old)) × (out.new ≡ laid_if_room at (take n src.now) out.old) }
-{
-    octets::lay(out, at, &src[..n])
-}
-
 // Writes a number and the byte after it over d from at on, and returns the place after both.
 fn store_column(d: &mut [u8], at: usize, v: u64, behind: u8) -> usize
     requires { Room at (column v behind) d.old }
     ensures { Stored at (column v behind) d.old d.new result }
 {
-    match digits::put_decimal(d, at, v) {
-        Err(_) => at,
-        Ok(n) => {
-            let e = at + n;
-            d[e] = behind;
-            e + 1
-        }
-    }
+    let end = at + digits::put_decimal(d, at, v).unwrap();
+    d[end] = behind;
+    end + 1
 }
 
 // What a line shows of a type.
 fn shown(t: u32) -> u32
     ensures { result ≡ type_shown t }
 {
-    if t == BLANK {
-        return DASHES;
-    }
-    t
+    if t == BLANK { DASHES } else { t }
 }
 
 // Writes a type and a space over d from at on, and returns the place after them.
@@ -68,10 +52,9 @@ fn store_type(d: &mut [u8], at: usize, t: u32) -> usize
     requires { Room at (type_column t) d.old }
     ensures { Stored at (type_column t) d.old d.new result }
 {
-    octets::put(d, at, 4, shown(t) as u64);
-    let e = at + 4;
-    d[e] = b' ';
-    e + 1
+    d[at..at + 4].copy_from_slice(&shown(t).to_be_bytes());
+    d[at + 4] = b' ';
+    at + 5
 }
 
 // Writes the first four columns over d from at on, and returns the place after them.
@@ -113,7 +96,7 @@ pub fn put_line(out: &mut [u8], at: usize, r: Record) -> Result<usize, Refusal>
     // no line has more
     let mut d: [u8; 127] = [0; 127];
     let n = store_line(&mut d, 0, r);
-    lay_front(out, at, &d, n)
+    octets::lay(out, at, &d[..n])
 }
 
 // Writes a word, its number and the byte after it over d from at on, and returns the
@@ -122,7 +105,7 @@ fn store_named(d: &mut [u8], at: usize, word: &[u8], v: u64, behind: u8) -> usiz
     requires { Room at (named word.now v behind) d.old }
     ensures { Stored at (named word.now v behind) d.old d.new result }
 {
-    octets::lay(d, at, word);
+    d[at..at + word.len()].copy_from_slice(word);
     store_column(d, at + word.len(), v, behind)
 }
 
@@ -146,7 +129,7 @@ pub fn put_summary(out: &mut [u8], at: usize, s: Summary) -> Result<usize, Refus
     // no last line has more
     let mut d: [u8; 138] = [0; 138];
     let n = store_summary(&mut d, 0, s);
-    lay_front(out, at, &d, n)
+    octets::lay(out, at, &d[..n])
 }
 
 // How many bytes a number takes with the byte after it.
@@ -179,10 +162,8 @@ fn last_len(s: Summary) -> usize
 fn roomy(room: usize, lines: usize, end: usize) -> bool
     ensures { result ≡ leb (127 * lines + end) room }
 {
-    if room < end {
-        return false;
-    }
-    lines <= (room - end) / 127
+    room.checked_sub(end)
+        .is_some_and(|left| lines <= left / 127)
 }
 
 // Whether so much room takes all lines and `end` bytes more: they are counted only where that is
@@ -194,14 +175,12 @@ fn takes(room: usize, records: &[u8], end: usize) -> bool
         return true;
     }
     let mut left = room;
-    let mut passed: usize = 0;
-    while passed < records.len() / 64 {
-        let n = line_len(record::record_at(records, 64 * passed));
+    for k in 0..records.len() / 64 {
+        let n = line_len(record::record_at(records, 64 * k));
         if left < n {
             return false;
         }
         left -= n;
-        passed += 1;
     }
     end <= left
 }
@@ -212,10 +191,8 @@ fn store_lines(out: &mut [u8], records: &[u8]) -> usize
     ensures { Stored 0 (lines_in records.now) out.old out.new result }
 {
     let mut at: usize = 0;
-    let mut laid: usize = 0;
-    while laid < records.len() / 64 {
-        at = store_line(out, at, record::record_at(records, 64 * laid));
-        laid += 1;
+    for k in 0..records.len() / 64 {
+        at = store_line(out, at, record::record_at(records, 64 * k));
     }
     at
 }

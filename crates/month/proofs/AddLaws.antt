@@ -1,16 +1,20 @@
 -- Adding a capture: the rows' figures are those of the capture, and what each answer leaves.
 -- Assumes nothing.
 use Prim.Native.Nat.{ℕ, ◌+◌, ◌*◌, ◌/◌, ◌%◌, ◌≤◌, ◌<◌}
-use mathlib.Core.Path.{◌≡◌, refl, sym, ap, ap₂, ◌∙◌}
+use mathlib.Core.Path.{◌≡◌, refl, sym, ap, ◌∙◌}
 use mathlib.Core.Bool.{Bool, true, false}
 use mathlib.Core.Logic.{⊎_elim}
 use mathlib.Core.List.{List, [], ◌∷◌}
 use native.Mathlib.Omega.{arith}
-use lib.Dec.{eqb, leb, ltb}
+use lib.Dec.{leb}
 use lib.ListN.{get_or}
-use borrow.Author.Tests.{eq-eqb, ne_eqb, lt-ltb, le-ltb}
+use borrow.Author.Tests.{lt-ltb, le-ltb}
 use Rattle.terms.specs.Cases.{less}
 use Rattle.terms.specs.Paper.{Paper, answer, pick}
+use Rattle.std.specs.Prelude.{Ok, Some, None}
+use Rattle.terms.specs.Refusals.{number_of, refusal_not_0}
+use Rattle.terms.specs.declared.Refusal.{Refusal}
+use Rattle.terms.specs.declared.Refusal.TheVariants.{State, Captures, Sums}
 use Rattle.ledger_spec.specs.State.{Book}
 use Rattle.ledger_spec.specs.Calls as ledger
 use Rattle.ledger_spec.specs.Calls.{Ask, Missing}
@@ -21,18 +25,18 @@ use Rattle.ledger.specs.State.{book_of, ledger_of}
 use Rattle.ledger.proofs.Seam.{book_of_lem}
 use Rattle.reading.specs.declared.Seen.{Seen}
 use Rattle.clean_spec.specs.Figures.{calls_made}
-use Rattle.month_spec.specs.Figures.{ticks_answered, resent, Figures, figures_of, figures_by, reads_in, numbers_in, figure_of}
+use Rattle.month_spec.specs.Figures.{ticks_answered, resent, Figures, figures_by, reads_in, numbers_in, figure_of}
 use Rattle.month_spec.specs.Page.{Page, captures, figures_in_all, highest, tabled, all_below, sound_of, PageRules}
 use Rattle.month_spec.specs.Calls.{figure_at, sum_fits, number_to, figures_told, nothing_told, answer_to, counted, next_of}
 use Rattle.month_spec.proofs.Lists.{get_d_tabled, tabled_same, all_same}
 use Rattle.month_spec.proofs.Counted.{figures_reads, missing_is}
-use Rattle.month_spec.proofs.Rules.{rules_facts}
 use Rattle.month_spec.proofs.Given.{figure_place, figure_unnamed, broken_is, full_is, passes_is, done_is}
 use Rattle.month.specs.declared.Month.{Month}
 use Rattle.month.specs.declared.Added.{Added}
 use Rattle.month.specs.declared.Row.{Row}
 use Rattle.month.specs.State.{page_in, month_of, added_paper, no_figures, refused_with, sum_in, sum_fits_in}
-use Rattle.month.specs.Rows.{row_after, Naming, Kept, row_numbers, no_row, row_figure, row_figures}
+use Rattle.month.specs.Naming.{Naming}
+use Rattle.month.specs.Rows.{row_after, Kept, row_numbers, no_row, row_figure, row_figures}
 
 -- ---- a row's figures
 
@@ -98,30 +102,39 @@ module _ (p : Page) (s : List ℕ) (figures : List ℕ) (is : figures ≡ figure
   unfolding counted
   page_counted sums e = rw (e ∙ sums_are)
 
+-- whether there are sums, and which
+pub sums_none : (b : Bool) (sums : List ℕ) → None ≡ pick b (Some sums) None → b ≡ false
+sums_none false sums e = refl
+sums_none true sums e = cc
+
+pub sums_some : (b : Bool) (sums told : List ℕ) → Some told ≡ pick b (Some sums) None → (b ≡ true) × (told ≡ sums)
+sums_some true sums told e = (refl, cc)
+sums_some false sums told e = cc
+
 -- ---- what each answer leaves
 
 abbrev pub Answers : Month → List ℕ → Added → Type 0
 Answers m s r = (added_paper r ≡ answer_to (page_in m) s) × (r.page ≡ month_of (next_of (page_in m) s))
 
 module _ (m : Month) (s : List ℕ) where
-  refused_answer : (n : ℕ) → number_to (page_in m) s ≡ n → (n ≡ 0 → ⊥) → Answers m s (refused_with m n)
-  unfolding refused_with no_figures answer_to nothing_told next_of
-  refused_answer n e ne = rw (ne_eqb (number_to (page_in m) s) 0 (λ z. ne (sym e ∙ z))) (rw e, refl)
+  refused_answer : (w : Refusal) → number_to (page_in m) s ≡ number_of w → Answers m s (refused_with m w)
+  unfolding no_figures answer_to nothing_told next_of
+  refused_answer w e = rw (e, refusal_not_0 w) (refl, refl)
 
-  leaves : (n : ℕ) (r : Added) → number_to (page_in m) s ≡ n → (n ≡ 0 → ⊥) → r ≡ refused_with m n → Answers m s r
-  leaves n r e ne is = rw is (refused_answer n e ne)
+  leaves : (w : Refusal) (r : Added) → number_to (page_in m) s ≡ number_of w → r ≡ refused_with m w → Answers m s r
+  leaves w r e is = rw is (refused_answer w e)
 
-  pub leaves_13 : (r : Added) → sound_of (page_in m) ≡ false → r ≡ refused_with m 13 → Answers m s r
-  leaves_13 r f is = leaves 13 r (broken_is (page_in m) s f) (λ z. omega arith) is
+  pub leaves_13 : (r : Added) → sound_of (page_in m) ≡ false → r ≡ refused_with m State → Answers m s r
+  leaves_13 r f is = leaves State r (broken_is (page_in m) s f) is
 
-  pub leaves_27 : (r : Added) → sound_of (page_in m) ≡ true → captures ≤ m.taken → r ≡ refused_with m 27 → Answers m s r
-  leaves_27 r t h is = leaves 27 r (full_is (page_in m) s t h) (λ z. omega arith) is
+  pub leaves_27 : (r : Added) → sound_of (page_in m) ≡ true → captures ≤ m.taken → r ≡ refused_with m Captures → Answers m s r
+  leaves_27 r t h is = leaves Captures r (full_is (page_in m) s t h) is
 
-  pub leaves_28 : (r : Added) → sound_of (page_in m) ≡ true → m.taken < captures → all_below (sum_fits (page_in m) s) figures_in_all ≡ false → r ≡ refused_with m 28 → Answers m s r
-  leaves_28 r t h f is = leaves 28 r (passes_is (page_in m) s t h f) (λ z. omega arith) is
+  pub leaves_28 : (r : Added) → sound_of (page_in m) ≡ true → m.taken < captures → all_below (sum_fits (page_in m) s) figures_in_all ≡ false → r ≡ refused_with m Sums → Answers m s r
+  leaves_28 r t h f is = leaves Sums r (passes_is (page_in m) s t h f) is
 
   pub leaves_0 : (figures : List ℕ) (next : Month) → sound_of (page_in m) ≡ true → m.taken < captures → all_below (sum_fits (page_in m) s) figures_in_all ≡ true
       → figures ≡ figures_told (page_in m) s → next ≡ month_of (counted (page_in m) s)
-      → Answers m s (record { answer = 0; figures = figures; page = next })
+      → Answers m s (record { answer = Ok figures; page = next })
   unfolding answer_to next_of
   leaves_0 figures next t h f is e = rw (done_is (page_in m) s t h f) (ap (answer 0) is, e)

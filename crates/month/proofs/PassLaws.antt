@@ -1,6 +1,6 @@
 -- The pass over a capture: row j is what channel j's frames so far made of it, and what is left
 -- makes the rest. Assumes nothing.
-use Prim.Native.Nat.{ℕ, ◌+◌, ◌%◌, ◌≤◌, ◌<◌}
+use Prim.Native.Nat.{ℕ, ◌≤◌, ◌<◌}
 use mathlib.Core.Path.{◌≡◌, refl, sym, ap, ◌∙◌}
 use mathlib.Core.Logic.{⊎_elim}
 use mathlib.Core.List.{List, [], ◌∷◌, ◌++◌, append_assoc, append-nil}
@@ -9,7 +9,11 @@ use lib.ListN.{length, get_or, set, drop, length-set, length-append}
 use lib.Seq.{get_or-set_same, get_or-set_other}
 use lib.Dec.{eqb}
 use borrow.Author.Tests.{eq-eqb, ne_eqb}
-use Rattle.terms.specs.Cases.{less, same}
+use Rattle.std.specs.Prelude.{true, false, Result, Ok, Err, ⊤, is_err}
+use Rattle.terms.specs.Cases.{same, clash}
+use Rattle.terms.specs.Refusals.{refusal_pos}
+use Rattle.terms.specs.Verdicts.{verdict_number}
+use Rattle.terms.specs.declared.Refusal.{Refusal}
 use Rattle.channels_spec.proofs.Least.{least_at, least_all}
 use Rattle.walk_laws.specs.Walk.{Sight}
 use Rattle.walk_laws.specs.Frames.{reads_of}
@@ -22,7 +26,8 @@ use Rattle.month_spec.specs.Figures.{reads_in}
 use Rattle.month_spec.specs.Page.{places, place_in}
 use Rattle.month_spec.proofs.Rules.{found_at, found_not}
 use Rattle.month.specs.declared.Row.{Row}
-use Rattle.month.specs.Rows.{row_after, Turned, Roomy, Naming, Hints, Hinted, Kept}
+use Rattle.month.specs.Naming.{Naming, Hinted}
+use Rattle.month.specs.Rows.{row_after, Turned, Roomy, Kept}
 use Rattle.month.proofs.RowLaws.{row_other, row_own, Few, few_none, few_more, roomy_row}
 
 -- ---- fresh rows
@@ -31,26 +36,6 @@ pub record Opened (channels : List ℕ) (named j : ℕ) (rows : List Row) : Type
   pub size : length rows ≡ places
   pub within : j ≤ named
   pub each : (i : ℕ) (d : Row) → i < j → get_or rows i d ≡ row_after (get_or channels i 0) []
-
-module _ (channels : List ℕ) (named : ℕ) where
-  pub opened_start : (rows : List Row) → length rows ≡ places → Opened channels named 0 rows
-  opened_start rows e = record { size = e; within = omega arith; each = λ i d h. absurd (omega arith) }
-
-  pub opened_step : (j : ℕ) (rows : List Row) (r : Row) → Opened channels named j rows → j < named → named ≤ places → r ≡ row_after (get_or channels j 0) [] → Opened channels named (j + 1) (set rows j r)
-  opened_step j rows r o h l e =
-      record {
-        size = length-set rows j r ∙ o.size;
-        within = omega arith;
-        each = λ i d lt.
-            ⊎_elim (λ (g : i < j). get_or-set_other rows j i r d (λ (q : i ≡ j). omega arith) ∙ o.each i d g)
-            (λ (g : j ≤ i).
-            let q : i ≡ j = omega arith in
-            ap (λ (x : ℕ). get_or (set rows j r) x d) q ∙ get_or-set_same rows j r d (omega (arith, o.size)) ∙ e ∙ ap (λ (x : ℕ). row_after (get_or channels x 0) []) (sym q))
-            (less i j);
-      }
-
-  pub opened_end : (j : ℕ) (rows : List Row) → Opened channels named j rows → named ≤ j → Kept channels named [] rows
-  opened_end j rows o h = record { all_places = o.size; row_is = λ i d l. o.each i d (omega arith) }
 
 -- ---- the pass
 
@@ -66,29 +51,14 @@ pub hint_none : (channels : List ℕ) (named hint channel : ℕ) → Hinted chan
 hint_none channels named hint channel f h =
     sym (least_all (λ k. eqb (get_or channels k 0) channel) named (λ j l. ne_eqb _ _ (λ e. let q = f j l e in omega arith)))
 
-module _ (channels : List ℕ) (named : ℕ) where
-  pub hints_none : (hints : List ℕ) → length hints ≡ 256 → Hints channels named 0 hints
-  hints_none hints e = record { all_bytes = e; hinted = λ k h. absurd (omega arith) }
+-- an answer that is an error is no 0
+pub err_refused : (v : Result ⊤ Refusal) → is_err v ≡ true → verdict_number v ≡ 0 → ⊥
+err_refused (Ok _) e z = clash refl (sym e)
+err_refused (Err w) e z = refusal_pos w z
 
-  pub hints_one : (hints : List ℕ) (j low at : ℕ) → Hints channels named j hints → j < named → low ≡ get_or channels j 0 % 256 → low < 256 → at ≡ j → Hints channels named (j + 1) (set hints low at)
-  hints_one hints j low at w h e l f =
-      record {
-        all_bytes = length-set hints low at ∙ w.all_bytes;
-        hinted = λ k m.
-            ⊎_elim
-            (λ (q : get_or channels k 0 % 256 ≡ low). rw (q, get_or-set_same hints low at 0 (omega (arith, w.all_bytes)), f) h)
-            (λ (ne : get_or channels k 0 % 256 ≡ low → ⊥).
-            ⊎_elim (λ (g : k < j). rw (get_or-set_other hints low (get_or channels k 0 % 256) at 0 ne) (w.hinted k g))
-            (λ (g : j ≤ k). let q : k ≡ j = omega arith in absurd (ne (ap (λ (x : ℕ). get_or channels x 0 % 256) q ∙ sym e))) (less k j))
-            (same (get_or channels k 0 % 256) low);
-      }
-
-  pub hints_all : (hints : List ℕ) (j : ℕ) → Hints channels named j hints → named ≤ j → Hints channels named named hints
-  hints_all hints j w h = record { all_bytes = w.all_bytes; hinted = λ k l. w.hinted k (omega arith) }
-
-  -- the hint of a channel's own low byte is one for it
-  pub hints_tell : (hints : List ℕ) (channel hint : ℕ) → Hints channels named named hints → hint ≡ get_or hints (channel % 256) 0 → Hinted channels named channel hint
-  hints_tell hints channel hint w e k h f = rw (e, ← f) (w.hinted k h)
+pub ok_accepted : (v : Result ⊤ Refusal) → is_err v ≡ false → verdict_number v ≡ 0
+ok_accepted (Ok _) e = refl
+ok_accepted (Err w) e = absurd (clash refl e)
 
 -- done: the accepted frames so far. They and what is left are all that the capture has.
 pub record Left (s channels : List ℕ) (named : ℕ) (rows : List Row) (p : ℕ) : Type 0 where

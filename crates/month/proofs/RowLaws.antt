@@ -1,20 +1,23 @@
 -- One row: a fresh one, one frame more, and that a frame of another channel changes nothing.
 -- Assumes nothing.
 use Prim.Native.Nat.{ℕ, ◌+◌, ◌≤◌, ◌<◌}
-use mathlib.Core.Path.{◌≡◌, refl, sym, ap, ap₂, ◌∙◌}
-use mathlib.Core.Bool.{Bool, true, false, ◌&&◌}
+use mathlib.Core.Path.{◌≡◌, refl, sym, ap, ◌∙◌}
+use mathlib.Core.Bool.{Bool, false, ◌&&◌}
 use mathlib.Core.List.{List, [], ◌∷◌, ◌++◌}
 use native.Mathlib.Omega.{arith}
-use lib.Dec.{eqb, ltb}
+use lib.Dec.{eqb}
 use lib.ListN.{length, length-append}
 use borrow.Author.Tests.{eq-eqb, le-ltb}
-use Rattle.terms.specs.Paper.{pick}
-use Rattle.terms.specs.Cases.{and_false}
+use Rattle.std.specs.Prelude.{Result, Ok, Err}
+use Rattle.std.specs.Result.{result_unwrap_or}
+use Rattle.terms.specs.declared.Refusal.{Refusal}
+use Rattle.ledger.specs.Papers.{count_paper}
+use Rattle.terms.specs.Paper.{Paper}
 use Rattle.rules.specs.Table.{kind_of}
 use Rattle.ledger_spec.specs.State.{Book}
-use Rattle.ledger_spec.specs.Calls.{fresh, open_of}
+use Rattle.ledger_spec.specs.Calls.{open_of}
 use Rattle.ledger_spec.specs.Trace.{Calls, none, after, trace}
-use Rattle.ledger_spec.specs.Words.{one}
+use Rattle.ledger_spec.specs.Words.{one, value_at}
 use Rattle.ledger_spec.proofs.Agree.{agrees}
 use Rattle.ledger.specs.State.{book_of, ledger_of}
 use Rattle.ledger.specs.declared.Ledger.{Ledger}
@@ -32,14 +35,10 @@ use Rattle.month.specs.Rows.{row_after, Turned, Roomy}
 
 -- ---- counts
 
-pub none_counted : (b d : Bool) → b ≡ false → 0 ≡ one (b && d)
-none_counted b d e = rw e
-
-pub one_counted : (b d : Bool) → b ≡ true → d ≡ true → 1 ≡ one (b && d)
-one_counted b d e f = rw (e, f)
-
-pub other_counted : (b d : Bool) → d ≡ false → 0 ≡ one (b && d)
-other_counted b d f = rw (f, and_false b)
+-- the count beside an answer, 0 beside a refusal
+pub missing_told : (a : Result ℕ Refusal) (p : Paper) → count_paper a ≡ p → result_unwrap_or a 0 ≡ value_at p 0
+missing_told (Ok n) p e = ap (λ (q : Paper). value_at q 0) e
+missing_told (Err w) p e = ap (λ (q : Paper). value_at q 0) e
 
 -- ---- a fresh row
 

@@ -1,12 +1,13 @@
 -- For each public function: wrong answers that its promise rules out, as tables of what is given
 -- and what is then wrong. Assumes nothing.
 use Prim.Native.Nat.{ℕ}
-use mathlib.Core.Path.{◌≡◌, refl, ap, ap₂}
+use mathlib.Core.Path.{refl, ap₂}
 use mathlib.Core.List.{List, [], ◌∷◌, ◌++◌}
 use lib.Count.{count_trailing_zeros}
-use lib.ListN.{take, drop, replicate}
-use Rattle.terms.specs.Paper.{Paper, answer}
+use lib.ListN.{take, replicate}
+use Rattle.terms.specs.Paper.{Paper}
 use Rattle.terms.specs.Refusals.{refusal_of}
+use Rattle.terms.specs.Verdicts.{verdict_number}
 use Rattle.terms.specs.RuledOut.{Row, ◌never◌, ◌only◌, Kept, RulesOut, ruled, lists}
 use Rattle.octets.specs.Octets.{numeral, digits_of, laid, sum8, sum_of}
 use Rattle.calendar.specs.Calendar.{leap, days_in, real_parts, real_time}
@@ -32,8 +33,6 @@ use Rattle.month_spec.specs.Page as page-spec
 use Rattle.month_spec.specs.Page.{Page, tabled, all_below, channels_right, sums_right, page_of}
 use Rattle.month_spec.specs.Calls.{start_from, start_number, start_page, figure_at, number_to, figures_told, nothing_told, answer_to, counted, next_of}
 use Rattle.month.specs.declared.Month.{Month}
-use Rattle.month.specs.declared.Started.{Started}
-use Rattle.month.specs.declared.Added.{Added}
 use Rattle.month.specs.State.{page_in, month_of, added_paper}
 use Rattle.month.specs.Examples.{ticked, announced, asked, page}
 use Rattle.month.proofs.Month.started.Reads as month-started
@@ -61,7 +60,7 @@ Month-started-wrong =
     ∷ (thirty_two ++ (7 ∷ [])) only (22 ∷ 0 ∷ 0 ∷ 0 ∷ 0 ∷ [])  -- 22 before 21
     ∷ []
 
-pub Month-started-rules-out : RulesOut (Kept _ month-started-kinds.ps month-started-kinds.r month-started.Post) (λ c. c.args.0.now) (λ c. begun c.result.answer c.result.page) Month-started-wrong
+pub Month-started-rules-out : RulesOut (Kept _ month-started-kinds.ps month-started-kinds.r month-started.Post) (λ c. c.args.0.now) (λ c. begun (verdict_number c.result.answer) c.result.page) Month-started-wrong
 unfolding least place_of free_place opening_number ledger.fresh tabled page_of start_from start_number start_page
 Month-started-rules-out = ruled lists (λ (cs : List ℕ). begun (start_number cs) (month_of (start_page cs))) (λ c p. ap₂ begun p.0 p.1) _ refl
 

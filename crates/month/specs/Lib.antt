@@ -1,3 +1,4 @@
+pub mod Naming
 pub mod State
 pub mod Rows
 pub mod Examples

@@ -3,19 +3,23 @@
 // the next one beside its answer.
 #![tactic(auto)]
 
-ghost use Rattle.std.specs.Prelude.{◌≡◌, true, ◌&&◌, not, [], ◌∷◌, ◌+◌, ◌≤◌, ◌<◌, eqb, leb, get_or, take};
+ghost use Rattle.std.specs.Prelude.{◌≡◌, true, false, ◌&&◌, [], ◌∷◌, ◌+◌, ◌≤◌, ◌<◌, eqb, get_or, set, take, length, Some, None, IfOk, IfSome, MatchOption, unwrap_or, position};
+ghost use Rattle.std.specs.List.{list_all};
+ghost use Rattle.terms.specs.Paper.{pick};
+ghost use Rattle.terms.specs.Verdicts.{verdict_number};
 ghost use Rattle.ledger_spec.specs.Words.{one};
 ghost use Rattle.walk_spec.specs.CallLaws.{is_tick};
 ghost use Rattle.month_spec.specs.Figures.{is_resend, reads_in};
-ghost use Rattle.month_spec.specs.Page.{place_in, channels_right, sums_right, sound_of, figures_in_all, highest, tabled, all_below};
+ghost use Rattle.month_spec.specs.Page.{places, place_in, channels_right, sums_right, sound_of, figures_in_all, tabled, all_below};
 ghost use Rattle.month_spec.specs.Calls.{naming_number, answer_to, next_of, start_number, start_page};
+ghost use Rattle.month.specs.Naming.{Naming, Hints, Hinted};
 ghost use Rattle.month.specs.State.{page_in, month_of, empty_with, refused_with, added_paper, sum_in, sum_fits_in};
-ghost use Rattle.month.specs.Rows.{row_after, Turned, Roomy, Naming, Hints, Hinted, Kept, row_numbers, row_figures};
+ghost use Rattle.month.specs.Rows.{row_after, Turned, Roomy, Kept, row_numbers, row_figures};
 
 use ledger::Ledger;
 use reading::Seen;
 use rules::Kind;
-use terms::ChannelNumber;
+use terms::{ChannelNumber, Refusal};
 
 // The fields are open, so that a host can hand in any state; a broken one is refused by 13.
 #[derive(Clone, Copy)]
@@ -29,20 +33,27 @@ pub struct Month {
     pub sums: [u64; 192],
 }
 
-// What starting answers: 0, or 10, 22 or 21, and beside it a page with no channel.
+// What starting answers; and beside it the page, or beside 10, 22 or 21 one with no channel.
 #[derive(Clone, Copy)]
 pub struct Started {
-    pub answer: u32,
+    pub answer: Result<(), Refusal>,
     pub page: Month,
 }
 
-// What adding a capture answers: 0 and its figures; or 13, 27 or 28, no figure, and the very page
-// that was passed in.
+// What adding a capture answers: its figures, or 13, 27 or 28; and beside it the page with them, or
+// the very page that was passed in.
 #[derive(Clone, Copy)]
 pub struct Added {
-    pub answer: u32,
-    pub figures: [u64; 192],
+    pub answer: Result<[u64; 192], Refusal>,
     pub page: Month,
+}
+
+// The channels that a page names, in their order: each of at most four digits, and none twice.
+#[derive(Clone, Copy)]
+struct Named {
+    channels: [u16; 32],
+    count: usize,
+    ghost naming: { Naming channels count },
 }
 
 // What one pass over a capture keeps of a channel.
@@ -58,60 +69,35 @@ struct Row {
 
 // ---- the page's rules
 
-// The lowest of the first n places that has this channel; n where none has it.
-fn place_of(channels: [u16; 32], n: usize, channel: u16) -> usize
-    requires { n ≤ 32 }
-    ensures { result ≡ place_in channels n channel }
-{
-    let mut i: usize = 0;
-    while i < n {
-        if channels[i] == channel {
-            return i;
-        }
-        i += 1;
-    }
-    n
-}
-
-// The place of this channel, by a hint: no place is hinted at where no named channel has its low
-// byte; else it is mostly there.
-fn row_of(channels: [u16; 32], named: usize, hint: usize, channel: u16) -> usize
-    requires { Naming channels named × Hinted channels named channel hint }
-    ensures { result ≡ place_in channels named channel }
-{
-    if named <= hint {
-        return named;
-    }
-    if channels[hint] == channel {
-        return hint;
-    }
-    place_of(channels, named, channel)
-}
-
 // Whether the named channels keep the rules, and the other places are 0.
 fn channels_right(channels: [u16; 32], named: usize) -> bool
     requires { named ≤ 32 }
     ensures { result ≡ channels_right channels named }
 {
-    let mut i: usize = 0;
-    while i < 32 {
-        let at = i;
-        i += 1;
-        let channel = channels[at];
-        if named <= at {
+    for i in 0..32 {
+        let channel = channels[i];
+        if named <= i {
             if channel != 0 {
                 return false;
             }
-            continue;
-        }
-        if channel > 9999 {
-            return false;
-        }
-        if place_of(channels, at, channel) != at {
+        } else if channel > 9999 || channels[..i].contains(&channel) {
             return false;
         }
     }
     true
+}
+
+// The first place of a channel among some.
+fn first_of(channels: &[u16], channel: u16) -> Option<usize>
+    ensures { result ≡ position (λ c. eqb c channel) channels.now }
+{
+    channels.iter().position(|c| *c == channel)
+}
+
+fn all_zero(sums: &[u64]) -> bool
+    ensures { result ≡ list_all (λ sum. eqb sum 0) sums.now }
+{
+    sums.iter().all(|sum| *sum == 0)
 }
 
 // Whether the sums of unnamed places are 0.
@@ -119,263 +105,233 @@ fn sums_right(sums: [u64; 192], named: usize) -> bool
     requires { named ≤ 32 }
     ensures { result ≡ sums_right sums named }
 {
-    let mut k: usize = 6 * named;
-    while k < 192 {
-        if sums[k] != 0 {
-            return false;
-        }
-        k += 1;
-    }
-    true
-}
-
-// What one more channel is answered behind the channels named so far: 10, 22, 21, or 0.
-fn naming(names: [u16; 32], named: usize, channel: u16) -> u32
-    requires { named ≤ 32 }
-    ensures { result ≡ naming_number (take named names) channel }
-{
-    if channel > 9999 {
-        return 10;
-    }
-    if place_of(names, named, channel) < named {
-        return 22;
-    }
-    if named == 32 {
-        return 21;
-    }
-    0
+    all_zero(&sums[6 * named..])
 }
 
 // A page just started with these channels.
-fn empty(channels: [u16; 32], named: usize) -> Month
-    ensures { result ≡ empty_with channels named }
+fn empty(names: Named) -> Month
+    ensures { result ≡ empty_with names.channels names.count }
 {
+    let channels = names.channels;
     Month {
         channels,
-        named,
+        named: names.count,
         taken: 0,
         sums: [0; 192],
     }
 }
 
-// ---- one row
+// ---- the channels
 
-// A row of a channel that nothing was read of yet.
-fn fresh_row(channel: u16) -> Row
-    requires { channel ≤ 9999 }
-    ensures { result ≡ row_after channel [] }
-{
-    let opened = Ledger::opened(ChannelNumber::new(channel));
-    let ledger = opened.next;
-    Row {
-        ledger,
-        received: 0,
-        repeated: 0,
-        far: 0,
-        asked: 0,
-        unavailable: 0,
+impl Named {
+    // None.
+    fn none() -> Named
+        ensures { (result.channels ≡ tabled (λ i. 0) places) × (result.count ≡ 0) }
+    {
+        Named {
+            channels: [0; 32],
+            count: 0,
+        }
+    }
+
+    // One more. 10, 22, 21.
+    fn with(self, channel: u16) -> Result<Named, Refusal>
+        ensures number { verdict_number result ≡ naming_number (take self.count self.channels) channel }
+        ensures names { IfOk result (λ n. (n.channels ≡ set self.channels self.count channel) × (n.count ≡ self.count + 1)) }
+    {
+        if channel > 9999 {
+            return Err(Refusal::Range);
+        }
+        if self.channels[..self.count].contains(&channel) {
+            return Err(Refusal::Open);
+        }
+        if self.count == 32 {
+            return Err(Refusal::Full);
+        }
+        let mut channels = self.channels;
+        channels[self.count] = channel;
+        Ok(Named {
+            channels,
+            count: self.count + 1,
+        })
+    }
+
+    // These, judged one by one in their order: the first one refused answers.
+    fn of(channels: &[u16]) -> Result<Named, Refusal>
+        ensures number { verdict_number result ≡ start_number channels.now }
+        ensures names { IfOk result (λ n. (n.channels ≡ tabled (λ i. get_or channels.now i 0) places) × (n.count ≡ length channels.now)) }
+    {
+        let mut names = Named::none();
+        for channel in channels {
+            names = names.with(*channel)?;
+        }
+        Ok(names)
+    }
+
+    // The place of this channel, by a hint: no place is hinted at where no named channel has its
+    // low byte; else it is mostly there.
+    fn place_of(&self, hint: usize, channel: u16) -> Option<usize>
+        requires { Hinted self.now.channels self.now.count channel hint }
+        ensures place { unwrap_or result self.now.count ≡ place_in self.now.channels self.now.count channel }
+        ensures inside { IfSome result (λ i. i < self.now.count) }
+    {
+        if self.count <= hint {
+            return None;
+        }
+        if self.channels[hint] == channel {
+            return Some(hint);
+        }
+        first_of(&self.channels[..self.count], channel)
+    }
+
+    // For each low byte a place where a channel with it is named, or 32 where none is. A search
+    // through 32 names at each frame would end at another place each time, which no processor
+    // foresees.
+    fn hints(&self) -> [u8; 256]
+        ensures { Hints self.now.channels self.now.count self.now.count result }
+    {
+        let mut places: [u8; 256] = [32; 256];
+        for j in 0..self.count {
+            places[(self.channels[j] % 256) as usize] = j as u8;
+        }
+        places
+    }
+
+    // A fresh row at each named place.
+    fn fresh_rows(&self) -> [Row; 32]
+        ensures { Kept self.now.channels self.now.count [] result }
+    {
+        let mut rows: [Row; 32] = [Row::fresh(0); 32];
+        for j in 0..self.count {
+            rows[j] = Row::fresh(self.channels[j]);
+        }
+        rows
     }
 }
+
+// ---- one row
 
 fn is_tick(kind: Kind) -> bool
     ensures { result ≡ is_tick kind }
 {
-    match kind {
-        Kind::S001 => false,
-        Kind::S002 => false,
-        Kind::S003 => false,
-        Kind::P001 => false,
-        Kind::P002 => false,
-        Kind::M101 => false,
-        Kind::M102 => false,
-        Kind::M201 => true,
-        Kind::Unknown => false,
-    }
+    kind == Kind::M201
 }
 
 fn is_resend(kind: Kind) -> bool
     ensures { result ≡ is_resend kind }
 {
-    match kind {
-        Kind::S001 => false,
-        Kind::S002 => false,
-        Kind::S003 => false,
-        Kind::P001 => false,
-        Kind::P002 => true,
-        Kind::M101 => false,
-        Kind::M102 => false,
-        Kind::M201 => false,
-        Kind::Unknown => false,
-    }
+    kind == Kind::P002
 }
 
 // 1 for a frame of the kind that is counted, with the number that is counted.
 fn counted(counts: bool, number: u32, wanted: u32) -> u64
     ensures { (result ≡ one (counts && eqb number wanted)) × (result ≤ 1) }
 {
-    if !counts {
-        return 0;
-    }
-    if number == wanted { 1 } else { 0 }
+    u64::from(counts && number == wanted)
 }
 
-// The row after one more frame of its channel.
-fn turned(row: Row, seen: Seen) -> Row
-    requires { Roomy row }
-    ensures { Turned row seen result }
-{
-    let before = row.ledger;
-    let after = walk_step::offer(before, seen);
-    let ledger = after.ledger;
-    let number = after.answer;
-    let status = seen.status as u32;
-    let tick = is_tick(rules::kind_of(seen.msg_type));
-    let resend = is_resend(rules::kind_of(seen.msg_type));
-    Row {
-        ledger,
-        received: row.received + counted(tick, number, 0),
-        repeated: row.repeated + counted(tick, number, 11),
-        far: row.far + counted(tick, number, 12),
-        asked: row.asked + counted(resend, status, 0),
-        unavailable: row.unavailable + counted(resend, status, 4),
+impl Row {
+    // A row of a channel that nothing was read of yet.
+    fn fresh(channel: u16) -> Row
+        requires { channel ≤ 9999 }
+        ensures { result ≡ row_after channel [] }
+    {
+        Row {
+            ledger: Ledger::opened(ChannelNumber::new(channel)).next,
+            received: 0,
+            repeated: 0,
+            far: 0,
+            asked: 0,
+            unavailable: 0,
+        }
     }
-}
 
-// Figure number i of a row, as they stand on the page.
-fn figure(row: Row, i: usize) -> u64
-    requires { i < 6 }
-    ensures { result ≡ get_or (row_numbers row) i 0 }
-{
-    if i == 0 {
-        return row.received;
+    // The row after one more frame of its channel.
+    fn turned(self, seen: Seen) -> Row
+        requires { Roomy self }
+        ensures { Turned self seen result }
+    {
+        let after = walk_step::offer(self.ledger, seen);
+        let number = terms::number_of(after.answer);
+        let status = seen.status as u32;
+        let kind = Kind::from(seen.msg_type);
+        let tick = is_tick(kind);
+        let resend = is_resend(kind);
+        Row {
+            ledger: after.next,
+            received: self.received + counted(tick, number, 0),
+            repeated: self.repeated + counted(tick, number, 11),
+            far: self.far + counted(tick, number, 12),
+            asked: self.asked + counted(resend, status, 0),
+            unavailable: self.unavailable + counted(resend, status, 4),
+        }
     }
-    if i == 1 {
-        return row.repeated;
+
+    // Its six figures, as they stand on the page.
+    fn figures(&self) -> [u64; 6]
+        ensures { result ≡ row_numbers self.now }
+    {
+        [
+            self.received,
+            self.repeated,
+            self.far,
+            self.ledger.missing().answer.unwrap_or(0),
+            self.asked,
+            self.unavailable,
+        ]
     }
-    if i == 2 {
-        return row.far;
-    }
-    if i == 4 {
-        return row.asked;
-    }
-    if i == 5 {
-        return row.unavailable;
-    }
-    let ledger = row.ledger;
-    let missing = ledger.missing();
-    missing.count
 }
 
 // ---- one pass over a capture
 
-// A fresh row at each named place.
-fn fresh_rows(channels: [u16; 32], named: usize) -> [Row; 32]
-    requires { Naming channels named }
-    ensures { Kept channels named [] result }
-{
-    let mut rows: [Row; 32] = [fresh_row(0); 32];
-    let mut j: usize = 0;
-    while j < named {
-        rows[j] = fresh_row(channels[j]);
-        j += 1;
-    }
-    rows
-}
-
-// For each low byte a place where a channel with it is named, or 32 where none is. A search through
-// 32 names at each frame would end at another place each time, which no processor foresees.
-fn hints(channels: [u16; 32], named: usize) -> [u8; 256]
-    requires { named ≤ 32 }
-    ensures { Hints channels named named result }
-{
-    let mut places: [u8; 256] = [32; 256];
-    let mut j: usize = 0;
-    while j < named {
-        let low = (channels[j] % 256) as usize;
-        places[low] = j as u8;
-        j += 1;
-    }
-    places
-}
-
 // The rows after all frames of a capture: each frame is read once, and turns the row of its
 // channel alone.
-fn pass(capture: &[u8], channels: [u16; 32], named: usize) -> [Row; 32]
-    requires { Naming channels named }
-    ensures { Kept channels named (reads_in capture.now) result }
+fn pass(capture: &[u8], names: &Named) -> [Row; 32]
+    ensures { Kept names.now.channels names.now.count (reads_in capture.now) result }
 {
-    let mut rows: [Row; 32] = fresh_rows(channels, named);
-    let places = hints(channels, named);
+    let mut rows = names.fresh_rows();
+    let places = names.hints();
     let mut p: usize = 0;
     while p < capture.len() {
         let seen = reading::see(capture, p);
         p = walk_step::onward(capture, p, seen.size);
-        let verdict = seen.answer;
-        if verdict.number() != 0 {
+        if seen.answer.is_err() {
             continue;
         }
-        let channel = seen.channel;
-        let number = channel.value();
-        let hint = places[(number % 256) as usize] as usize;
-        let i = row_of(channels, named, hint, number);
-        if i >= named {
+        let channel = seen.channel.value();
+        let hint = places[(channel % 256) as usize] as usize;
+        let Some(i) = names.place_of(hint, channel) else {
             continue;
-        }
-        let row = rows[i];
-        rows[i] = turned(row, seen);
+        };
+        rows[i] = rows[i].turned(seen);
     }
     rows
 }
 
 // The figures of all rows, six for each; those of unnamed places are 0.
-fn figures_of(rows: [Row; 32], named: usize) -> [u64; 192]
+fn figures_of(rows: &[Row; 32], named: usize) -> [u64; 192]
     requires { named ≤ 32 }
-    ensures { result ≡ row_figures rows named }
+    ensures { result ≡ row_figures rows.now named }
 {
     let mut told: [u64; 192] = [0; 192];
-    let mut k: usize = 0;
-    while k < 6 * named {
-        let j = k / 6;
-        let row = rows[j];
-        told[k] = figure(row, k % 6);
-        k += 1;
+    for j in 0..named {
+        let six = rows[j].figures();
+        for i in 0..6 {
+            told[6 * j + i] = six[i];
+        }
     }
     told
 }
 
-// Whether a sum fits 64 bits with its figure added.
-fn has_room(sum: u64, figure: u64) -> bool
-    ensures { result ≡ leb (sum + figure) highest }
-{
-    figure <= 18_446_744_073_709_551_615 - sum
-}
-
-// Whether every sum does.
-fn fits(sums: [u64; 192], figures: [u64; 192]) -> bool
-    ensures { result ≡ all_below (sum_fits_in sums figures) figures_in_all }
-{
-    let mut k: usize = 0;
-    while k < 192 {
-        if !has_room(sums[k], figures[k]) {
-            return false;
-        }
-        k += 1;
-    }
-    true
-}
-
-// Each sum with its figure added, where each fits.
-fn summed(sums: [u64; 192], figures: [u64; 192]) -> [u64; 192]
-    requires { all_below (sum_fits_in sums figures) figures_in_all ≡ true }
-    ensures { result ≡ tabled (sum_in sums figures) figures_in_all }
+// Each sum with its figure added, where each fits 64 bits.
+fn summed(sums: [u64; 192], figures: [u64; 192]) -> Option<[u64; 192]>
+    ensures { result ≡ pick (all_below (sum_fits_in sums figures) figures_in_all) (Some (tabled (sum_in sums figures) figures_in_all)) None }
 {
     let mut next: [u64; 192] = [0; 192];
-    let mut k: usize = 0;
-    while k < 192 {
-        next[k] = sums[k] + figures[k];
-        k += 1;
+    for k in 0..192 {
+        next[k] = sums[k].checked_add(figures[k])?;
     }
-    next
+    Some(next)
 }
 
 // ---- the page's calls
@@ -385,25 +341,17 @@ impl Month {
     // channel is opened. The first one refused answers, and beside it stands a page with
     // no channel.
     pub fn started(channels: &[u16]) -> Started
-        ensures { (result.answer ≡ start_number channels.now) × (result.page ≡ month_of (start_page channels.now)) }
+        ensures { (verdict_number result.answer ≡ start_number channels.now) × (result.page ≡ month_of (start_page channels.now)) }
     {
-        let mut names: [u16; 32] = [0; 32];
-        let mut named: usize = 0;
-        while named < channels.len() {
-            let channel = channels[named];
-            let answer = naming(names, named, channel);
-            if answer != 0 {
-                return Started {
-                    answer,
-                    page: empty([0; 32], 0),
-                };
-            }
-            names[named] = channel;
-            named += 1;
-        }
-        Started {
-            answer: 0,
-            page: empty(names, named),
+        match Named::of(channels) {
+            Ok(names) => Started {
+                answer: Ok(()),
+                page: empty(names),
+            },
+            Err(why) => Started {
+                answer: Err(why),
+                page: empty(Named::none()),
+            },
         }
     }
 
@@ -411,27 +359,32 @@ impl Month {
     fn sound(self) -> bool
         ensures { result ≡ sound_of (page_in self) }
     {
-        if self.named > 32 {
+        if self.named > 32 || self.taken > 500 {
             return false;
         }
-        if self.taken > 500 {
-            return false;
-        }
-        let channels = self.channels;
-        if !channels_right(channels, self.named) {
-            return false;
-        }
-        let sums = self.sums;
-        sums_right(sums, self.named)
+        channels_right(self.channels, self.named) && sums_right(self.sums, self.named)
     }
 
-    // The very page, and no figure.
-    fn refused(self, answer: u32) -> Added
-        ensures { result ≡ refused_with self answer }
+    // The channels of a page that does.
+    fn names(self) -> Option<Named>
+        ensures { MatchOption result (sound_of (page_in self) ≡ false) (λ n. (sound_of (page_in self) ≡ true) × ((n.channels ≡ self.channels) × (n.count ≡ self.named))) }
+    {
+        if !self.sound() {
+            return None;
+        }
+        let channels = self.channels;
+        Some(Named {
+            channels,
+            count: self.named,
+        })
+    }
+
+    // The very page.
+    fn refused(self, why: Refusal) -> Added
+        ensures { result ≡ refused_with self why }
     {
         Added {
-            answer,
-            figures: [0; 192],
+            answer: Err(why),
             page: self,
         }
     }
@@ -441,28 +394,25 @@ impl Month {
     pub fn added(self, capture: &[u8]) -> Added
         ensures { (added_paper result ≡ answer_to (page_in self) capture.now) × (result.page ≡ month_of (next_of (page_in self) capture.now)) }
     {
-        if !self.sound() {
-            return self.refused(13);
-        }
+        let Some(names) = self.names() else {
+            return self.refused(Refusal::State);
+        };
         if self.taken >= 500 {
-            return self.refused(27);
+            return self.refused(Refusal::Captures);
         }
+        let figures = figures_of(&pass(capture, &names), self.named);
+        let Some(sums) = summed(self.sums, figures) else {
+            return self.refused(Refusal::Sums);
+        };
         let channels = self.channels;
-        let sums = self.sums;
-        let rows = pass(capture, channels, self.named);
-        let figures = figures_of(rows, self.named);
-        if !fits(sums, figures) {
-            return self.refused(28);
-        }
         let page = Month {
             channels,
             named: self.named,
             taken: self.taken + 1,
-            sums: summed(sums, figures),
+            sums,
         };
         Added {
-            answer: 0,
-            figures,
+            answer: Ok(figures),
             page,
         }
     }

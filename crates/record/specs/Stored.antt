@@ -1,10 +1,12 @@
 -- A row of bytes laid part by part, each just behind the one before.
-use Rattle.std.specs.Prelude.{ℕ, ◌+◌, ◌≤◌, ◌≡◌, List, [], ◌∷◌, ◌++◌, length, take, set}
+use Rattle.std.specs.Prelude.{ℕ, ◌+◌, ◌-◌, ◌≤◌, ◌≡◌, List, [], ◌∷◌, ◌++◌, length, take, set}
 use Rattle.std.proofs.Common.{sym, ap, ◌∙◌, arith, length-append, le-leb}
 use Rattle.terms.specs.Paper.{Paper}
 use Rattle.octets.specs.Octets.{bytes_of, laid}
 use Rattle.octets.specs.Numerals.{length_digits}
 use Rattle.octets.specs.Overlays.{length_laid, laid_append, laid_one, take_front}
+use Rattle.octets.specs.Std.{part_laid}
+use borrow.Rule.Slice.PartMut.{put_mid}
 use Rattle.octets.specs.Papers.{room_for, laid_if_room, laid_there}
 
 -- e is d with the bytes bs laid over it from the place at on, within d, and behind them is the
@@ -39,6 +41,11 @@ stored_field at n v d e h q = stored at n (bytes_of n v) d e (length_digits 256 
 pub stored_byte : (at b : ℕ) (d : List ℕ) → at + 1 ≤ length d → Stored at (b ∷ []) d (set d at b) (at + 1)
 stored_byte at b d h = record { whole = sym (laid_one at b d (omega arith)); ends = omega arith; room = h }
 
+-- what was copied over a part
+pub stored_copied : (at end : ℕ) (bs d new : List ℕ) → new ≡ bs → end ≡ at + length bs → end ≤ length d → Stored at bs d (put_mid at (end - at) d new) end
+stored_copied at end bs d new e l h =
+    record { whole = rw e (part_laid at (end - at) d bs (omega arith)); ends = l; room = h }
+
 -- LAID ON
 
 -- laid at the front, they stand there; and so they are laid on from there, their number with them
@@ -46,8 +53,8 @@ module _ {bs d e : List ℕ} {n : ℕ} (s : Stored 0 bs d e n) where
   pub stored_front : take n e ≡ bs
   stored_front = rw s.whole (take_front n bs d (omega (arith, s.ends)))
 
-  pub room_on : (at len : ℕ) (p : Paper) → p ≡ room_for at n len → p ≡ room_for at (length bs) len
-  room_on at len p h = let l : n ≡ length bs = omega (arith, s.ends) in rw l at h
+  pub room_on : (at len : ℕ) (p : Paper) → p ≡ room_for at (length (take n e)) len → p ≡ room_for at (length bs) len
+  room_on at len p h = h ∙ ap (λ (s : List ℕ). room_for at (length s) len) stored_front
 
   pub laid_on : (at : ℕ) (out left : List ℕ) → left ≡ laid_if_room at (take n e) out → left ≡ laid_if_room at bs out
   laid_on at out left h = rw stored_front at h

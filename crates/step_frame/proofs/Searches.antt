@@ -59,9 +59,6 @@ module _ (t : List ℕ) (end mark : ℕ) (e : Found SOH t end) (m : Found equals
   unfolding is_field some
   tag_lacks at h = sym (field_none at t (rw (moved ∙ sym h) (and_false (ltb (until_of equals (piece t)) (length (piece t))))))
 
-  pub mark_before : mark < end
-  mark_before = before
-
   pub field_found : (at tag : ℕ) → number tag ≡ decimal_at 0 mark t → answer 0 (tag ∷ (at + mark + 1) ∷ (end - mark - 1) ∷ (at + end + 1) ∷ []) ≡ field_front at t
   unfolding is_field some tag_of value_of
   field_found at tag h =

@@ -1,29 +1,29 @@
 -- A check that bytes to come may decide: what its 0, its 1 and its refusal say. And the four such
 -- checks of reading.
-use Rattle.std.specs.Prelude.{ℕ, zero, suc, ◌+◌, ◌-◌, ◌%◌, ◌^◌, ◌<◌, ◌≤◌, ◌≡◌, Bool, true, false, ◌&&◌, ◌⊎◌, eqb, leb, ltb, length, take, replicate}
+use Rattle.std.specs.Prelude.{ℕ, suc, ◌+◌, ◌-◌, ◌^◌, ◌<◌, ◌≤◌, ◌≡◌, Bool, true, false, ◌&&◌, ◌⊎◌, eqb, leb, ltb, length, take, replicate}
 use Rattle.std.proofs.Math.Path.{refl, sym, ap}
-use Rattle.std.proofs.Common.{◌∙◌, inl, inr, add-zero, lt_of_lt_of_le, arith, lit<, lit≤, length-drop, length-take, take-append-drop, drop_of_length-le, take_at, drop_at, drop-drop, take_all, take-take, get_or-take, drop-cons, get_or-drop, length-take-le, eqb-true}
+use Rattle.std.proofs.Common.{◌∙◌, inl, inr, lt_of_lt_of_le, arith, lit<, lit≤, length-drop, length-take, take-append-drop, drop_of_length-le, drop_at, drop-drop, take_all, take-take, get_or-take, drop-cons, get_or-drop, length-take-le}
 use mathlib.Core.List.{List, [], ◌∷◌, ◌++◌, append_assoc, append-nil}
 use Rattle.std.proofs.Math.Logic.{⊎_elim}
 use Rattle.std.proofs.Math.Nat.{pow-le-pow_right}
 use Rattle.std.proofs.Math.ListN.{get_or, drop, length-append, get_or-append}
 use Rattle.std.proofs.lemmas.List.{length-replicate, drop-append-le, take-append-le, get_or_at}
 use Rattle.terms.specs.Paper.{Paper, pick}
-use Rattle.terms.specs.Cases.{two, less, same, clash}
+use Rattle.terms.specs.Cases.{two, less, same}
 use Rattle.terms.specs.Checks.{or_else, else_on, else_off, else_both, else_one, else_stays}
-use Rattle.octets.specs.Octets.{sum_of, sum8, digits_of}
+use Rattle.octets.specs.Octets.{sum8, digits_of}
 use Rattle.digits.specs.Digits.{is_digit, all_digits, said_by, decimal_at, decimal_of, shown_of, width_of, width_in, number, nothing, plain}
-use Rattle.digits.specs.Laws.{both, length_decimal, all_decimal, said_decimal, said_below}
-use Rattle.digits.specs.Texts.{Says, given_decimal, decimal_given, decimal_written, decimal_width, shown_plain}
+use Rattle.digits.specs.Laws.{length_decimal, all_decimal, said_decimal, said_below}
+use Rattle.digits.specs.Texts.{given_decimal, decimal_given, decimal_written, shown_plain}
 use Rattle.digits.specs.Widths.{Width, width_of_lem, width_most}
 use Rattle.step_tags.specs.Table.{among, types}
 use Rattle.step_tags.specs.Forms.{some}
 use Rattle.step_spec.specs.Pieces.{SOH}
 use Rattle.step_spec.specs.Frame.{begin, length_tag, type_tag, trailer_of, front, digit_run, window, length_check, body_start, body_length, kind_check, sum_check}
 use Rattle.step_spec.specs.FrontLaws.{front_is, front_of_lem, front_length, run_le}
-use Rattle.step_spec.specs.Exactly.{LengthField, decimal_cases, kind_inv, trailer_long}
+use Rattle.step_spec.specs.Exactly.{decimal_cases, kind_inv}
 use Rattle.step_spec.specs.Stays.{front_stays, kind_stays}
-use Rattle.step_spec.specs.Undecided.{Front, front_undecided}
+use Rattle.step_spec.specs.Undecided.{front_undecided}
 use Rattle.step_spec.specs.Given.{At, Begins, Measures, start_of, end_of, Types, Sums}
 use Rattle.step_spec.proofs.Exactly.{length_field}
 use Rattle.step_spec.proofs.HeadLaws.{length_good, length_zero, length_open, length_none, length_many, sum_is, sum_open, sum_room, sum_short}

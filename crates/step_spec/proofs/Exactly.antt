@@ -1,23 +1,21 @@
 -- What reads is what writing lays: each passed check taken apart, and put together again
 -- as the frame.
-use Rattle.std.specs.Prelude.{ℕ, zero, suc, ◌+◌, ◌-◌, ◌<◌, ◌≤◌, ◌≡◌, Bool, true, false, ◌&&◌, ◌⊎◌, eqb, leb, ltb, get_or, take}
+use Rattle.std.specs.Prelude.{ℕ, suc, ◌+◌, ◌-◌, ◌<◌, ◌≤◌, ◌≡◌, true, false, get_or, take}
 use Rattle.std.proofs.Math.Path.{refl, sym, ap}
-use Rattle.std.proofs.Common.{◌∙◌, inl, inr, ⊎_elim, add-zero, arith, take-append-drop, length-append, length-drop, length-take, take-take, take_at, drop_at, drop-cons, drop-drop, get_or-take, get_or-drop, length-take-le, eq-eqb, ne_eqb, eqb-true}
+use Rattle.std.proofs.Common.{◌∙◌, ⊎_elim, add-zero, arith, take-append-drop, length-append, length-drop, length-take, take-take, take_at, drop-cons, drop-drop, get_or-take, get_or-drop, length-take-le}
 use mathlib.Core.List.{List, [], ◌∷◌, ◌++◌, append_assoc}
 use Rattle.std.proofs.Math.ListN.{length, drop}
-use Rattle.terms.specs.Paper.{Paper, answer, refusal, pick, one_number}
 use Rattle.terms.specs.Cases.{two, less, same}
 use Rattle.terms.specs.Checks.{else_both}
 use Rattle.octets.specs.Octets.{sum8}
-use Rattle.digits.specs.Digits.{all_digits, said_by, said_if_digits, readable, digits_at, decimal_at, shown_of, width_of, number, nothing, plain}
-use Rattle.digits.specs.Laws.{length_decimal}
-use Rattle.digits.specs.Texts.{plain_there, plain_lacks, digits_there, digits_lack, said_there, said_lacks, decimal_written, decimal_width}
+use Rattle.digits.specs.Digits.{decimal_at, shown_of, width_of, number, nothing, plain}
+use Rattle.digits.specs.Texts.{decimal_written, decimal_width}
 use Rattle.step_tags.specs.Table.{among, types}
 use Rattle.step_spec.specs.Pieces.{SOH, pieces}
-use Rattle.step_spec.specs.Fields.{judge_of, sound_of, unreal_in}
-use Rattle.step_spec.specs.Frame.{begin, length_tag, type_tag, trailer_of, front, digit_run, window, length_check, body_start, body_length, body_end, frame_length, long_check, kind_check, type_check, head_of, sum_check, kind, fields, verdict_of, accepted, step_read_of}
-use Rattle.step_spec.specs.FrontLaws.{front_is, front_length, reads_off, reads_on, kind_other, kind_there, kind_length, run_le}
-use Rattle.step_spec.specs.HeadLaws.{long_off, type_short, type_is, type_room}
+use Rattle.step_spec.specs.Fields.{judge_of, unreal_in}
+use Rattle.step_spec.specs.Frame.{begin, length_tag, type_tag, trailer_of, front, digit_run, window, length_check, body_start, body_length, body_end, frame_length, kind_check, kind, fields, step_read_of}
+use Rattle.step_spec.specs.FrontLaws.{front_is}
+use Rattle.step_spec.specs.HeadLaws.{type_is}
 use Rattle.step_spec.specs.Written.{plain_of, frame_of}
 use Rattle.step_spec.specs.RoundTrip.{text_of, text_is}
 use Rattle.step_spec.proofs.FieldLaws.{judged_fine, judged_7}

@@ -1,27 +1,17 @@
 -- The check 26, a piece at a time: what a pass over the fields may conclude at each.
-use Prim.Native.Nat.{ℕ, zero, suc, ◌+◌, ◌-◌, ◌<◌, ◌≤◌}
-use Rattle.std.specs.Prelude.{◌≡◌, Bool, false, not, ◌&&◌, ◌||◌, ◌⊎◌, eqb, ltb, drop, set}
-use Rattle.std.proofs.Math.Path.{refl, sym, ap}
-use Rattle.std.proofs.Common.{◌∙◌, add-one, add-zero, lit<, lit≤, length-take, drop_of_length-le, length-take-le, take-add, drop_at, drop-drop, take_all, get_or-take, get_or-drop}
+use Prim.Native.Nat.{ℕ, suc, ◌<◌, ◌≤◌}
+use Rattle.std.specs.Prelude.{◌≡◌, Bool, false, not, ◌&&◌, ltb, drop, set}
+use Rattle.std.proofs.Math.Path.{refl}
 use Rattle.std.proofs.Math.Bool.{true}
-use mathlib.Core.List.{List, [], ◌∷◌, ◌++◌}
-use Rattle.std.proofs.Math.Logic.{inl, inr, ⊎_elim}
+use mathlib.Core.List.{List, [], ◌∷◌}
+use Rattle.std.proofs.Math.Logic.{⊎_elim}
 use native.Mathlib.Omega.{arith}
-use Rattle.std.proofs.Math.Dec.{leb}
-use Rattle.std.proofs.Math.ListN.{length, get_or, take, length-drop, get_or-eq_default}
-use Rattle.std.proofs.Math.Seq.{take-take}
-use borrow.Author.Tests.{lt-ltb, le-ltb, le-leb, ltb-true, ltb-false, not-true, not-false, ne_eqb, eqb-true}
-use Rattle.terms.specs.Paper.{Paper, answer, refusal, pick, one_number}
-use Rattle.terms.specs.Cases.{two, less, clash, and_false}
-use Rattle.digits.specs.Laws.{both}
-use Rattle.digits.specs.Digits.{decimal_at, digits_at, all_digits, said_by, number, nothing}
-use Rattle.digits.specs.Texts.{Says, given_decimal, decimal_lacks}
-use Rattle.octets.specs.Octets.{numeral}
-use Rattle.step_tags.specs.Table.{row_of, has, needs}
-use Rattle.step_tags.specs.Forms.{form_ok, some, is_unreal}
-use Rattle.step_spec.specs.Pieces.{SOH, equals, until_of, pieces, closed}
-use Rattle.step_spec.specs.PieceLaws.{part, until_le, until_found, pieces_cut, pieces_last, closed_cut, not_closed}
-use Rattle.step_spec.specs.Fields.{is_field, tag_of, value_of, fits, all_below, complete, passes, sound_from, begins52, unreal_in, field_front, sound_of, judge_of}
+use Rattle.std.proofs.Math.ListN.{length, get_or}
+use borrow.Author.Tests.{lt-ltb, le-ltb}
+use Rattle.terms.specs.Cases.{less, and_false}
+use Rattle.step_spec.specs.Pieces.{SOH, until_of, pieces, closed}
+use Rattle.step_spec.specs.PieceLaws.{pieces_cut, closed_cut, not_closed}
+use Rattle.step_spec.specs.Fields.{is_field, fits, complete, passes, sound_from, unreal_in, sound_of, judge_of}
 use Rattle.step_spec.specs.FieldLaws.{row_in, piece, unfit_field}
 
 module _ (type : ℕ) (seen : List Bool) (s : List ℕ) where

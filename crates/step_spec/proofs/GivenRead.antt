@@ -1,22 +1,17 @@
 -- `read_given`: reading gives a number exactly if its condition holds. For any bytes the condition
 -- of the number given holds (`told`), and each condition leads to its number (`from`).
-use Rattle.std.specs.Prelude.{ℕ, zero, suc, ◌+◌, ◌-◌, ◌<◌, ◌≤◌, ◌≡◌, refl, Bool, true, false, not, ◌&&◌, List, [], ◌∷◌, ◌++◌, ◌⊎◌, ◌↔◌, eqb, length, get_or, take, drop}
-use Rattle.std.proofs.Common.{sym, ap, ◌∙◌, inl, inr, ⊎_elim, add-zero, arith, get_or-drop}
-use Rattle.std.proofs.lemmas.Bool.{not-true}
-use Rattle.terms.specs.Paper.{Paper, answer, refusal, pick, one_number}
-use Rattle.terms.specs.Cases.{two, less, same, clash}
+use Rattle.std.specs.Prelude.{ℕ, ◌+◌, ◌<◌, ◌≤◌, ◌≡◌, refl, true, false, List, ◌++◌, ◌↔◌, eqb, length, get_or}
+use Rattle.std.proofs.Common.{sym, ap, ◌∙◌, ⊎_elim, arith, get_or-drop}
+use Rattle.terms.specs.Paper.{pick}
+use Rattle.terms.specs.Cases.{two, less, clash}
 use Rattle.terms.specs.Checks.{or_else, else_on, else_is, else_assoc}
-use Rattle.digits.specs.Laws.{both}
-use Rattle.calendar.specs.Calendar.{real_time, RealTime}
-use Rattle.calendar.proofs.Times.{time_says}
-use Rattle.step_tags.specs.Forms.{is_time, time_of, is_unreal}
-use Rattle.step_spec.specs.Pieces.{SOH, pieces}
-use Rattle.step_spec.specs.Fields.{begins52, unreal_in, sound_of, judge_of}
-use Rattle.step_spec.specs.Frame.{begin, length_tag, type_tag, front, window, length_check, body_start, body_length, body_end, frame_length, long_check, type_check, head_of, sum_check, kind, fields, verdict_of, step_read_of}
-use Rattle.step_spec.specs.FrontLaws.{front_length, reads_on, reads_off}
+use Rattle.step_spec.specs.Pieces.{pieces}
+use Rattle.step_spec.specs.Fields.{unreal_in, sound_of, judge_of}
+use Rattle.step_spec.specs.Frame.{begin, front, body_start, body_length, body_end, long_check, type_check, head_of, sum_check, kind, fields, verdict_of, step_read_of}
+use Rattle.step_spec.specs.FrontLaws.{front_length}
 use Rattle.step_spec.specs.HeadLaws.{long_off, long_on, type_short, type_is}
-use Rattle.step_spec.specs.Sound.{piece_at, FieldsSound}
-use Rattle.step_spec.specs.Given.{Begins, Measures, start_of, end_of, Types, Sums, fields_in, Unreal, Headed, Sized, Typed, Summed, Timed, Given0, Given1, Given3, Given5, Given7, Given23, Given24, Given25, Given26, waits_begin, waits_length, waits_type, waits_sum, Answer, n0, n1, n3, n5, n7, n23, n24, n25, n26, numeral, Reads}
+use Rattle.step_spec.specs.Sound.{FieldsSound}
+use Rattle.step_spec.specs.Given.{Begins, start_of, end_of, Types, fields_in, Unreal, Headed, Sized, Typed, Summed, Given0, Given1, Given3, Given5, Given7, Given23, Given24, Given25, Given26, waits_begin, waits_length, waits_type, waits_sum, Answer, n0, n1, n3, n5, n7, n23, n24, n25, n26, numeral, Reads}
 use Rattle.step_spec.specs.Decided.{Decides, length_part}
 use Rattle.step_spec.proofs.Decided.{begin_decides, holds_from, measures_pass, measured_start, type_part, measured_room, type_decides, sum_decides, waits_from, length_decides, refused_from, holds_to, refused_to, waits_not}
 use Rattle.step_spec.proofs.FieldLaws.{judged_7, judged_26, judged_fine}

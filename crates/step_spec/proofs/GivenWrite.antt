@@ -1,9 +1,8 @@
 -- `write_given`: writing gives a number exactly if its condition holds.
-use Rattle.std.specs.Prelude.{ℕ, ◌+◌, ◌<◌, ◌≤◌, ◌≡◌, true, false, List, ◌↔◌, length}
+use Rattle.std.specs.Prelude.{ℕ, ◌<◌, ◌≤◌, ◌≡◌, true, false, List, ◌↔◌, length}
 use Rattle.std.proofs.Common.{sym, ◌∙◌, ⊎_elim, arith}
-use Rattle.terms.specs.Paper.{Paper, one_number}
+use Rattle.terms.specs.Paper.{one_number}
 use Rattle.terms.specs.Cases.{two, less}
-use Rattle.digits.specs.Digits.{width_of}
 use Rattle.step_tags.specs.Table.{among, types}
 use Rattle.step_spec.specs.Written.{frame_of, step_write_of}
 use Rattle.step_spec.specs.WriteLaws.{frame_over, write_long, write_type, write_judged, write_room, write_fine}

@@ -1,24 +1,15 @@
 -- Each check of reading from the facts that decide it.
-use Rattle.std.specs.Prelude.{ℕ, zero, suc, ◌+◌, ◌-◌, ◌<◌, ◌≤◌, min, ◌≡◌, Bool, true, false, ◌&&◌, eqb, leb, ltb, get_or, take, drop}
-use Rattle.std.proofs.Math.Path.{refl}
-use Rattle.std.proofs.Common.{sym, ap, ◌∙◌, ⊎_elim, add-zero, arith, lit≤, length-take, length-drop, length-append, take_all, drop-drop, get_or-take, get_or-drop, length-take-le}
-use mathlib.Core.List.{List, [], ◌∷◌, ◌++◌}
+use Rattle.std.specs.Prelude.{ℕ, ◌-◌, ◌<◌, ◌≤◌, ◌≡◌, true, false, get_or, take, drop}
+use Rattle.std.proofs.Common.{⊎_elim, arith}
+use mathlib.Core.List.{List}
 use Rattle.std.proofs.Math.ListN.{length}
 use borrow.Author.Tests.{eq-eqb, ne_eqb, le-leb, lt-leb, lt-ltb, le-ltb}
-use Rattle.terms.specs.Paper.{Paper, answer, refusal, pick}
-use Rattle.terms.specs.Cases.{two, less, and_false}
-use Rattle.terms.specs.Checks.{or_else, else_on, else_off, else_both}
-use Rattle.octets.specs.Octets.{sum8, laid}
-use Rattle.octets.specs.Papers.{laid_if_room, laid_there}
-use Rattle.digits.specs.Digits.{decimal_at, decimal_of, number, nothing, plain}
-use Rattle.digits.specs.Laws.{length_decimal}
+use Rattle.terms.specs.Cases.{less, and_false}
+use Rattle.octets.specs.Octets.{sum8}
+use Rattle.digits.specs.Digits.{decimal_at, number, nothing, plain}
 use Rattle.step_tags.specs.Forms.{some}
 use Rattle.step_spec.specs.Pieces.{SOH}
-use Rattle.step_spec.specs.PieceLaws.{part}
-use Rattle.step_spec.specs.Fields.{judge_of}
-use Rattle.step_spec.specs.FieldLaws.{decimal_same}
-use Rattle.step_spec.specs.Frame.{front, digit_run, window, length_check, body_start, body_length, body_end, frame_length, long_check, kind_check, type_check, type_tag, head_of, begin, length_tag, sum_check, trailer_of, kind, fields, verdict_of, accepted, step_read_of}
-use Rattle.step_spec.specs.FrontLaws.{kind_length, front_short, reads_off, reads_on}
+use Rattle.step_spec.specs.Frame.{front, digit_run, length_check, sum_check, trailer_of}
 
 -- THE LENGTH FIELD, over its window
 

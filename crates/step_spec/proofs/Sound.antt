@@ -1,19 +1,18 @@
 -- The check 26 in words, and that the test says exactly this: the fields end in SOH; each piece is
 -- a tag of the type, `=`, and a value of its form; no tag stands twice; every required
 -- one is there.
-use Rattle.std.specs.Prelude.{ℕ, zero, suc, ◌+◌, ◌<◌, ◌≤◌, ◌≡◌, refl, Bool, true, false, not, ◌&&◌, ◌||◌, List, [], ◌∷◌, ◌⊎◌, length, get_or, set}
+use Rattle.std.specs.Prelude.{ℕ, zero, suc, ◌<◌, ◌≤◌, ◌≡◌, refl, Bool, true, false, not, ◌||◌, List, [], ◌∷◌, ◌⊎◌, length, get_or, set}
 use Rattle.std.proofs.Common.{sym, ap, ◌∙◌, inl, inr, ⊎_elim, arith, length-set, get_or-set_same, get_or-set_other}
 use Rattle.std.proofs.lemmas.List.{get_or-replicate}
 use Rattle.std.proofs.Math.ListN.{get_or-eq_default}
 use Rattle.std.proofs.lemmas.Bool.{not-true}
-use Rattle.terms.specs.Cases.{two, less, same, clash}
+use Rattle.terms.specs.Cases.{less, same, clash}
 use Rattle.digits.specs.Laws.{both}
 use Rattle.step_tags.specs.Table.{row_of, has, needs}
 use Rattle.step_tags.specs.Laws.{has_row}
-use Rattle.step_tags.specs.Forms.{form_ok}
 use Rattle.step_spec.specs.Pieces.{pieces, closed}
-use Rattle.step_spec.specs.Fields.{is_field, tag_of, value_of, fits, all_below, complete, passes, sound_from, sound_of, none}
-use Rattle.step_spec.specs.FieldLaws.{below_each, below_stops}
+use Rattle.step_spec.specs.Fields.{is_field, tag_of, fits, complete, passes, sound_from, sound_of, none}
+use Rattle.step_spec.specs.FieldLaws.{below_each}
 use Rattle.step_spec.specs.Sound.{FieldOf, Stands, piece_at, row_at, Passing, seen_of, all_seen, FieldsSound}
 
 field_of : (type : ℕ) (p : List ℕ) → fits type p ≡ true → FieldOf type p

@@ -1,21 +1,19 @@
 -- Laws for later walks: 8,192 bytes are always decided.
-use Rattle.std.specs.Prelude.{ℕ, zero, suc, ◌+◌, ◌-◌, ◌<◌, ◌≤◌, ◌≡◌, refl, Bool, true, false, ◌&&◌, List, [], ◌∷◌, ◌++◌, ◌⊎◌, eqb, leb, ltb, get_or, take, drop}
-use Rattle.std.proofs.Common.{sym, ap, ◌∙◌, inl, inr, arith, length-append, ne_eqb}
+use Rattle.std.specs.Prelude.{ℕ, ◌+◌, ◌-◌, ◌<◌, ◌≤◌, ◌≡◌, refl, true, false, List, [], ◌∷◌, eqb, get_or, take, drop}
+use Rattle.std.proofs.Common.{sym, ◌∙◌, arith}
 use Rattle.std.proofs.Math.Logic.{⊎_elim}
 use Rattle.std.proofs.Math.ListN.{length, length-take, length-drop}
-use Rattle.std.proofs.lemmas.List.{drop-append-le, take-append-le}
-use Rattle.terms.specs.Paper.{Paper, pick, one_number}
 use Rattle.terms.specs.Cases.{two, less, same}
 use Rattle.terms.specs.Checks.{else_both, else_one}
-use Rattle.digits.specs.Digits.{plain, is_digit}
+use Rattle.digits.specs.Digits.{plain}
 use Rattle.step_tags.specs.Table.{among, types}
 use Rattle.octets.specs.Octets.{sum8}
 use Rattle.step_spec.specs.Pieces.{SOH, pieces}
 use Rattle.step_spec.specs.Fields.{judge_of, sound_of, unreal_in}
-use Rattle.step_spec.specs.Frame.{begin, length_tag, type_tag, trailer_of, front, digit_run, window, length_check, body_start, body_length, body_end, frame_length, long_check, kind_check, type_check, head_of, sum_check, kind, fields, verdict_of, step_read_of}
-use Rattle.step_spec.specs.FrontLaws.{front_length, kind_other, kind_there, run_le, reads_on, reads_off}
+use Rattle.step_spec.specs.Frame.{begin, length_tag, type_tag, trailer_of, front, digit_run, window, length_check, body_start, body_length, body_end, frame_length, long_check, kind_check, type_check, head_of, sum_check, kind, fields, verdict_of}
+use Rattle.step_spec.specs.FrontLaws.{run_le}
 use Rattle.step_spec.specs.HeadLaws.{long_off, long_on, type_short, type_is}
-use Rattle.step_spec.specs.Exactly.{LengthField, decimal_cases, trailer_long}
+use Rattle.step_spec.specs.Exactly.{decimal_cases, trailer_long}
 use Rattle.step_spec.proofs.FieldLaws.{judged_7, judged_26, judged_fine}
 use Rattle.step_spec.proofs.HeadLaws.{length_good, length_zero, length_open, length_none, length_many, sum_is, sum_open}
 

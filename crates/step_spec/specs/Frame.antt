@@ -1,7 +1,7 @@
 -- What reading a STEP frame answers: the checks in the order 23, 24, 3, 25, 5, 7, 26. A check says
 -- 0 where it passes, 1 where the bytes end before it is decided, and its own number as soon as no
 -- further bytes can mend it.
-use Rattle.std.specs.Prelude.{ℕ, suc, ◌+◌, ◌-◌, Bool, true, false, ◌&&◌, List, [], ◌∷◌, ◌++◌, eqb, leb, ltb, length, get_or, take, drop}
+use Rattle.std.specs.Prelude.{ℕ, suc, ◌+◌, ◌-◌, ◌&&◌, List, [], ◌∷◌, ◌++◌, eqb, leb, ltb, length, get_or, take, drop}
 use Rattle.terms.specs.Paper.{Paper, answer, refusal, pick}
 use Rattle.terms.specs.Checks.{or_else}
 use Rattle.octets.specs.Octets.{sum8}

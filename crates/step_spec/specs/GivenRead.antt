@@ -1,23 +1,20 @@
 -- `read_given`: reading gives a number exactly if its condition holds. For any bytes the condition
 -- of the number given holds (`told`), and each condition leads to its number (`from`).
-use Rattle.std.specs.Prelude.{ℕ, zero, suc, ◌+◌, ◌-◌, ◌<◌, ◌≤◌, ◌≡◌, refl, Bool, true, false, not, ◌&&◌, List, [], ◌∷◌, ◌++◌, ◌⊎◌, ◌↔◌, eqb, length, get_or, take, drop}
-use Rattle.std.proofs.Common.{sym, ap, ◌∙◌, inl, inr, ⊎_elim, add-zero, arith, get_or-drop}
+use Rattle.std.specs.Prelude.{ℕ, zero, suc, ◌<◌, ◌≡◌, refl, true, false, not, List, [], ◌∷◌, ◌⊎◌, length, drop}
+use Rattle.std.proofs.Common.{sym, ◌∙◌, inl, inr, ⊎_elim, arith}
 use Rattle.std.proofs.lemmas.Bool.{not-true}
-use Rattle.terms.specs.Paper.{Paper, answer, refusal, pick, one_number}
-use Rattle.terms.specs.Cases.{two, less, same, clash}
-use Rattle.terms.specs.Checks.{or_else, else_on, else_is, else_assoc}
+use Rattle.terms.specs.Paper.{one_number}
+use Rattle.terms.specs.Cases.{two, same, clash}
 use Rattle.digits.specs.Laws.{both}
-use Rattle.calendar.specs.Calendar.{real_time, RealTime}
+use Rattle.calendar.specs.Calendar.{real_time}
 use Rattle.calendar.proofs.Times.{time_says}
 use Rattle.step_tags.specs.Forms.{is_time, time_of, is_unreal}
-use Rattle.step_spec.specs.Pieces.{SOH, pieces}
-use Rattle.step_spec.specs.Fields.{begins52, unreal_in, sound_of, judge_of}
-use Rattle.step_spec.specs.Frame.{begin, length_tag, type_tag, front, window, length_check, body_start, body_length, body_end, frame_length, long_check, type_check, head_of, sum_check, kind, fields, verdict_of, step_read_of}
-use Rattle.step_spec.specs.FrontLaws.{front_length, reads_on, reads_off}
-use Rattle.step_spec.specs.HeadLaws.{long_off, long_on, type_short, type_is}
+use Rattle.step_spec.specs.Pieces.{pieces}
+use Rattle.step_spec.specs.Fields.{begins52, unreal_in}
+use Rattle.step_spec.specs.Frame.{verdict_of, step_read_of}
+use Rattle.step_spec.specs.FrontLaws.{reads_on, reads_off}
 use Rattle.step_spec.specs.Sound.{piece_at, FieldsSound}
-use Rattle.step_spec.specs.Given.{Begins, Measures, start_of, end_of, Types, Sums, fields_in, Unreal, Headed, Sized, Typed, Summed, Timed, Given0, Given1, Given3, Given5, Given7, Given23, Given24, Given25, Given26, waits_begin, waits_length, waits_type, waits_sum, Answer, n0, n1, n3, n5, n7, n23, n24, n25, n26, numeral, Reads}
-use Rattle.step_spec.specs.Decided.{Decides, length_part}
+use Rattle.step_spec.specs.Given.{Unreal}
 
 -- A TIME THAT IS NOT REAL
 

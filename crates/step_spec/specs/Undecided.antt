@@ -1,5 +1,5 @@
 -- A literal is undecided exactly if the bytes are a proper front of it; and a row has one tag.
-use Rattle.std.specs.Prelude.{ℕ, zero, suc, ◌+◌, ◌<◌, ◌≤◌, ◌≡◌, refl, Bool, true, false, List, [], ◌∷◌, ◌++◌, eqb, length, get_or, drop}
+use Rattle.std.specs.Prelude.{ℕ, ◌<◌, ◌≡◌, refl, true, false, List, [], ◌∷◌, ◌++◌, eqb, length, get_or, drop}
 use Rattle.std.proofs.Common.{sym, ap, ◌∙◌, ⊎_elim, arith, eq-eqb, eqb-true}
 use Rattle.terms.specs.Cases.{two}
 use Rattle.step_tags.specs.Table.{Row, rows, no_row, row_in, row_of, row_at}

@@ -1,24 +1,17 @@
 -- Refused, nothing is written; else the next session's words and what is to be sent. Assumes
 -- nothing.
-use mathlib.Core.Path.{sym, ◌∙◌}
+use mathlib.Core.Path.{refl, sym, ap, ◌∙◌}
+use Rattle.terms.specs.Refusals.{refusal_pos}
+use Rattle.session.specs.Papers.{answer_of}
 use Rattle.host_session.proofs.Kept.{call_refused, call_done}
-use borrow.Author.Rules.{rules}
 use Rattle.host_session.proofs.call.Goals as goal
 
-pub returns-then-answer-ne0 : goal.returns-then-answer-ne0
-returns-then-answer-ne0 c =
-    let number = c in
-    let turn = number in
-    call_refused _ _ _ turn.session_in.ensures turn.turn-turn.ensures.0 turn.turn-turn.ensures.1 _ _ number.number-answer.ensures c.if-answer-ne0.true
+pub returns-in-Ok : goal.returns-in-Ok
+returns-in-Ok c =
+    let t = c.turn-turn.ensures in
+    rw c.outcome_words.ensures (call_done _ _ _ c.session_in.ensures (sym (ap answer_of c.in-Ok.is) ∙ t.0) t.1 _ _ _ _ _ c.words_of.ensures refl refl refl refl)
 
-pub returns : goal.returns
-returns c =
-    let dead = c in
-    let seq = dead in
-    let kind = seq in
-    let words = kind in
-    let zero = words in
-    let number = zero in
-    let turn = number in
-    call_done _ _ _ turn.session_in.ensures turn.turn-turn.ensures.0 turn.turn-turn.ensures.1 _ _ _ _ _ words.words_of.ensures
-    (sym number.number-answer.ensures ∙ zero.if-answer-ne0.false) kind.type_of.ensures seq.value.ensures dead.one_if.ensures
+pub returns-in-Err : goal.returns-in-Err
+returns-in-Err c =
+    let t = c.turn-turn.ensures in
+    call_refused _ _ _ c.session_in.ensures (sym (ap answer_of c.in-Err.is) ∙ t.0) t.1 _ _ c.from.ensures (λ z. refusal_pos c.in-Err.why (sym c.from.ensures ∙ z))

@@ -1,28 +1,25 @@
--- The tests in their order. Assumes nothing.
-use mathlib.Core.Path.{sym, ap}
+-- In an arm the number is known; in the last it is none of the four. Assumes nothing.
+use native.Mathlib.Omega.{arith}
 use borrow.Author.Tests.{ne_eqb}
 use Rattle.host_session.specs.Words.{state_numbered}
 use Rattle.host_session.proofs.state_in.Goals as goal
 
-pub returns-then-word-eq0 : goal.returns-then-word-eq0
+pub returns-in-0 : goal.returns-in-0
 unfolding state_numbered
-returns-then-word-eq0 c = ap state_numbered (sym c.if-word-eq0.true)
+returns-in-0 c = rw c.in-0.is
 
-pub returns-then-word-eq1 : goal.returns-then-word-eq1
+pub returns-in-1 : goal.returns-in-1
 unfolding state_numbered
-returns-then-word-eq1 c = ap state_numbered (sym c.if-word-eq1.true)
+returns-in-1 c = rw c.in-1.is
 
-pub returns-then-word-eq2 : goal.returns-then-word-eq2
+pub returns-in-2 : goal.returns-in-2
 unfolding state_numbered
-returns-then-word-eq2 c = ap state_numbered (sym c.if-word-eq2.true)
+returns-in-2 c = rw c.in-2.is
 
-pub returns-then-word-eq3 : goal.returns-then-word-eq3
+pub returns-in-3 : goal.returns-in-3
 unfolding state_numbered
-returns-then-word-eq3 c = ap state_numbered (sym c.if-word-eq3.true)
+returns-in-3 c = rw c.in-3.is
 
-pub returns : goal.returns
+pub returns-in_default : goal.returns-in_default
 unfolding state_numbered
-returns c =
-    let two = c in
-    let one = two in
-    rw (ne_eqb _ _ one.if-word-eq0.false, ne_eqb _ _ one.if-word-eq1.false, ne_eqb _ _ two.if-word-eq2.false, ne_eqb _ _ c.if-word-eq3.false)
+returns-in_default c = let w = c.args.word in rw (ne_eqb w 0 (λ e. omega (arith, e)), ne_eqb w 1 (λ e. omega (arith, e)), ne_eqb w 2 (λ e. omega (arith, e)), ne_eqb w 3 (λ e. omega (arith, e)))

@@ -3,7 +3,6 @@ use Prim.Native.Nat.{◌≤◌}
 use native.Mathlib.Omega.{arith}
 use Rattle.digits.specs.Digits.{width_of}
 use Rattle.listing_text.specs.Columns.{few_digits}
-use borrow.Author.Rules.{rules}
 use Rattle.listing_text.proofs.column_len.Goals as goal
 use Rattle.listing_text.proofs.column_len.Goals.{After-width}
 

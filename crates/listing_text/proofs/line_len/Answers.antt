@@ -4,7 +4,6 @@ use mathlib.Core.Path.{ap, ◌∙◌}
 use native.Mathlib.Omega.{arith}
 use Rattle.digits.specs.Digits.{width_of}
 use Rattle.listing_text.specs.Lengths.{line_length}
-use borrow.Author.Rules.{rules}
 use Rattle.listing_text.proofs.line_len.Goals as goal
 
 pub returns : goal.returns

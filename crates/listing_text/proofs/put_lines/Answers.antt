@@ -1,9 +1,7 @@
 -- `put_lines`: without room nothing is written; with room all lines are laid. Assumes nothing.
 use mathlib.Core.Path.{sym, ◌∙◌}
 use native.Mathlib.Nat.{add-zero}
-use borrow.Author.Tests.{leb-true, not-true, not-false}
 use Rattle.listing_text.specs.Answered.{front_lacks, front_laid}
-use borrow.Author.Rules.{rules}
 use Rattle.listing_text.proofs.put_lines.Goals as goal
 
 pub returns-then-not-takes : goal.returns-then-not-takes

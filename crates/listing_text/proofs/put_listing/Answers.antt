@@ -3,12 +3,11 @@
 use Prim.Native.Nat.{◌≤◌}
 use mathlib.Core.Path.{sym, ◌∙◌}
 use lib.ListN.{length}
-use borrow.Author.Tests.{leb-true, not-true, not-false}
+use borrow.Author.Tests.{leb-true}
 use Rattle.record.specs.Stored.{stored_both}
 use Rattle.listing_text.specs.Whole.{listing_of}
-use Rattle.listing_text.specs.Rest.{listing_fits, lines_room, end_room}
+use Rattle.listing_text.specs.Rest.{listing_fits}
 use Rattle.listing_text.specs.Answered.{front_lacks, front_laid}
-use borrow.Author.Rules.{rules}
 use Rattle.listing_text.proofs.put_listing.Goals as goal
 use Rattle.listing_text.proofs.put_listing.Goals.{Else-not-takes}
 

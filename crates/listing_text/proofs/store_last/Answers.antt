@@ -3,7 +3,6 @@
 use Rattle.listing_text.specs.Text.{last_columns}
 use Rattle.listing_text.specs.Columns.{room_first, room_behind}
 use Rattle.record.specs.Stored.{stored_both}
-use borrow.Author.Rules.{rules}
 use Rattle.listing_text.proofs.store_last.Goals as goal
 
 pub store_column-a-requires : goal.store_column-a-requires

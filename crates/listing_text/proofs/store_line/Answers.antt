@@ -2,7 +2,6 @@
 use Rattle.listing_text.specs.Text.{line_of}
 use Rattle.listing_text.specs.Columns.{room_first, room_behind}
 use Rattle.record.specs.Stored.{stored_both}
-use borrow.Author.Rules.{rules}
 use Rattle.listing_text.proofs.store_line.Goals as goal
 
 pub store_columns-a-requires : goal.store_columns-a-requires

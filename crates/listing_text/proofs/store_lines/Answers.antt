@@ -1,23 +1,15 @@
-use Prim.Native.Nat.{◌/◌, ◌-◌, ◌≤◌}
-use native.Mathlib.Omega.{arith}
-use lib.ListN.{length}
-use Rattle.listing_text.specs.Rest.{Going, going_first, line_room, going_on, going_end}
-use borrow.Author.Rules.{rules}
+use Rattle.std.proofs.Common.{arith}
+use Rattle.listing_text.specs.Rest.{going_first, line_room, going_on, going_end}
 use Rattle.listing_text.proofs.store_lines.Goals as goal
 
-pub loop-laid-init : goal.loop-laid-init
-loop-laid-init c = (search rules, going_first _ _)
+pub loop-k-init : goal.loop-k-init
+loop-k-init c = going_first _ _
 
 pub store_line-at-requires : goal.store_line-at-requires
-store_line-at-requires c =
-    let l = c in
-    rw c.record_at.ensures (line_room _ l.loop-laid.invariant.1 (search rules) (search rules))
+store_line-at-requires c = rw c.record_at.ensures (line_room _ c.loop-k.invariant c.requires c.loop-k-test.true)
 
-pub loop-laid-preserved : goal.loop-laid-preserved
-loop-laid-preserved c =
-    let p = c in
-    let l = p in
-    (search rules, going_on _ l.loop-laid.invariant.1 (search rules) (rw p.record_at.ensures at p.store_line-at.ensures))
+pub loop-k-preserved : goal.loop-k-preserved
+loop-k-preserved c = going_on _ c.loop-k.invariant c.loop-k-test.true (rw c.record_at.ensures at c.store_line-at.ensures)
 
 pub returns : goal.returns
-returns c = let l = c in going_end _ l.loop-laid.invariant.1 (search rules) (search rules)
+returns c = going_end _ c.loop-k.invariant c.requires (omega arith)

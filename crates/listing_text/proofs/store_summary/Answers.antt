@@ -1,9 +1,8 @@
 -- `store_summary`: five words with their numbers, each laid just behind the one before, where there
 -- is room for it. Assumes nothing.
-use Rattle.listing_text.specs.Text.{space, frames, refused, floor, top, missing, named, summary_of}
+use Rattle.listing_text.specs.Text.{space, frames, refused, floor, top, named, summary_of}
 use Rattle.listing_text.specs.Columns.{room_first, room_behind}
 use Rattle.record.specs.Stored.{stored_both}
-use borrow.Author.Rules.{rules}
 use Rattle.listing_text.proofs.store_summary.Goals as goal
 
 pub store_named-a-requires : goal.store_named-a-requires

@@ -1,23 +1,29 @@
 -- `store_type`: four bytes and a space. Assumes nothing.
-use Prim.Native.Nat.{◌+◌, ◌≤◌}
-use native.Mathlib.Omega.{arith}
-use lib.ListN.{length}
-use Rattle.listing_text.specs.Text.{type_column}
+use Rattle.std.proofs.Common.{◌≡◌, ◌+◌, ◌≤◌, ◌∙◌, ap, arith, length}
+use Rattle.octets.specs.Octets.{bytes_of}
+use Rattle.octets.specs.Std.{bytes_written}
+use Rattle.octets.specs.Numerals.{length_digits}
+use Rattle.record.specs.Stored.{stored_copied, stored_byte, stored_both}
 use Rattle.listing_text.specs.Lengths.{length_type}
-use Rattle.record.specs.Stored.{stored_field, stored_byte, stored_both}
-use borrow.Author.Rules.{rules}
+use Rattle.listing_text.specs.Text.{type_column, type_shown, space}
 use Rattle.listing_text.proofs.store_type.Goals as goal
 use Rattle.listing_text.proofs.store_type.Goals.{Start}
 
 room : (c : goal.Start) → c.args.at + 5 ≤ length c.args.d.now
 room c = rw (length_type c.args.t) at c.requires.fits
 
-pub bounds-d-e : goal.bounds-d-e
-bounds-d-e c = omega (arith, room (goal.at.bounds-d-e c).Start)
+pub slice_bounds-copy_from_slice-end : goal.slice_bounds-copy_from_slice-end
+slice_bounds-copy_from_slice-end c = omega (arith, room (goal.at.slice_bounds-copy_from_slice-end c).Start)
+
+pub bounds-d-at : goal.bounds-d-at
+bounds-d-at c = omega (arith, room (goal.at.bounds-d-at c).Start)
 
 pub returns : goal.returns
 unfolding type_column
 returns c =
-    let p = c in
     let r = room (goal.at.returns c).Start in
-    rw (← p.shown.ensures) (stored_both (stored_field _ 4 _ _ _ (omega (arith, r)) p.put.ensures.1) (stored_byte _ _ _ (omega (arith, r))))
+    let five : c.args.at + 4 + 1 ≡ c.args.at + 5 = omega arith in
+    rw five at
+    (stored_both
+    (stored_copied c.args.at (c.args.at + 4) (bytes_of 4 (type_shown c.args.t)) c.args.d.now c.copy_from_slice.new.self (c.copy_from_slice.ensures.after ∙ c.to_be_bytes.ensures ∙ bytes_written 4 _ ∙ ap (bytes_of 4) c.shown.ensures) (omega (arith, length_digits 256 4 (type_shown c.args.t))) (omega (arith, r)))
+    (stored_byte (c.args.at + 4) space _ (omega (arith, r))))

@@ -1,20 +1,25 @@
-use native.Mathlib.Omega.{arith}
-use Prim.Native.Nat.{ℕ, ◌+◌, ◌-◌, ◌≤◌, ◌<◌}
-use mathlib.Core.Path.{◌≡◌, refl, sym, ap, ◌∙◌}
-use lib.ListN.{get_or}
-use borrow.Author.Rules.{rules}
-use Rattle.month_spec.specs.Page.{place_right}
-use Rattle.month.proofs.Loops.{Passed, passed_none, passed_one, right_named, right_free, wrong_free, wrong_long, wrong_twice, channels_broken, channels_fine}
+use Rattle.std.proofs.Common.{refl, rules, sym, ◌∙◌}
+use Rattle.month.proofs.Loops.{passed_one, right_new, right_free, wrong_free, wrong_long, wrong_there, channels_broken, channels_fine}
 use Rattle.month.proofs.channels_right.Goals as goal
+use Rattle.month.proofs.channels_right.Goals.{then-channel-gt9999-via-then-channel-gt9999, then-channel-gt9999-via-else-channel-gt9999+then-contains, then-named-i+else-channel-ne0, else-named-i+else-channel-gt9999+else-contains}
 
 pub returns-then-channel-ne0 : goal.returns-then-channel-ne0
-returns-then-channel-ne0 c = let s = c in let l = c.loop-i in channels_broken _ _ (search rules) _ (search rules) (wrong_free s.args.channels s.args.named l.i c.if-named-at.true c.if-channel-ne0.true)
+returns-then-channel-ne0 c = channels_broken _ _ (search rules) _ (search rules) (wrong_free c.args.channels c.args.named c.loop-i.i c.if-named-i.true c.if-channel-ne0.true)
 
 pub returns-then-channel-gt9999 : goal.returns-then-channel-gt9999
-returns-then-channel-gt9999 c = let s = c in let l = c.loop-i in channels_broken s.args.channels s.args.named (search rules) l.i (search rules) (wrong_long s.args.channels s.args.named l.i (get_or s.args.channels l.i 0) (search rules) refl c.if-channel-gt9999.true)
+returns-then-channel-gt9999 c = channels_broken c.args.channels c.args.named (search rules) c.loop-i.i (search rules)
+    (elim c.then-channel-gt9999.branch [
+      | then-channel-gt9999-via-then-channel-gt9999 w ↦ wrong_long _ _ c.loop-i.i _ c.if-named-i.false refl w.if-channel-gt9999.true
+      | then-channel-gt9999-via-else-channel-gt9999+then-contains w ↦ wrong_there _ _ c.loop-i.i c.if-named-i.false (search rules) (sym w.contains.ensures.value ∙ w.if-contains.true)
+    ])
 
-pub returns-then-place_of-at : goal.returns-then-place_of-at
-returns-then-place_of-at c = let s = c in let l = c.loop-i in channels_broken s.args.channels s.args.named (search rules) l.i (search rules) (wrong_twice s.args.channels s.args.named l.i (get_or s.args.channels l.i 0) (search rules) refl (λ e. c.if-place_of-at.true (c.place_of.ensures ∙ e)))
+pub loop-i-preserved : goal.loop-i-preserved
+loop-i-preserved c =
+    passed_one c.loop-i.invariant (search rules)
+    (elim c.if-named-i.branch [
+      | then-named-i+else-channel-ne0 w ↦ right_free _ _ c.loop-i.i w.if-named-i.true w.if-channel-ne0.false
+      | else-named-i+else-channel-gt9999+else-contains w ↦ right_new _ _ c.loop-i.i w.if-named-i.false (search rules) w.if-channel-gt9999.false (sym w.contains.ensures.value ∙ w.if-contains.false)
+    ])
 
 pub returns : goal.returns
 returns c = channels_fine _ _ (search rules) _ c.loop-i.invariant c.loop-i-test.false

@@ -1,18 +1,11 @@
--- The invariant: the places filled are figures of rows. The measure is what is left. Assumes
--- nothing.
-use native.Mathlib.Omega.{arith}
-use Prim.Native.Nat.{ℕ, ◌+◌, ◌-◌, ◌*◌, ◌≤◌, ◌<◌}
-use mathlib.Core.Path.{◌≡◌, refl, sym, ap, ◌∙◌}
-use borrow.Author.Rules.{rules}
-use Prim.Native.Nat.{◌/◌, ◌%◌}
-use lib.ListN.{length, get_or}
-use Rattle.month.specs.declared.Row.{Row}
-use Rattle.month.specs.Rows.{no_row, row_numbers, row_figure, row_figures}
-use Rattle.month.proofs.Fill.{Filled, fill_start, fill_step, fill_left, zero_at, zeros_long, any_default}
+-- The invariants: the places filled are figures of rows. Assumes nothing.
+use Rattle.std.proofs.Common.{◌+◌, ◌*◌}
+use Rattle.month.specs.Rows.{row_figure}
+use Rattle.month.proofs.Fill.{Filled}
 use Rattle.month.proofs.figures_of.Given as goal
 
-abbrev pub invariant-loop-k : goal.invariant-loop-k
-invariant-loop-k l = Filled (row_figure l.rows) 192 l.k l.told × (l.k ≤ 6 * l.named)
+abbrev pub invariant-loop-j : goal.invariant-loop-j
+invariant-loop-j l = Filled (row_figure l.rows) 192 (6 * l.j) l.told
 
-abbrev pub decreases-loop-k : goal.decreases-loop-k
-decreases-loop-k l = 6 * l.named - l.k
+abbrev pub invariant-loop-i : goal.invariant-loop-i
+invariant-loop-i l = Filled (row_figure l.rows) 192 (6 * l.j + l.i) l.told

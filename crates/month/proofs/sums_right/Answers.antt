@@ -1,12 +1,7 @@
-use native.Mathlib.Omega.{arith}
-use Prim.Native.Nat.{ℕ, ◌+◌, ◌-◌, ◌*◌, ◌≤◌, ◌<◌}
-use mathlib.Core.Path.{◌≡◌, refl, sym, ap, ◌∙◌}
-use borrow.Author.Rules.{rules}
-use Rattle.month.proofs.Loops.{Zeros, zeros_start, zeros_step, sums_broken, sums_fine}
+-- Assumes nothing.
+use Rattle.std.proofs.Common.{◌∙◌, rules}
+use Rattle.month.proofs.Loops.{sums_told}
 use Rattle.month.proofs.sums_right.Goals as goal
 
-pub returns-then-sums-k-ne0 : goal.returns-then-sums-k-ne0
-returns-then-sums-k-ne0 c = sums_broken _ _ _ c.loop-k.invariant (search rules) c.if-sums-k-ne0.true
-
 pub returns : goal.returns
-returns c = sums_fine _ _ (search rules) _ c.loop-k.invariant c.loop-k-test.false
+returns c = c.all_zero.ensures ∙ sums_told c.args.sums c.args.named (search rules) c.requires

@@ -34,7 +34,7 @@ loop-i-init c = let a = c.args in (search rules, lit< tt, ap (λ (l : List Bool)
 pub returns-in_default : goal.returns-in_default
 returns-in_default c =
     let t = drop c.loop-i.i c.args.fields.now in
-    ⊎_elim (λ e. sym (pass_no_field _ _ t (simp length-drop (omega arith)) e) ∙ c.loop-i.invariant.2)
+    ⊎_elim (λ e. sym (pass_no_field _ _ t (simp length-drop (omega (arith, c.loop-i-test.true))) e) ∙ c.loop-i.invariant.2)
     (λ f. sym (pass_stops _ t f.0 f.1 c.loop-i.seen (rw (f.2, none_has c.args.kind))) ∙ c.loop-i.invariant.2)
     c.in_default.ensures
 
