@@ -170,7 +170,7 @@ pub fn rk_session_receive(state: &mut [u64; 8], time: u64, bytes: &[u8], told: &
         Ok(outcome) => {
             let [kind, number, dead] = outcome_words(outcome);
             *state = words_of(turn.next);
-            *told = [kind, number, dead, arrived.length as u64];
+            *told = [kind, number, dead, arrived.length.unwrap_or(0) as u64];
             0
         }
         Err(why) => u32::from(why),

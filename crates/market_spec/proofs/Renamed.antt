@@ -16,7 +16,7 @@ use Rattle.market_columns.specs.Columns.{Column, K, C, U, header, md401, md404, 
 use Rattle.market_columns.specs.Tables.{length_of}
 use Rattle.market_spec.specs.File.{fault, fine, and_then, line_fault, word_of, begins_at, type_at, layout_of, marks, tail_fault, left_over, count_ok, sum_ok, closing, trailer_fault, lines_fault, fault_of}
 use Rattle.market_spec.specs.LinesValues.{is_line, is_line_holds, type_drop}
-use Rattle.market_spec.specs.Files.{then_fine, then_fault, lines_trailer, lines_cut, lines_type, lines_line, close_sum, close_fine}
+use Rattle.market_spec.specs.Files.{each_layout, then_fine, then_fault, lines_trailer, lines_cut, lines_type, lines_line, close_sum, close_fine}
 use Rattle.market_spec.specs.Types.{file_large, file_header, file_lines, type_most}
 use Rattle.market_spec.specs.Told.{Told, at_place, refused}
 use Rattle.market_spec.specs.Walk.{line_not}
@@ -77,16 +77,8 @@ module _ (a b c d e : ℕ) (cs : List Column) (x y : List ℕ) where
       )
 
 agree_layout : (t : ℕ) (x y : List ℕ) → take 12 x ≡ take 12 y → drop 44 (take (length_of (layout_of t)) x) ≡ drop 44 (take (length_of (layout_of t)) y) → Agree (layout_of t) x y
-agree_layout t x y f g =
-    ⊎_elim (λ (a : eqb t 1 ≡ true). rw a (agree_line 77 68 52 48 49 (drop 3 md401) x y f (rw a at g)))
-    (λ (a : eqb t 1 ≡ false).
-    ⊎_elim (λ (b : eqb t 2 ≡ true). rw (a, b) (agree_line 77 68 52 48 52 (drop 3 md404) x y f (rw (a, b) at g)))
-    (λ (b : eqb t 2 ≡ false).
-    ⊎_elim (λ (d : eqb t 3 ≡ true). rw (a, b, d) (agree_line 77 68 52 48 53 (drop 3 md405) x y f (rw (a, b, d) at g)))
-    (λ (d : eqb t 3 ≡ false). rw (a, b, d) (agree_line 77 68 52 48 54 (drop 3 md406) x y f (rw (a, b, d) at g)))
-    (two (eqb t 3)))
-    (two (eqb t 2)))
-    (two (eqb t 1))
+agree_layout t x y f =
+    each_layout (λ cs. drop 44 (take (length_of cs) x) ≡ drop 44 (take (length_of cs) y) → Agree cs x y) (agree_line 77 68 52 48 49 (drop 3 md401) x y f) (agree_line 77 68 52 48 52 (drop 3 md404) x y f) (agree_line 77 68 52 48 53 (drop 3 md405) x y f) (agree_line 77 68 52 48 54 (drop 3 md406) x y f) t
 
 -- THE WORD AT A LINE'S START
 

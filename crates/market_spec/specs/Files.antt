@@ -7,7 +7,7 @@ use Rattle.std.proofs.Math.Seq.{take_all}
 use borrow.Author.Tests.{le-leb, lt-leb, eq-eqb, ne_eqb}
 use Rattle.terms.specs.Paper.{Paper}
 use Rattle.terms.specs.Cases.{two, less, same, clash}
-use Rattle.market_columns.specs.Columns.{alike}
+use Rattle.market_columns.specs.Columns.{Column, md401, md404, md405, md406, alike}
 use Rattle.market_columns.specs.ColumnLaws.{alike_self, alike_is}
 use Rattle.market_columns.specs.Tables.{length_of}
 use Rattle.market_spec.specs.File.{fault, fine, and_then, line_fault, begins_at, type_at, layout_of, marks, mark_ok, tail_fault, count_ok, sum_ok, closing, trailer_fault, lines_fault}
@@ -126,16 +126,20 @@ module _ (f k at : ℕ) (s : List ℕ) (h : 1 ≤ f) where
   unfolding lines_fault
   lines_line a b c = lines_open ∙ rw (ne_eqb (type_at at s) 5 a, ne_eqb (type_at at s) 6 b, ne_eqb (type_at at s) 0 c)
 
--- every layout has bytes
-pub layout_some : (t : ℕ) → 1 ≤ length_of (layout_of t)
-layout_some t =
-    ⊎_elim (λ (a : eqb t 1 ≡ true). rw a (lit< tt))
-    (λ (a : eqb t 1 ≡ false).
-    ⊎_elim (λ (b : eqb t 2 ≡ true). rw (a, b) (lit< tt))
-    (λ (b : eqb t 2 ≡ false).
-    ⊎_elim (λ (d : eqb t 3 ≡ true). rw (a, b, d) (lit< tt)) (λ (d : eqb t 3 ≡ false). rw (a, b, d) (lit< tt)) (two (eqb t 3)))
+-- what holds of the four layouts holds of any line's
+pub each_layout : (P : List Column → Type 0) → P md401 → P md404 → P md405 → P md406 → (t : ℕ) → P (layout_of t)
+each_layout P a b c d t =
+    ⊎_elim (λ (e : eqb t 1 ≡ true). rw e a)
+    (λ (e : eqb t 1 ≡ false).
+    ⊎_elim (λ (f : eqb t 2 ≡ true). rw (e, f) b)
+    (λ (f : eqb t 2 ≡ false).
+    ⊎_elim (λ (g : eqb t 3 ≡ true). rw (e, f, g) c) (λ (g : eqb t 3 ≡ false). rw (e, f, g) d) (two (eqb t 3)))
     (two (eqb t 2)))
     (two (eqb t 1))
+
+-- every layout has bytes
+pub layout_some : (t : ℕ) → 1 ≤ length_of (layout_of t)
+layout_some = each_layout (λ cs. 1 ≤ length_of cs) (lit< tt) (lit< tt) (lit< tt) (lit< tt)
 
 pub close_sum : (k at : ℕ) (s : List ℕ) → count_ok k s ≡ true → sum_ok at s ≡ false → closing k at s ≡ fault 46 0
 close_sum k at s e f = rw (e, f)

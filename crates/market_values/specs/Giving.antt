@@ -1,12 +1,12 @@
 -- How values are taken out of a line and of a file, a turn of each loop at a time.
-use Rattle.std.specs.Prelude.{ℕ, zero, suc, ◌+◌, ◌-◌, ◌≤◌, ◌<◌, ◌≡◌, true, false, ◌&&◌, leb, eqb, take, drop, set}
+use Rattle.std.specs.Prelude.{ℕ, zero, suc, ◌+◌, ◌-◌, ◌≤◌, ◌<◌, ◌≡◌, true, false, ◌&&◌, leb, take, drop, set}
 use Rattle.std.proofs.Math.Path.{refl, sym, ap}
 use Rattle.std.proofs.Common.{◌∙◌, ⊎_elim, arith, add_assoc, lit≤, length-set, drop-drop, le-leb, ne_eqb}
 use mathlib.Core.List.{List, [], ◌∷◌, ◌++◌}
 use Rattle.std.proofs.Math.ListN.{length, length-append}
 use Rattle.std.proofs.lemmas.Bool.{lt-leb}
 use Rattle.terms.specs.Paper.{Paper}
-use Rattle.terms.specs.Cases.{two, same, clash}
+use Rattle.terms.specs.Cases.{same, clash}
 use Rattle.digits.specs.Digits.{nothing}
 use Rattle.octets.specs.Octets.{bytes_of, laid, sum8}
 use Rattle.octets.specs.Numerals.{length_digits}
@@ -24,7 +24,7 @@ use Rattle.market.specs.declared.LineType.{LineType}
 use Rattle.market.specs.declared.Start.{Start}
 use Rattle.market.specs.declared.Start.TheVariants.{Line as AtLine, Trailer, Cut, Other}
 use Rattle.market_spec.specs.File.{fault, fine, and_then, line_fault, lines_fault, type_at, layout_of}
-use Rattle.market_spec.specs.Files.{lines_type, lines_line}
+use Rattle.market_spec.specs.Files.{each_layout, lines_type, lines_line}
 use Rattle.market_spec.proofs.Files.{line_long}
 use Rattle.market_spec.specs.Told.{not_fine, then_both}
 use Rattle.market_spec.proofs.Told.{line_told}
@@ -229,14 +229,7 @@ lines_first s (n, g) = let a = parts s n g in record { inside = a.whole; fuel = 
 -- SIZES
 
 pub layout_less : (t : ℕ) → 2 + sizes_of (layout_of t) ≤ length_of (layout_of t)
-layout_less t =
-    ⊎_elim (λ (a : eqb t 1 ≡ true). rw a (lit≤ tt))
-    (λ (a : eqb t 1 ≡ false).
-    ⊎_elim (λ (b : eqb t 2 ≡ true). rw (a, b) (lit≤ tt))
-    (λ (b : eqb t 2 ≡ false).
-    ⊎_elim (λ (d : eqb t 3 ≡ true). rw (a, b, d) (lit≤ tt)) (λ (d : eqb t 3 ≡ false). rw (a, b, d) (lit≤ tt)) (two (eqb t 3)))
-    (two (eqb t 2)))
-    (two (eqb t 1))
+layout_less = each_layout (λ cs. 2 + sizes_of cs ≤ length_of cs) (lit≤ tt) (lit≤ tt) (lit≤ tt) (lit≤ tt)
 
 pub line_bytes_long : (t : ℕ) (l : Line) → line_fits (layout_of t) l.values ≡ true → length (line_bytes l) ≡ 2 + sizes_of (layout_of t)
 line_bytes_long t l f = rw (length-append (bytes_of 2 (type_number l.kind)) (row_bytes l.values), length_digits 256 2 (type_number l.kind), row_long (layout_of t) l.values f)

@@ -1,11 +1,10 @@
 -- How a file is written from values, a turn of each loop at a time: judged first, then laid.
-use Rattle.std.specs.Prelude.{Result, Ok, Err, ℕ, suc, ◌+◌, ◌-◌, ◌*◌, ◌≤◌, ◌<◌, ◌≡◌, refl, true, false, List, [], ◌∷◌, ◌++◌, eqb, get_or, take, drop, set, replicate}
+use Rattle.std.specs.Prelude.{Result, Ok, Err, ℕ, suc, ◌+◌, ◌-◌, ◌*◌, ◌≤◌, ◌<◌, ◌≡◌, refl, true, List, [], ◌∷◌, ◌++◌, get_or, take, drop, set, replicate}
 use Rattle.std.proofs.Math.Path.{sym}
-use Rattle.std.proofs.Common.{ap, ◌∙◌, ⊎_elim, append_assoc, append-nil, arith, add-zero, zero-add, add_assoc, lit≤, length-append, drop_of_length-le, drop-drop, drop_at, take-take, get_or-take, length-take-le, le-leb, le-ltb, ne_eqb}
+use Rattle.std.proofs.Common.{ap, ◌∙◌, append_assoc, append-nil, arith, add-zero, zero-add, add_assoc, lit≤, length-append, drop_of_length-le, drop-drop, drop_at, take-take, get_or-take, length-take-le, le-leb, le-ltb, ne_eqb}
 use Rattle.std.proofs.Math.ListN.{length}
 use Rattle.std.proofs.lemmas.List.{length-replicate}
 use Rattle.terms.specs.Paper.{Paper, answer}
-use Rattle.terms.specs.Cases.{two}
 use Rattle.octets.specs.Octets.{be, bytes_of, laid, sum8}
 use Rattle.octets.specs.Numerals.{length_digits, numeral_take}
 use Rattle.octets.specs.Overlays.{laid_append, length_laid, laid_one, laid_nil, laid_front, laid_next, take_front}
@@ -17,7 +16,7 @@ use Rattle.market_columns.specs.Columns.{Column, K, S, N, C, U, header, columns}
 use Rattle.market_columns.specs.Tables.{length_of}
 use Rattle.market_columns.specs.Values.{Fixed, Number, Text, fits}
 use Rattle.market_spec.specs.File.{fault, fine, and_then, layout_of, trailer}
-use Rattle.market_spec.specs.Files.{then_fine, then_fault}
+use Rattle.market_spec.specs.Files.{each_layout, then_fine, then_fault}
 use Rattle.market_spec.specs.Told.{not_fine, Told, at_place, refused}
 use Rattle.market_columns.specs.Numbers.{number_fits}
 use Rattle.market_spec.specs.LineValues.{line_text, line_fits, line_fits_both, line_text_long}
@@ -64,14 +63,7 @@ pub judge_first : (s : List ℕ) → 38 ≤ length s → JudgeLeft s 38 0 94
 judge_first s h = record { inside = h; fuel = length s + 1; enough = omega arith; same_answer = refl; lines = zero-add (length (lines_given (length s + 1) 38 s)); long = refl; few = lit≤ tt; bound = lit≤ tt }
 
 pub layout_bound : (t : ℕ) → 2 * length_of (layout_of t) ≤ 3 * (2 + sizes_of (layout_of t))
-layout_bound t =
-    ⊎_elim (λ (a : eqb t 1 ≡ true). rw a (lit≤ tt))
-    (λ (a : eqb t 1 ≡ false).
-    ⊎_elim (λ (b : eqb t 2 ≡ true). rw (a, b) (lit≤ tt))
-    (λ (b : eqb t 2 ≡ false).
-    ⊎_elim (λ (d : eqb t 3 ≡ true). rw (a, b, d) (lit≤ tt)) (λ (d : eqb t 3 ≡ false). rw (a, b, d) (lit≤ tt)) (two (eqb t 3)))
-    (two (eqb t 2)))
-    (two (eqb t 1))
+layout_bound = each_layout (λ cs. 2 * length_of cs ≤ 3 * (2 + sizes_of cs)) (lit≤ tt) (lit≤ tt) (lit≤ tt) (lit≤ tt)
 
 module _ (s : List ℕ) (p k n : ℕ) (z : JudgeLeft s p k n) where
   some : 1 ≤ z.fuel

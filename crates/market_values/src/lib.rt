@@ -100,7 +100,7 @@ fn put_column(out: &mut [u8], at: usize, s: &[u8], p: usize, i: usize)
 // The values of some rows, in s from a place on: the place behind them, or the first that is cut
 // short or does not fit.
 fn values_fit(s: &[u8], at: usize, rows: Rows) -> Result<usize, Wrong>
-    requires { (at ≤ length s.now) × (rows.last ≤ 58) }
+    requires { at ≤ length s.now }
     ensures { verdict_paper result ≡ taken_fault (columns rows.first rows.last) at s.now }
 {
     let mut p = at;
@@ -126,7 +126,7 @@ fn values_fit(s: &[u8], at: usize, rows: Rows) -> Result<usize, Wrong>
 // Lays the line of some rows over out from at on, made of the values that stand in s from `from`
 // on, all of which fit.
 fn put_line(out: &mut [u8], at: usize, s: &[u8], from: usize, rows: Rows)
-    requires { (rows.last ≤ 58) × ((at + length_of (columns rows.first rows.last) ≤ length out.old) × AllFit (columns rows.first rows.last) from s.now) }
+    requires { (at + length_of (columns rows.first rows.last) ≤ length out.old) × AllFit (columns rows.first rows.last) from s.now }
     ensures { out.new ≡ laid at (line_text (columns rows.first rows.last) (taken_line (columns rows.first rows.last) (drop from s.now))) out.old }
 {
     let mut a = at;
@@ -173,7 +173,7 @@ fn give_column(out: &mut [u8], at: usize, s: &[u8], p: usize, i: usize)
 // Lays the values of some rows, a line of s from a place on with nothing wrong, over out from at
 // on.
 fn give_line(out: &mut [u8], at: usize, s: &[u8], from: usize, rows: Rows)
-    requires { (rows.last ≤ 58) × ((at + sizes_of (columns rows.first rows.last) ≤ length out.old) × Right (columns rows.first rows.last) from s.now) }
+    requires { (at + sizes_of (columns rows.first rows.last) ≤ length out.old) × Right (columns rows.first rows.last) from s.now }
     ensures { out.new ≡ laid at (row_bytes (line_values (columns rows.first rows.last) (drop from s.now))) out.old }
 {
     let mut a = at;

@@ -7,6 +7,7 @@ use Prim.Native.Nat.{ℕ, zero, suc, ◌+◌, ◌≤◌}
 use native.Mathlib.Omega.{arith}
 use borrow.Author.Tests.{eq-eqb, ne_eqb}
 use lib.ListN.{get_or}
+use Rattle.std.specs.Prelude.{Some, None}
 use Rattle.terms.specs.Paper.{Paper, answer, refusal, one_number}
 use Rattle.terms.specs.Refusals.{number_of, refusal_pos}
 use Rattle.terms.specs.declared.Refusal.{Refusal}
@@ -21,18 +22,17 @@ use Rattle.session_spec.specs.Table.{Event, Faulty}
 use Rattle.session_spec.specs.Calls.{Line, sound_of, number_to}
 use Rattle.session_spec.proofs.Faults.{numbered_back}
 use Rattle.session_spec.proofs.Given.{own_first}
-use Rattle.session.specs.Arrivals.{by_kind, heart_bt_int, event_in, length_in}
+use Rattle.session.specs.Arrivals.{by_kind, heart_bt_int, event_in, length_if}
 
 faulty_event : (s : List ℕ) → ((read_of s).number ≡ 0 → ⊥) → event_in s ≡ Faulty (fault_numbered (read_of s).number)
 unfolding event_in
 faulty_event s p = rw (ne_eqb (read_of s).number 0 p)
 
-no_length : (s : List ℕ) → ((read_of s).number ≡ 0 → ⊥) → length_in s ≡ 0
-unfolding length_in
+no_length : (s : List ℕ) → ((read_of s).number ≡ 0 → ⊥) → length_if s ≡ None
 no_length s p = rw (ne_eqb (read_of s).number 0 p)
 
 pub refused_told : (s : List ℕ) (w : Refusal) (f : Fault) → refusal (number_of w) ≡ read_of s → f ≡ fault_numbered (number_of w)
-    → (Faulty f ≡ event_in s) × (0 ≡ length_in s)
+    → (Faulty f ≡ event_in s) × (None ≡ length_if s)
 refused_told s w f e q =
     let n : (read_of s).number ≡ number_of w = sym (one_number e) in
     let p : ((read_of s).number ≡ 0 → ⊥) = λ z. refusal_pos w (sym n ∙ z) in
@@ -42,18 +42,17 @@ frame_event : (s : List ℕ) → (read_of s).number ≡ 0 → event_in s ≡ by_
 unfolding event_in
 frame_event s z = rw (eq-eqb (read_of s).number 0 z)
 
-frame_length : (s : List ℕ) → (read_of s).number ≡ 0 → length_in s ≡ 28 + body_length s
-unfolding length_in
+frame_length : (s : List ℕ) → (read_of s).number ≡ 0 → length_if s ≡ Some (28 + body_length s)
 frame_length s z = rw (eq-eqb (read_of s).number 0 z)
 
 pub read_told_lem : (s : List ℕ) (t time q n : ℕ) (k : Kind) → answer 0 (t ∷ time ∷ q ∷ n ∷ []) ≡ read_of s → k ≡ kind_of t
-    → (by_kind k q (heart_bt_int s) ≡ event_in s) × (28 + n ≡ length_in s)
+    → (by_kind k q (heart_bt_int s) ≡ event_in s) × (Some (28 + n) ≡ length_if s)
 read_told_lem s t time q n k e f =
     let values = ap (λ (p : Paper). p.values) (read_values s t time q n e) in
     let is_type : t ≡ msg_type s = ap (λ (vs : List ℕ). get_or vs 0 0) values in
     let is_seq : q ≡ msg_seq_num s = ap (λ (vs : List ℕ). get_or vs 2 0) values in
     let z = read_done s t time q n e in
-    (rw (f, is_type, is_seq) (sym (frame_event s z)), ap (λ (m : ℕ). 28 + m) (read_length s t time q n e) ∙ sym (frame_length s z))
+    (rw (f, is_type, is_seq) (sym (frame_event s z)), ap (λ (m : ℕ). Some (28 + m)) (read_length s t time q n e) ∙ sym (frame_length s z))
 
 -- reading gives no number above 7
 at_most_7 : (n : ℕ) (s : List ℕ) → Reads n s → n ≤ 7

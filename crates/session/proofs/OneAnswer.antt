@@ -120,7 +120,7 @@ event_back (Logout number) = refl
 event_back (Other number) = refl
 event_back (Faulty why) = ap Faulty (fault_back why)
 
-abbrev told_from : table.Event → ℕ → Told
+abbrev told_from : table.Event → Option ℕ → Told
 told_from e n = record { event = event_from e; length = n }
 
 told_back : (t : Told) → told_from (event_of t.event) t.length ≡ t
@@ -156,7 +156,7 @@ turn_back t = rw (state_back t.next.state, answer_back t.answer)
 pub turn_one : (t u : Turn) → said_of t ≡ said_of u → line_of t.next ≡ line_of u.next → t ≡ u
 turn_one t u p q = sym (turn_back t) ∙ ap₂ turn_from p q ∙ turn_back u
 
-abbrev arrival_from : Turn → ℕ → Arrival
+abbrev arrival_from : Turn → Option ℕ → Arrival
 arrival_from t n = record { turn = t; length = n }
 
 pub arrival_one : (x y : Arrival) → said_of x.turn ≡ said_of y.turn → line_of x.turn.next ≡ line_of y.turn.next → x.length ≡ y.length → x ≡ y

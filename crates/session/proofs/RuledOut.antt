@@ -1,6 +1,6 @@
 -- For each public function: wrong answers that its promise rules out. Assumes nothing.
 use Prim.Native.Nat.{ℕ}
-use mathlib.Core.Path.{◌≡◌, refl, ap, ap₂}
+use mathlib.Core.Path.{◌≡◌, refl, ap, ap₂, ◌∙◌}
 use mathlib.Core.List.{List, [], ◌∷◌, ◌++◌}
 use lib.ListN.{take}
 use Rattle.terms.specs.RuledOut.{Row, ◌never◌, ◌only◌, Kept, RulesOut, ruled, numbers, lists}
@@ -17,7 +17,9 @@ use Rattle.session_spec.specs.Table.{State, new, waiting, active, leaving, over,
 use Rattle.session_spec.specs.Calls.{Line, Answer, one, sound_of, dead_at, due_at, cell_of, own_number, number_to, done, answer_to, next_of, opened}
 use Rattle.session.specs.Papers.{fault_of, event_of, line_of, said_of}
 use Rattle.terms.specs.Refusals.{number_of}
-use Rattle.session.specs.Arrivals.{event_in, length_in}
+use Rattle.session.specs.Arrivals.{event_in, length_in, length_or_0}
+use Rattle.std.specs.Prelude.{Option}
+use Rattle.std.specs.Option.{unwrap_or}
 use Rattle.session.proofs.RefusalFromFault.from.Reads as refusal
 use Rattle.session.proofs.RefusalFromFault.from.Kinds as refusal-kinds
 use Rattle.session.proofs.Session.opened.Reads as opened-reads
@@ -156,11 +158,11 @@ received_wrong =
     ∷ []
 
 pub Session-received-rules-out : RulesOut (Kept _ received-kinds.ps received-kinds.r received.Post) (λ c. arriving (line_of c.args.0) c.args.1.0 c.args.1.1.0.now)
-    (λ c. outcome (said_of c.result.turn) (line_of c.result.turn.next) c.result.length) received_wrong
+    (λ c. outcome (said_of c.result.turn) (line_of c.result.turn.next) (unwrap_or c.result.length 0)) received_wrong
 unfolding sound_of dead_at due_at cell_of own_number number_to done answer_to next_of event_in length_in fault_numbered frame_a start_of_a frame_b checked plain_of frame_of read_of numeral digits_of sum8 sum_of kind_of suits measure_of s001_ok p001_ok fields_ok real_time real_parts days_in leap judge_of
 Session-received-rules-out =
     ruled lists (λ (i : Arriving). outcome (answer_to i.0 i.1.0 (event_in i.1.1)) (next_of i.0 i.1.0 (event_in i.1.1)) (length_in i.1.1))
-    (λ c p. outcome_is p) _ refl
+    (λ c p. outcome_is (p.0, (p.1.0, ap (λ (o : Option ℕ). unwrap_or o 0) p.1.1 ∙ length_or_0 c.args.1.1.0.now))) _ refl
 
 -- TOLD_BY: bytes; the outcome is the frame's length and the event: a frame's kind (a logon 1, a
 -- logout 2, any other 3), its number and a logon's HeartBtInt; or 4 and the number of reading's
@@ -184,11 +186,11 @@ told_by_wrong =
     ∷ take 27 A only (0 ∷ 4 ∷ 1 ∷ [])  -- a cut one
     ∷ []
 
-pub told_by_rules_out : RulesOut (Kept _ told-by-kinds.ps told-by-kinds.r told-by.Post) (λ c. c.args.0.now) (λ c. c.result.length ∷ event_numbers (event_of c.result.event)) told_by_wrong
+pub told_by_rules_out : RulesOut (Kept _ told-by-kinds.ps told-by-kinds.r told-by.Post) (λ c. c.args.0.now) (λ c. unwrap_or c.result.length 0 ∷ event_numbers (event_of c.result.event)) told_by_wrong
 unfolding event_in length_in fault_numbered frame_a start_of_a frame_b checked plain_of frame_of read_of numeral digits_of sum8 sum_of kind_of suits measure_of s001_ok p001_ok fields_ok real_time real_parts days_in leap judge_of
 told_by_rules_out =
     ruled lists (λ (s : List ℕ). length_in s ∷ event_numbers (event_in s))
-    (λ c p. ap₂ (λ (n : ℕ) (e : Event). n ∷ event_numbers e) p.1 p.0) _ refl
+    (λ c p. ap₂ (λ (n : ℕ) (e : Event). n ∷ event_numbers e) (ap (λ (o : Option ℕ). unwrap_or o 0) p.1 ∙ length_or_0 c.args.0.now) p.0) _ refl
 
 -- MAY_SEND: a session and a time
 abbrev pub may_send_wrong : List (Row (Line × ℕ) ℕ)

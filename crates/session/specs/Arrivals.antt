@@ -1,6 +1,8 @@
 -- What the bytes at the front are to a session: of a frame that reads, its type, MsgSeqNum and, of
 -- a logon, HeartBtInt; else reading's own refusal.
-use Rattle.std.specs.Prelude.{ℕ, ◌+◌, List}
+use Rattle.std.specs.Prelude.{ℕ, ◌+◌, ◌≡◌, refl, Bool, true, false, List, Option}
+use Rattle.std.specs.Bool.{then_some}
+use Rattle.std.specs.Option.{unwrap_or}
 use Rattle.terms.specs.Paper.{pick}
 use Rattle.octets.specs.Octets.{be}
 use Rattle.rules.specs.Table.{kind_of}
@@ -32,3 +34,15 @@ event_in s = pick (reads s) (by_kind (kind_of (msg_type s)) (msg_seq_num s) (hea
 -- the frame's length: header, body and CheckSum; 0 where none reads
 unfoldable pub length_in : List ℕ → ℕ
 length_in s = pick (reads s) (28 + body_length s) 0
+
+-- the same where 0 is no length
+abbrev pub length_if : List ℕ → Option ℕ
+length_if s = then_some (reads s) (28 + body_length s)
+
+pub length_or_0 : (s : List ℕ) → unwrap_or (length_if s) 0 ≡ length_in s
+unfolding length_in
+length_or_0 s = by_cases (reads s)
+  where
+    by_cases : (b : Bool) → unwrap_or (then_some b (28 + body_length s)) 0 ≡ pick b (28 + body_length s) 0
+    by_cases true = refl
+    by_cases false = refl

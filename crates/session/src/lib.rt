@@ -10,7 +10,7 @@ ghost use Rattle.session_spec.specs.Calls.{one, sound_of, counters_right, listen
 ghost use Rattle.session_spec.specs.Faults.{fault_number, fault_numbered};
 ghost use Rattle.session.specs.Papers.{state_of, kind_of, number_or_0, fault_of, event_of, cell_word, table_cell, Judged, line_of, said_of};
 ghost use Rattle.session.specs.Taken.{is_other, takes, taken_line};
-ghost use Rattle.session.specs.Arrivals.{by_kind, heart_bt_int, event_in, length_in};
+ghost use Rattle.session.specs.Arrivals.{by_kind, heart_bt_int, event_in, length_if};
 
 use octets::Number;
 use rules::Kind as Row;
@@ -98,12 +98,12 @@ pub struct Turn {
     pub answer: Result<Outcome, Refusal>,
 }
 
-// A frame that has arrived: the turn it makes, and its length, 0 where none was read. A frame that
-// the session refuses has its length too, so that a host can step behind it.
+// A frame that has arrived: the turn it makes, and its length, if one was read. A frame that the
+// session refuses has its length too, so that a host can step behind it.
 #[derive(Clone, Copy, Debug, PartialEq, Eq)]
 pub struct Arrival {
     pub turn: Turn,
-    pub length: usize,
+    pub length: Option<usize>,
 }
 
 // What a cell of the table of states says, if it is no refusal.
@@ -493,27 +493,26 @@ fn by_kind(kind: Row, number: SessionNumber, bytes: &[u8]) -> Event
     }
 }
 
-// What the bytes at the front are to a session, and how many of them a frame takes: 0 where none
-// was read.
+// What the bytes at the front are to a session, and how many of them a frame takes, if one was read.
 #[derive(Clone, Copy, Debug, PartialEq, Eq)]
 pub struct Told {
     pub event: Event,
-    pub length: usize,
+    pub length: Option<usize>,
 }
 
 // Reads the frame at the front, for a host that keeps its session elsewhere: it need not be at hand
 // while the bytes are read.
 pub fn told_by(bytes: &[u8]) -> Told
-    ensures { (event_of result.event ≡ event_in bytes.now) × (result.length ≡ length_in bytes.now) }
+    ensures { (event_of result.event ≡ event_in bytes.now) × (result.length ≡ length_if bytes.now) }
 {
     match frame::read_at(bytes, 0) {
         Ok(header) => Told {
             event: by_kind(Row::from(header.msg_type), header.seq, bytes),
-            length: 28 + header.body_len,
+            length: Some(28 + header.body_len),
         },
         Err(why) => Told {
             event: Event::Faulty(fault_of(why)),
-            length: 0,
+            length: None,
         },
     }
 }
@@ -522,7 +521,7 @@ impl Session {
     // The frame at the front is read, and its event is the session's next call.
     pub fn received(self, time: u64, bytes: &[u8]) -> Arrival
         ensures { (said_of result.turn ≡ answer_to (line_of self) time (event_in bytes.now))
-            × ((line_of result.turn.next ≡ next_of (line_of self) time (event_in bytes.now)) × (result.length ≡ length_in bytes.now)) }
+            × ((line_of result.turn.next ≡ next_of (line_of self) time (event_in bytes.now)) × (result.length ≡ length_if bytes.now)) }
     {
         let told = told_by(bytes);
         Arrival {

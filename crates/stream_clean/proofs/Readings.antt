@@ -8,7 +8,7 @@ use native.Mathlib.Nat.{add-zero}
 use native.Mathlib.Omega.{arith}
 use lib.ListN.{length, take, drop}
 use borrow.Author.Tests.{ne_eqb, eqb-true}
-use Rattle.terms.specs.Paper.{answer}
+use Rattle.terms.specs.Paper.{answer, pick}
 use Rattle.terms.specs.Cases.{clash}
 use Rattle.octets.specs.Papers.{laid_if_room}
 use Rattle.frame_spec.specs.Frame.{msg_type, read_of}
@@ -26,33 +26,31 @@ use Rattle.stream_clean_spec.specs.declared.Sums.{Sums}
 use Rattle.stream_clean_spec.specs.Wash.{unjudged_by, plus}
 use Rattle.stream_clean_spec.specs.Runs.{one_by, Right, unjudged_most}
 use Rattle.stream_clean.specs.declared.Taken.{Taken}
-use Rattle.stream_clean.specs.Taken.{taken_of, stride_by}
+use Rattle.stream_clean.specs.Taken.{taken_of}
+use Rattle.clean_spec.specs.Kept.{size_of, kept_number, kept_size, laid_seen}
+use Rattle.std.specs.Prelude.{⊤, Result, Ok, Err, is_ok, ◌&&◌}
+use Rattle.std.specs.Result.{result_unwrap_or, result_and}
+use Rattle.std.specs.Int.{from_bool}
+use lib.Dec.{eqb}
+use Rattle.terms.specs.Refusals.{refusal_not_0}
+use Rattle.terms.specs.Verdicts.{verdict_number}
+use Rattle.terms.specs.declared.Refusal.{Refusal}
 
 -- a frame that was laid
-pub laid_taken : (s : List ℕ) (n len size : ℕ) → answer 0 (size ∷ []) ≡ into_answer s n len → (u : ℕ) → u ≡ unjudged_by (msg_type s) → ◌≡◌ {A = Taken} (record { answer = 0; size = size; unjudged = u }) (taken_of (seen_of s))
+pub laid_taken : (s : List ℕ) (n len size : ℕ) → answer 0 (size ∷ []) ≡ into_answer s n len → (u : ℕ) → u ≡ unjudged_by (msg_type s) → ◌≡◌ {A = Taken} (record { answer = Ok size; unjudged = u }) (taken_of (seen_of s))
 laid_taken s n len size e u v =
-    let z = laid_reads s n len size e in
-    let t : (seen_of s).msg_type ≡ msg_type s = ap (λ (y : Seen). y.msg_type) (seen_frame s z) in
-    rw (seen_answer s ∙ z, seen_size s z, t, laid_long s n len size e, v)
-
--- one that was read otherwise
-pub seen_taken : (s : List ℕ) (x : Seen) (u : ℕ) → x ≡ seen_of s → u ≡ unjudged_by x.msg_type → ◌≡◌ {A = Taken} (record { answer = seen_number x; size = x.size; unjudged = u }) (taken_of (seen_of s))
-seen_taken s x u e v = rw (v, e)
+    let t : (seen_of s).msg_type ≡ msg_type s = ap (λ (y : Seen). y.msg_type) (seen_frame s (laid_reads s n len size e)) in
+    rw (laid_seen s n len size e, t, v)
 
 -- WHAT IS COUNTED
-module _ (s : Sums) (n u : ℕ) where
-  pub added_refused : (b : Bool) (a : ℕ) → (a ≡ 0 → ⊥) → ◌≡◌ {A = Sums} (record { bytes = s.bytes + n; frames = s.frames; found = s.found; unjudged = s.unjudged + u }) (plus s (one_by b a n u))
-  unfolding plus accepts
-  added_refused true a ne = simp (ne_eqb a 0 ne, add-zero)
-  added_refused false a ne = simp (ne_eqb a 0 ne, add-zero)
+pub counts_one : (r : Result ℕ Refusal) → from_bool (is_ok r) ≡ accepts (verdict_number r)
+unfolding accepts
+counts_one (Ok n) = refl
+counts_one (Err w) = rw (refusal_not_0 w)
 
-  pub added_found : (b : Bool) (a : ℕ) → a ≡ 0 → b ≡ true → ◌≡◌ {A = Sums} (record { bytes = s.bytes + n; frames = s.frames + 1; found = s.found + 1; unjudged = s.unjudged + u }) (plus s (one_by b a n u))
-  unfolding plus accepts
-  added_found b a z t = rw (t, z)
-
-  pub added_read : (b : Bool) (a : ℕ) → a ≡ 0 → b ≡ false → ◌≡◌ {A = Sums} (record { bytes = s.bytes + n; frames = s.frames + 1; found = s.found; unjudged = s.unjudged + u }) (plus s (one_by b a n u))
-  unfolding plus accepts
-  added_read b a z f = simp (f, z, add-zero)
+pub counts_found : (b : Bool) (r : Result ℕ Refusal) → from_bool (b && is_ok r) ≡ pick b (accepts (verdict_number r)) 0
+counts_found true r = counts_one r
+counts_found false r = refl
 
 -- a refused reading lays nothing
 pub none_laid : (s : List ℕ) (n : ℕ) (d d' : List ℕ) → (seen_number (seen_of s) ≡ 0 → ⊥) → d' ≡ laid_if_room n (scrubbed (take (seen_of s).size s)) d → d' ≡ d
@@ -72,15 +70,19 @@ pub pass_laid : (seeking : Bool) (s : List ℕ) (n : ℕ) (d d' : List ℕ) → 
 pass_laid seeking s n d d' w e = none_laid s n d d' (passed seeking (seen_number (seen_of s)) w).1 e
 
 -- how far it goes
-pub stride_is : (t : Taken) (x : Seen) → t ≡ taken_of x → stride_by t ≡ stride_of x
-unfolding stride_by stride_of
-stride_is t x e = rw e
+stride_by : (n : ℕ) (v : Result ⊤ Refusal) → result_unwrap_or (result_and v (Ok n)) 1 ≡ pick (eqb (verdict_number v) 0) n 1
+stride_by n (Ok u) = refl
+stride_by n (Err w) = rw (refusal_not_0 w)
+
+pub stride_is : (t : Taken) (x : Seen) → t ≡ taken_of x → result_unwrap_or t.answer 1 ≡ stride_of x
+unfolding stride_of
+stride_is t x e = ap (λ (y : Taken). result_unwrap_or y.answer 1) e ∙ stride_by x.size x.answer
 
 -- and what is counted of it stays in 64 bits
 pub add_fits : (w : List ℕ) (p : ℕ) (t : Taken) (s : Sums) → t ≡ taken_of (seen_of (drop p w)) → p < length w → length w < 2 ^ 64 → s.bytes ≤ p → Right s
-    → (s.bytes + t.size < 2 ^ 64) × ((s.frames < 2 ^ 64 - 1) × ((s.found < 2 ^ 64 - 1) × (s.unjudged + t.unjudged < 2 ^ 64)))
+    → (s.bytes + size_of t.answer < 2 ^ 64) × ((s.frames < 2 ^ 64 - 1) × ((s.found < 2 ^ 64 - 1) × (s.unjudged + t.unjudged < 2 ^ 64)))
 add_fits w p t s e h f b r =
-    let z : t.size ≡ (seen_of (drop p w)).size = ap (λ (y : Taken). y.size) e in
+    let z : size_of t.answer ≡ (seen_of (drop p w)).size = ap (λ (y : Taken). size_of y.answer) e ∙ kept_size (drop p w) in
     let u : t.unjudged ≡ unjudged_by (seen_of (drop p w)).msg_type = ap (λ (y : Taken). y.unjudged) e in
     let i = size_inside w p (seen_of (drop p w)) refl (omega arith) in
     let m = unjudged_most (seen_of (drop p w)).msg_type in

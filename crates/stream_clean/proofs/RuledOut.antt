@@ -37,11 +37,10 @@ use Rattle.stream_spec.specs.State.{opened}
 use Rattle.stream_spec.specs.Tally as Tally
 use Rattle.stream_spec.specs.Calls as Plain
 use Rattle.stream_spec.specs.Calls.{Feed, Close}
-use Rattle.stream.specs.Standing.{whole, store_of}
+use Rattle.stream.specs.Standing.{whole, fed_of, store_of}
 use Rattle.stream_clean_spec.specs.Wash as Wash
 use Rattle.stream_clean_spec.specs.Calls as Calls
 use Rattle.stream_clean_spec.specs.Calls.{washed_paper, answer_to, next_of, leaves}
-use Rattle.stream_clean.specs.Cleaned.{washed_of}
 use Rattle.stream_clean.proofs.clean_cut.Reads as clean-cut
 use Rattle.stream_clean.proofs.clean_cut.Kinds as clean-cut-kinds
 use Rattle.stream_clean.proofs.clean_end.Reads as clean_End
@@ -104,7 +103,7 @@ clean_cut_wrong =
     ∷ (moved 18446744073709551600 8192, (heartbeat, replicate 28 7)) only (answer 13 (0 ∷ 0 ∷ 0 ∷ 0 ∷ []), (18446744073709551600 ∷ 8192 ∷ store [], replicate 28 7))  -- 8,192 kept bytes pass as sound
     ∷ []
 
-pub clean_cut_rules_out : RulesOut (Kept _ clean-cut-kinds.ps clean-cut-kinds.r clean-cut.Post) (λ c. (whole c.args.0 c.args.1.0.now, (c.args.1.1.0.now, c.args.1.1.1.0.now))) (λ c. shown (washed_paper (washed_of c.result c.exit.1.0.now)) (whole c.result.next c.exit.1.0.now) c.exit.1.1.1.0.now) clean_cut_wrong
+pub clean_cut_rules_out : RulesOut (Kept _ clean-cut-kinds.ps clean-cut-kinds.r clean-cut.Post) (λ c. (whole c.args.0 c.args.1.0.now, (c.args.1.1.0.now, c.args.1.1.1.0.now))) (λ c. shown (washed_paper (fed_of c.result c.exit.1.0.now)) (whole c.result.next c.exit.1.0.now) c.exit.1.1.1.0.now) clean_cut_wrong
 unfolding plain_of frame_of checked read_of body_read numeral digits_of laid laid_if_room sum8 sum_of kind_of suits measure_of p002_ok fields_ok real_time real_parts days_in leap judge_of view_of painted summed scrubbed Bits.value_of Bits.map_of rotated range_rules map_rules sound_of Book.own_number Book.checked_of Book.number_to Book.raised Book.done Book.next_of Book.fresh book_of ledger_of after next found noted joined each_of Account.account_of refusal_of seen_of says_of calls_by offering offer_of made_of record_by book_by accepts refuses
     opened State.head_of State.is_seeking State.meant_by State.value_of State.all_zero State.waits_right State.sound_of Tally.tally_with Tally.record_at Tally.tally_after Tally.ledger_right Tally.tally_right Plain.behind_of Plain.may_take Cuts.feed_of Waits.waits Waits.ran_of Wash.washed Wash.unjudged_by Wash.plus Wash.one_of Wash.sums_of Wash.lays Calls.reads_for Calls.wash_behind Calls.number_for Calls.answer_for Calls.next_for Calls.leaves_for
 clean_cut_rules_out =
@@ -122,7 +121,7 @@ clean_end_wrong =
     ∷ (closed, replicate 28 7) only (answer 19 (0 ∷ 0 ∷ 0 ∷ 0 ∷ []), (48 ∷ 0 ∷ store [], replicate 28 7))  -- not closed a second time
     ∷ []
 
-pub clean_end_rules_out : RulesOut (Kept _ clean-end-kinds.ps clean-end-kinds.r clean_End.Post) (λ c. (whole c.args.0 c.args.1.0.now, c.args.1.1.0.now)) (λ c. shown (washed_paper (washed_of c.result c.exit.1.0.now)) (whole c.result.next c.exit.1.0.now) c.exit.1.1.0.now) clean_end_wrong
+pub clean_end_rules_out : RulesOut (Kept _ clean-end-kinds.ps clean-end-kinds.r clean_End.Post) (λ c. (whole c.args.0 c.args.1.0.now, c.args.1.1.0.now)) (λ c. shown (washed_paper (fed_of c.result c.exit.1.0.now)) (whole c.result.next c.exit.1.0.now) c.exit.1.1.0.now) clean_end_wrong
 unfolding plain_of frame_of checked read_of body_read numeral digits_of laid laid_if_room sum8 sum_of kind_of suits measure_of p002_ok fields_ok real_time real_parts days_in leap judge_of view_of painted summed scrubbed Bits.value_of Bits.map_of rotated range_rules map_rules sound_of Book.own_number Book.checked_of Book.number_to Book.raised Book.done Book.next_of Book.fresh book_of ledger_of after next found noted joined each_of Account.account_of refusal_of seen_of says_of calls_by offering offer_of made_of record_by book_by accepts refuses
     opened State.head_of State.is_seeking State.meant_by State.value_of State.all_zero State.waits_right State.sound_of Tally.tally_with Tally.record_at Tally.tally_after Tally.ledger_right Tally.tally_right Plain.behind_of Plain.may_take Cuts.feed_of Waits.waits Waits.ran_of Wash.washed Wash.unjudged_by Wash.plus Wash.one_of Wash.sums_of Wash.lays Calls.reads_for Calls.wash_behind Calls.number_for Calls.answer_for Calls.next_for Calls.leaves_for
 clean_end_rules_out =

@@ -7,22 +7,17 @@ use mathlib.Core.List.{List, ◌++◌}
 use native.Mathlib.Omega.{arith}
 use lib.Dec.{leb}
 use lib.ListN.{length, take}
-use Rattle.terms.specs.declared.Verdict.TheVariants.{Fine}
 use Rattle.stream_spec.specs.State.{head_of}
 use Rattle.stream_spec.specs.Calls.{may_take}
-use Rattle.stream_spec.specs.CallLaws.{may_facts}
 use Rattle.stream_spec.specs.Window.{joined_length, dropped}
 use Rattle.stream.specs.declared.Standing.{Standing}
-use Rattle.stream.specs.Standing.{whole, rest_of, Ready}
+use Rattle.stream.specs.Standing.{whole, fed_of, rest_of, Ready}
 use Rattle.stream.specs.Pushed.{waiting_is, rest_stands}
 use Rattle.stream_clean_spec.specs.declared.Sums.{Sums}
 use Rattle.stream_clean_spec.specs.Runs.{RanIs}
 use Rattle.stream_clean_spec.specs.Calls.{washed_for}
 use Rattle.stream_clean_spec.specs.CallLaws.{Promised, number_0, rest_short, fits_counted, done_call}
-use Rattle.stream_clean.specs.Cleaned.{washed_of}
-
-pub may_ready : (st : Standing) (kept : List ℕ) (n : ℕ) → length kept ≡ 8191 → may_take (whole st kept) n ≡ 0 → Ready st kept n
-may_ready st kept n l z = let f = may_facts (whole st kept) n z in record { size = l; sound = f.0; fits = f.1.1 }
+use Rattle.std.specs.Prelude.{Ok}
 
 module _ (st : Standing) (kept cut : List ℕ) (r : Ready st kept (length cut)) (closing : Bool) (d d' : List ℕ) (at : ℕ) (b : Bool) (sums : Sums) (z : RanIs (take st.len kept ++ cut) st.place st.seeking closing d d' at b sums) where
   abbrev w : List ℕ
@@ -41,7 +36,7 @@ module _ (st : Standing) (kept cut : List ℕ) (r : Ready st kept (length cut)) 
   ran_counted room = fits_counted (whole st kept) closing cut d d' at b sums ran room
 
   pub ran_done : (store : List ℕ) → store ≡ rest_of st.len at cut kept → leb (length (washed_for (whole st kept) closing cut)) (length d) ≡ true → may_take (whole st kept) (length cut) ≡ 0
-      → Promised (whole st kept) closing cut d d' (washed_of (record { answer = Fine; sums = sums; next = record { place = st.place + at; seeking = b; closed = closing; len = st.len + length cut - at; tally = st.tally } }) store)
+      → Promised (whole st kept) closing cut d d' (fed_of (record { answer = Ok sums; next = record { place = st.place + at; seeking = b; closed = closing; len = st.len + length cut - at; tally = st.tally } }) store)
   ran_done store e l m =
       let f = e ∙ rest_stands st kept cut r at ran.inside (rest_short (whole st kept) closing cut d d' at b sums ran) in
       done_call (whole st kept) closing cut d d' at b sums ran store (st.len + length cut - at) f (dropped at (st.len + length cut) w long) l (number_0 (whole st kept) closing cut (length d) m l)

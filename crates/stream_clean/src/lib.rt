@@ -6,38 +6,30 @@
 // a refused place twice.
 #![tactic(auto)]
 
-ghost use Rattle.std.specs.Prelude.{◌≡◌, List, ◌++◌, ℕ, ◌+◌, ◌-◌, ◌≤◌, ◌<◌, ◌^◌, leb, length, take, drop};
+ghost use Rattle.std.specs.Prelude.{◌≡◌, List, ◌++◌, ℕ, ◌+◌, ◌-◌, ◌≤◌, ◌<◌, ◌^◌, true, leb, length, take, drop};
 ghost use Rattle.octets.specs.Octets.{laid};
 ghost use Rattle.octets.specs.Papers.{laid_if_room};
 ghost use Rattle.private.specs.Scrub.{scrubbed};
-ghost use Rattle.stream_spec.specs.Run.{waits_at, passed_over};
+ghost use Rattle.terms.specs.Verdicts.{verdict_number};
+ghost use Rattle.clean_spec.specs.Kept.{size_of};
 ghost use Rattle.stream_spec.specs.Calls.{Feed, Close, may_take};
-ghost use Rattle.stream.specs.Standing.{whole, Ready};
+ghost use Rattle.stream.specs.Standing.{whole, fed_of, Ready};
 ghost use Rattle.stream_clean_spec.specs.Wash.{unjudged_by, plus};
 ghost use Rattle.stream_clean_spec.specs.Runs.{one_by, RanIs};
-ghost use Rattle.stream_clean_spec.specs.Calls.{washed_for, answer_for, next_for, leaves_for, answer_to, next_of, leaves, washed_paper, refused_by};
-ghost use Rattle.stream_clean.specs.Taken.{TakenIs, stride_by};
-ghost use Rattle.stream_clean.specs.Cleaned.{washed_of};
+ghost use Rattle.stream_clean_spec.specs.Calls.{washed_for, answer_for, next_for, leaves_for, answer_to, next_of, leaves, washed_paper};
+ghost use Rattle.stream_clean.specs.Taken.{taken_of, TakenIs};
 
 use octets::Number;
-use stream::Standing;
+use reading::Seen;
+use stream::{Answered, Standing};
 use stream_clean_spec::Sums;
 use terms::Refusal;
 
-// What a call wrote, all 0 beside a refusal; and how the stream stands after it.
-#[derive(Clone, Copy)]
-pub struct Cleaned {
-    pub answer: Result<(), Refusal>,
-    pub sums: Sums,
-    pub next: Standing,
-}
-
-// What became of a reading: its answer; how many bytes its frame has, none where it was refused;
-// and 1 where no rule judges its body.
+// What became of a reading: how many bytes its frame has, or why it was refused; and 1 where no
+// rule judges its body.
 #[derive(Clone, Copy)]
 struct Taken {
-    answer: u32,
-    size: usize,
+    answer: Result<usize, Refusal>,
     unjudged: usize,
 }
 
@@ -50,10 +42,23 @@ struct Ran {
 }
 
 // 1 for the type M101, whose body no rule judges, else 0.
+#[tactic(auto, unfolding(stream_clean_spec::specs::Wash::unjudged_by))]
 fn unjudged(word: u32) -> usize
     ensures { result ≡ unjudged_by word }
 {
-    if word == 0x4D313031 { 1 } else { 0 }
+    usize::from(word == 0x4D313031)
+}
+
+// What became of what is seen.
+impl From<Seen> for Taken {
+    ghost from_gives = { λ seen taken. taken ≡ taken_of seen };
+
+    fn from(seen: Seen) -> Taken {
+        Taken {
+            answer: seen.answer.and(Ok(seen.size)),
+            unjudged: unjudged(seen.msg_type),
+        }
+    }
 }
 
 // Reads the frame at p of w and writes it over out from n on, scrubbed, where it has room. What has
@@ -63,19 +68,10 @@ fn take_here(w: &[u8], p: usize, out: &mut [u8], n: usize) -> Taken
 {
     match scrub::scrub_into(w, p, out, n) {
         Ok(size) => Taken {
-            answer: 0,
-            size,
+            answer: Ok(size),
             unjudged: unjudged(u32::at(w, p)),
         },
-        Err(_) => {
-            let seen = reading::see(w, p);
-            let verdict = seen.answer;
-            Taken {
-                answer: terms::number_of(verdict),
-                size: seen.size,
-                unjudged: unjudged(seen.msg_type),
-            }
-        }
+        Err(_) => Taken::from(reading::see(w, p)),
     }
 }
 
@@ -84,7 +80,7 @@ fn scrub_part(out: &mut [u8], a: usize, e: usize)
     requires { (a ≤ e) × (e ≤ length out.old) }
     ensures { out.new ≡ laid a (scrubbed (take (e - a) (drop a out.old))) out.old }
 {
-    scrub::scrub(&mut out[a..e]);
+    let _ = scrub::scrub(&mut out[a..e]);
 }
 
 // Lays a and b, one behind the other, over out from n on, and scrubs them there.
@@ -93,10 +89,10 @@ fn lay_both(a: &[u8], b: &[u8], out: &mut [u8], n: usize)
     ensures { out.new ≡ laid n (scrubbed (a.now ++ b.now)) out.old }
 {
     let from = n + a.len();
-    let e = from + b.len();
-    octets::lay(out, n, a);
-    octets::lay(out, from, b);
-    scrub_part(out, n, e);
+    let end = from + b.len();
+    out[n..from].copy_from_slice(a);
+    out[from..end].copy_from_slice(b);
+    scrub_part(out, n, end);
 }
 
 // Writes the first size bytes of a and b behind it over out from n on, scrubbed, where they
@@ -108,10 +104,7 @@ fn lay_across(a: &[u8], b: &[u8], size: usize, out: &mut [u8], n: usize)
     if size == 0 {
         return;
     }
-    if out.len() < size {
-        return;
-    }
-    if out.len() - size < n {
+    if !octets::has_room(out.len(), n, size) {
         return;
     }
     if size <= a.len() {
@@ -127,13 +120,8 @@ fn take_across(a: &[u8], b: &[u8], out: &mut [u8], n: usize) -> Taken
     ensures { TakenIs (a.now ++ b.now) n out.old out.new result }
 {
     let seen = reading_parts::see(a, b);
-    let verdict = seen.answer;
     lay_across(a, b, seen.size, out, n);
-    Taken {
-        answer: terms::number_of(verdict),
-        size: seen.size,
-        unjudged: unjudged(seen.msg_type),
-    }
+    Taken::from(seen)
 }
 
 // The frame at p of a and b behind it, read and written as `take_here` does.
@@ -146,55 +134,17 @@ fn take_in(a: &[u8], b: &[u8], p: usize, out: &mut [u8], n: usize) -> Taken
     take_here(b, p - a.len(), out, n)
 }
 
-// Whether a place with this answer waits for more. At the closing call none does.
-fn waits(closing: bool, answer: u32) -> bool
-    ensures { result ≡ waits_at closing answer }
-{
-    if closing { false } else { answer == 1 }
-}
-
-// Whether the search passes over a place with this answer.
-fn passes(seeking: bool, answer: u32) -> bool
-    ensures { result ≡ passed_over seeking answer }
-{
-    if seeking { answer != 0 } else { false }
-}
-
-// From a place that was read to the next one to look at.
-fn stride(taken: Taken) -> usize
-    ensures { result ≡ stride_by taken }
-{
-    if taken.answer == 0 { taken.size } else { 1 }
-}
-
 // One reading more: a frame that was read while the search was under way was found after damage.
 fn added(sums: Sums, seeking: bool, taken: Taken) -> Sums
-    requires { (sums.bytes + taken.size < 2 ^ 64) × ((sums.frames < 2 ^ 64 - 1) × ((sums.found < 2 ^ 64 - 1) × (sums.unjudged + taken.unjudged < 2 ^ 64))) }
-    ensures { result ≡ plus sums (one_by seeking taken.answer taken.size taken.unjudged) }
+    requires { (sums.bytes + size_of taken.answer < 2 ^ 64) × ((sums.frames < 2 ^ 64 - 1) × ((sums.found < 2 ^ 64 - 1) × (sums.unjudged + taken.unjudged < 2 ^ 64))) }
+    ensures { result ≡ plus sums (one_by seeking (verdict_number taken.answer) (size_of taken.answer) taken.unjudged) }
 {
-    let bytes = sums.bytes + taken.size;
-    let unjudged = sums.unjudged + taken.unjudged;
-    if taken.answer != 0 {
-        return Sums {
-            bytes,
-            frames: sums.frames,
-            found: sums.found,
-            unjudged,
-        };
-    }
-    if seeking {
-        return Sums {
-            bytes,
-            frames: sums.frames + 1,
-            found: sums.found + 1,
-            unjudged,
-        };
-    }
+    let accepted = taken.answer.is_ok();
     Sums {
-        bytes,
-        frames: sums.frames + 1,
-        found: sums.found,
-        unjudged,
+        bytes: sums.bytes + taken.answer.unwrap_or(0),
+        frames: sums.frames + usize::from(accepted),
+        found: sums.found + usize::from(seeking & accepted),
+        unjudged: sums.unjudged + taken.unjudged,
     }
 }
 
@@ -215,17 +165,16 @@ fn wash(a: &[u8], b: &[u8], seek: bool, closing: bool, out: &mut [u8]) -> Ran
     };
     while p < end {
         let taken = take_in(a, b, p, out, sums.bytes);
-        let answer = taken.answer;
-        if waits(closing, answer) {
+        if stream::waits(closing, taken.answer) {
             break;
         }
-        if passes(seeking, answer) {
+        if stream::passes(seeking, taken.answer) {
             p += 1;
             continue;
         }
         sums = added(sums, seeking, taken);
-        p += stride(taken);
-        seeking = answer != 0;
+        p += taken.answer.unwrap_or(1);
+        seeking = taken.answer.is_err();
     }
     Ran {
         at: p,
@@ -236,93 +185,88 @@ fn wash(a: &[u8], b: &[u8], seek: bool, closing: bool, out: &mut [u8]) -> Ran
 
 // Whether so much room takes the frames of a call. They are never longer than the bytes that wait
 // and the cut; where those are too long, they are counted in a pass that keeps nothing.
-fn takes_all(st: Standing, kept: &[u8], cut: &[u8], closing: bool, room: usize) -> bool
+fn takes_all(st: Standing, kept: &[u8; 8191], cut: &[u8], closing: bool, room: usize) -> bool
     requires { Ready st kept.now (length cut.now) }
     ensures { result ≡ leb (length (washed_for (whole st kept.now) closing cut.now)) room }
 {
-    let n = st.len;
-    if n + cut.len() <= room {
+    if st.len + cut.len() <= room {
         return true;
     }
     let mut none: [u8; 1] = [0; 1];
-    let counted = wash(&kept[..n], cut, st.seeking, closing, &mut none);
-    let sums = counted.sums;
-    sums.bytes <= room
+    let counted = wash(&kept[..st.len], cut, st.seeking, closing, &mut none);
+    counted.sums.bytes <= room
 }
 
-// A refusal: the stream as it was.
-fn refused(st: Standing, why: Refusal) -> Cleaned
-    ensures { (kept : List ℕ) → washed_of result kept ≡ refused_by (whole st kept) why }
-{
-    let sums = Sums {
-        bytes: 0,
-        frames: 0,
-        found: 0,
-        unjudged: 0,
-    };
-    Cleaned {
-        answer: Err(why),
-        sums,
-        next: st,
-    }
-}
-
-// A call that nothing but the room may refuse. Whether the frames fit is known before the first is
-// written, so a refusal writes nothing. What the run leaves is kept at the front of the store.
-fn drawn(st: Standing, kept: &mut [u8], cut: &[u8], closing: bool, out: &mut [u8]) -> Cleaned
-    requires { (length kept.old ≡ 8191) × (may_take (whole st kept.old) (length cut.now) ≡ 0) }
-    ensures { (washed_paper (washed_of result kept.new) ≡ answer_for (whole st kept.old) closing cut.now (length out.old))
-        × (((washed_of result kept.new).stream ≡ next_for (whole st kept.old) closing cut.now (length out.old))
+// A call whose frames fit. What the run leaves is kept at the front of the store.
+fn drawn(
+    st: Standing,
+    kept: &mut [u8; 8191],
+    cut: &[u8],
+    closing: bool,
+    out: &mut [u8],
+) -> Answered<Sums>
+    requires { (may_take (whole st kept.old) (length cut.now) ≡ 0) × (leb (length (washed_for (whole st kept.old) closing cut.now)) (length out.old) ≡ true) }
+    ensures { (washed_paper (fed_of result kept.new) ≡ answer_for (whole st kept.old) closing cut.now (length out.old))
+        × (((fed_of result kept.new).stream ≡ next_for (whole st kept.old) closing cut.now (length out.old))
         × (out.new ≡ leaves_for (whole st kept.old) closing cut.now out.old)) }
 {
-    if !takes_all(st, kept, cut, closing, out.len()) {
-        return refused(st, Refusal::Room);
-    }
     let n = st.len;
-    let tally = st.tally;
     let ran = wash(&kept[..n], cut, st.seeking, closing, out);
     stream::keep_rest(kept, n, ran.at, cut);
-    let sums = ran.sums;
-    let next = Standing {
-        place: st.place + ran.at as u64,
-        seeking: ran.seeking,
-        closed: closing,
-        len: n + cut.len() - ran.at,
-        tally,
-    };
-    Cleaned {
-        answer: Ok(()),
-        sums,
-        next,
+    Answered {
+        answer: Ok(ran.sums),
+        next: Standing {
+            place: st.place + ran.at as u64,
+            seeking: ran.seeking,
+            closed: closing,
+            len: n + cut.len() - ran.at,
+            tally: st.tally,
+        },
     }
 }
 
-// One call: 13, 19, 29, 8, or its frames.
-fn call(st: Standing, kept: &mut [u8; 8191], cut: &[u8], closing: bool, out: &mut [u8]) -> Cleaned
-    ensures { (washed_paper (washed_of result kept.new) ≡ answer_for (whole st kept.old) closing cut.now (length out.old))
-        × (((washed_of result kept.new).stream ≡ next_for (whole st kept.old) closing cut.now (length out.old))
+// One call: 13, 19, 29, 8, or its frames. Whether they fit is known before the first is written, so
+// a refusal writes nothing.
+fn call(
+    st: Standing,
+    kept: &mut [u8; 8191],
+    cut: &[u8],
+    closing: bool,
+    out: &mut [u8],
+) -> Answered<Sums>
+    ensures { (washed_paper (fed_of result kept.new) ≡ answer_for (whole st kept.old) closing cut.now (length out.old))
+        × (((fed_of result kept.new).stream ≡ next_for (whole st kept.old) closing cut.now (length out.old))
         × (out.new ≡ leaves_for (whole st kept.old) closing cut.now out.old)) }
 {
-    match stream::may_take(st, kept, cut.len()) {
-        Err(why) => refused(st, why),
-        Ok(()) => drawn(st, kept, cut, closing, out),
+    if let Err(why) = stream::may_take(st, kept, cut.len()) {
+        return Answered {
+            answer: Err(why),
+            next: st,
+        };
     }
+    if !takes_all(st, kept, cut, closing, out.len()) {
+        return Answered {
+            answer: Err(Refusal::Room),
+            next: st,
+        };
+    }
+    drawn(st, kept, cut, closing, out)
 }
 
 // One more cut, perhaps of no bytes: writes the accepted frames that it decides at the front of
 // out, each scrubbed, and counts them. Refusals 13, 19, 29, 8.
-pub fn clean_cut(st: Standing, kept: &mut [u8; 8191], cut: &[u8], out: &mut [u8]) -> Cleaned
-    ensures { (washed_paper (washed_of result kept.new) ≡ answer_to (whole st kept.old) (Feed cut.now) (length out.old))
-        × (((washed_of result kept.new).stream ≡ next_of (whole st kept.old) (Feed cut.now) (length out.old))
+pub fn clean_cut(st: Standing, kept: &mut [u8; 8191], cut: &[u8], out: &mut [u8]) -> Answered<Sums>
+    ensures { (washed_paper (fed_of result kept.new) ≡ answer_to (whole st kept.old) (Feed cut.now) (length out.old))
+        × (((fed_of result kept.new).stream ≡ next_of (whole st kept.old) (Feed cut.now) (length out.old))
         × (out.new ≡ leaves (whole st kept.old) (Feed cut.now) out.old)) }
 {
     call(st, kept, cut, false, out)
 }
 
 // No more bytes come: what remains is walked as the end of a closed capture is. Refusals 13, 19, 8.
-pub fn clean_end(st: Standing, kept: &mut [u8; 8191], out: &mut [u8]) -> Cleaned
-    ensures { (washed_paper (washed_of result kept.new) ≡ answer_to (whole st kept.old) Close (length out.old))
-        × (((washed_of result kept.new).stream ≡ next_of (whole st kept.old) Close (length out.old))
+pub fn clean_end(st: Standing, kept: &mut [u8; 8191], out: &mut [u8]) -> Answered<Sums>
+    ensures { (washed_paper (fed_of result kept.new) ≡ answer_to (whole st kept.old) Close (length out.old))
+        × (((fed_of result kept.new).stream ≡ next_of (whole st kept.old) Close (length out.old))
         × (out.new ≡ leaves (whole st kept.old) Close out.old)) }
 {
     let none: [u8; 1] = [0; 1];

@@ -42,11 +42,14 @@ use Rattle.stream_spec.specs.Trace.{Asked, Calls, none, ◌▸◌}
 use Rattle.stream_spec.specs.Words.{wait_at, readings}
 use Rattle.stream_spec.proofs.Cuttings.{every_cutting, closing_call, stands_for}
 use Rattle.stream_clean_spec.specs.declared.Sums.{Sums}
-use Rattle.stream_clean_spec.specs.declared.Washed.{Washed}
+use Rattle.stream_spec.specs.declared.Fed.{Fed}
+use Rattle.std.specs.Prelude.{Result, Ok, Err}
+use Rattle.std.specs.Result.{result_unwrap_or}
+use Rattle.terms.specs.declared.Refusal.{Refusal}
 use Rattle.stream_clean_spec.specs.CallLaws.{Promised}
 use Rattle.stream_clean_spec.specs.Wash as Wash
 use Rattle.stream_clean_spec.specs.Wash.{Cut, says_by, washed, no_sums, plus, one_of, seeks_after, sums_of, unjudged_by}
-use Rattle.stream_clean_spec.specs.Calls.{counts_in, got_of, reads_for, washed_for, sums_for, with_tally, wash_behind, number_for, number_to, next_for, next_of, leaves_for, answer_for}
+use Rattle.stream_clean_spec.specs.Calls.{counts_in, got_of, reads_for, washed_for, sums_for, with_tally, wash_behind, number_for, number_to, next_for, next_of, leaves_for, answer_for, summed_paper, washed_paper, wrote}
 use Rattle.stream_clean_spec.specs.LayLaws.{plus_none, none_plus, plus_assoc, washed_append, washed_length}
 use Rattle.stream_clean_spec.specs.CutLaws.{plain, plain_of, plain_append, same_run, cut_kept, Stands, reads_behind, seeks_behind, sums_run, other_tally}
 use Rattle.stream_clean_spec.specs.Trace.{after, accepted, written, counted, taken, ended, Row, opening, one_more, heard, heard_counts, unjudged_of, Arrives, Cleaned}
@@ -400,16 +403,24 @@ pub ran_is : {calls : Calls} {x : Stream} → Row calls x → x ≡ after calls
 ran_is (opening e) = e
 ran_is (one_more {calls} {x} call d d' r row p) = p.1.0 ∙ ap (λ (y : Stream). next_of y call (length d)) (ran_is row)
 
-module _ (x : Stream) (call : Call) (d d' : List ℕ) (r : Washed) (p : Promised x (closes call) (cut_of call) d d' r) where
-  pub sums_are : r.sums ≡ pick (eqb (number_to x call (length d)) 0) (sums_for x (closes call) (cut_of call)) no_sums
-  unfolding answer_for
-  sums_are = ap (λ (y : Paper). counts_in y.values) p.0
+-- what a call wrote is what its paper tells
+wrote_by : (a : Result Sums Refusal) → result_unwrap_or a no_sums ≡ counts_in (summed_paper a).values
+wrote_by (Ok s) = refl
+wrote_by (Err w) = refl
 
-  found_by_lem : (t : Bool) → eqb (number_to x call (length d)) 0 ≡ t → take r.sums.bytes d' ≡ pick t (washed_for x (closes call) (cut_of call)) []
+wrote_in : (r : Fed Sums) → wrote r ≡ counts_in (washed_paper r).values
+wrote_in r = wrote_by r.answer
+
+module _ (x : Stream) (call : Call) (d d' : List ℕ) (r : Fed Sums) (p : Promised x (closes call) (cut_of call) d d' r) where
+  pub sums_are : wrote r ≡ pick (eqb (number_to x call (length d)) 0) (sums_for x (closes call) (cut_of call)) no_sums
+  unfolding answer_for
+  sums_are = wrote_in r ∙ ap (λ (y : Paper). counts_in y.values) p.0
+
+  found_by_lem : (t : Bool) → eqb (number_to x call (length d)) 0 ≡ t → take (wrote r).bytes d' ≡ pick t (washed_for x (closes call) (cut_of call)) []
   unfolding leaves_for
   found_by_lem true e =
       let w : d' ≡ laid 0 (washed_for x (closes call) (cut_of call)) d = p.1.1 ∙ rw e in
-      let n : r.sums.bytes ≡ length (washed_for x (closes call) (cut_of call)) = ap (λ (t : Sums). t.bytes) sums_are ∙ rw e (washed_length x.seeking (reads_for x (closes call) (cut_of call))) in
+      let n : (wrote r).bytes ≡ length (washed_for x (closes call) (cut_of call)) = ap (λ (t : Sums). t.bytes) sums_are ∙ rw e (washed_length x.seeking (reads_for x (closes call) (cut_of call))) in
       rw (n, w) (take_front (length (washed_for x (closes call) (cut_of call))) (washed_for x (closes call) (cut_of call)) d refl)
   found_by_lem false e = rw (sums_are, e)
 

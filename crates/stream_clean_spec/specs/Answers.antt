@@ -1,43 +1,36 @@
 -- A call's answer told from its paper, and what a refusal leaves.
-use Rattle.std.specs.Prelude.{ℕ, ◌≡◌, refl, Bool, true, false, List, eqb, length, get_or}
-use Rattle.std.proofs.Common.{sym, ap, ◌∙◌, ⊎_elim, eqb-true}
-use Rattle.terms.specs.Paper.{Paper, pick, one_number}
-use Rattle.terms.specs.Cases.{two}
-use Rattle.terms.specs.declared.Verdict.{Verdict}
-use Rattle.terms.specs.declared.Verdict.TheVariants.{Fine}
-use Rattle.terms.specs.Verdicts.{verdict_number}
-use Rattle.terms.proofs.Verdicts.{verdict_one}
+use Rattle.std.specs.Prelude.{ℕ, ◌≡◌, refl, Bool, false, List, eqb, length, Result, Ok, Err}
+use Rattle.std.proofs.Common.{sym, ap, ◌∙◌}
+use Rattle.terms.specs.Paper.{Paper, one_number}
+use Rattle.terms.specs.Refusals.{number_of, refusal_not_0, told}
+use Rattle.terms.proofs.Refusals.{refusal_back}
+use Rattle.terms.specs.declared.Refusal.{Refusal}
 use Rattle.stream_spec.specs.declared.Stream.{Stream}
+use Rattle.stream_spec.specs.declared.Fed.{Fed}
+use Rattle.stream_spec.specs.Answers.{fed_same, Refuses}
 use Rattle.stream_clean_spec.specs.declared.Sums.{Sums}
-use Rattle.stream_clean_spec.specs.declared.Washed.{Washed}
-use Rattle.stream_clean_spec.specs.Calls.{number_for, answer_for, next_for, leaves_for, washed_paper}
+use Rattle.stream_clean_spec.specs.Calls.{number_for, answer_for, next_for, leaves_for, counts_in, summed_paper, washed_paper}
 use Rattle.stream_clean_spec.specs.CallLaws.{Promised}
 
-value : {x y : Paper} (i : ℕ) → x ≡ y → get_or x.values i 0 ≡ get_or y.values i 0
-value i e = ap (λ (p : Paper). get_or p.values i 0) e
+-- the answer told from its paper
+summed_told : Paper → Result Sums Refusal
+summed_told p = told (λ (vs : List ℕ). Ok (counts_in vs)) Err p
 
-same : (a b : Verdict) (i j k l m n o p : ℕ) (x y : Stream) → a ≡ b → i ≡ m → j ≡ n → k ≡ o → l ≡ p → x ≡ y
-    → ◌≡◌ {A = Washed} (record { answer = a; sums = record { bytes = i; frames = j; found = k; unjudged = l }; stream = x }) (record { answer = b; sums = record { bytes = m; frames = n; found = o; unjudged = p }; stream = y })
-same a b i j k l m n o p x y q r s t u v = rw (q, r, s, t, u, v)
+told_back : (r : Result Sums Refusal) → summed_told (summed_paper r) ≡ r
+unfolding summed_told told
+told_back (Ok s) = refl
+told_back (Err w) = rw (refusal_not_0 w, refusal_back w)
 
 -- two answers of one paper and one stream are one
-pub washed_one : (x y : Washed) → washed_paper x ≡ washed_paper y → x.stream ≡ y.stream → x ≡ y
-washed_one x y e s = same _ _ _ _ _ _ _ _ _ _ _ _ (verdict_one x.answer y.answer (one_number e)) (value 0 e) (value 1 e) (value 2 e) (value 3 e) s
+pub washed_one : (x y : Fed Sums) → washed_paper x ≡ washed_paper y → x.stream ≡ y.stream → x ≡ y
+washed_one x y e s = fed_same x y (sym (told_back x.answer) ∙ ap summed_told e ∙ told_back y.answer) s
 
--- an answer that is a refusal
-abbrev pub Refuses : Washed → Type 0
-Refuses r = r.answer ≡ Fine → ⊥
-
-module _ (x : Stream) (closing : Bool) (cut d d' : List ℕ) (r : Washed) (p : Promised x closing cut d d' r) (w : Refuses r) where
-  number_is : verdict_number r.answer ≡ number_for x closing cut (length d)
-  unfolding answer_for
-  number_is = one_number p.0
-
+module _ (x : Stream) (closing : Bool) (cut d d' : List ℕ) (r : Fed Sums) (p : Promised x closing cut d d' r) (w : Refuses r) where
   not_done : eqb (number_for x closing cut (length d)) 0 ≡ false
+  unfolding answer_for
   not_done =
-      ⊎_elim (λ (t : eqb (number_for x closing cut (length d)) 0 ≡ true). absurd (w (verdict_one r.answer Fine (number_is ∙ eqb-true _ _ t))))
-      (λ (f : eqb (number_for x closing cut (length d)) 0 ≡ false). f)
-      (two (eqb (number_for x closing cut (length d)) 0))
+      let n : number_of w.0 ≡ number_for x closing cut (length d) = one_number (sym (ap summed_paper w.1) ∙ p.0) in
+      ap (λ (k : ℕ). eqb k 0) (sym n) ∙ refusal_not_0 w.0
 
   -- a refusal leaves the buffer as it was, and gives back the very stream that was passed in
   pub refused_leaves : d' ≡ d

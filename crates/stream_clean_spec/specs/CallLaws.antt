@@ -1,18 +1,17 @@
 -- Each answer of a call from the facts that lead to it.
-use Rattle.std.specs.Prelude.{ℕ, ◌+◌, ◌-◌, ◌≤◌, ◌≡◌, refl, Bool, true, false, List, ◌++◌, leb, length, drop, replicate}
+use Rattle.std.specs.Prelude.{ℕ, ◌+◌, ◌-◌, ◌≤◌, ◌≡◌, refl, Bool, true, false, List, ◌++◌, leb, length, drop, replicate, Ok}
 use Rattle.std.proofs.Common.{sym, ◌∙◌, arith}
 use Rattle.std.proofs.Math.Path.{ap}
 use borrow.Author.Tests.{le-leb, leb-true}
 use Rattle.terms.specs.declared.Refusal.{Refusal}
-use Rattle.terms.specs.declared.Verdict.TheVariants.{Fine}
 use Rattle.terms.specs.Refusals.{number_of, refusal_not_0}
 use Rattle.stream_spec.specs.declared.Stream.{Stream}
+use Rattle.stream_spec.specs.declared.Fed.{Fed}
 use Rattle.stream_spec.specs.State.{head_of, meant_by, value_of}
-use Rattle.stream_spec.specs.Calls.{feed_of, behind_of, may_take}
+use Rattle.stream_spec.specs.Calls.{feed_of, behind_of, may_take, refused_by}
 use Rattle.stream_clean_spec.specs.declared.Sums.{Sums}
-use Rattle.stream_clean_spec.specs.declared.Washed.{Washed}
 use Rattle.stream_clean_spec.specs.Wash.{sums_of, lays}
-use Rattle.stream_clean_spec.specs.Calls.{got_of, reads_for, washed_for, sums_for, wash_behind, number_for, answer_for, next_for, leaves_for, washed_paper, refused_by}
+use Rattle.stream_clean_spec.specs.Calls.{got_of, reads_for, washed_for, sums_for, wash_behind, number_for, answer_for, next_for, leaves_for, washed_paper}
 use Rattle.stream_clean_spec.specs.LayLaws.{washed_length, lays_all}
 use Rattle.stream_clean_spec.specs.Runs.{RanIs}
 use Rattle.stream_clean_spec.specs.CutLaws.{bounds, washed_short, meant_run, seeking_is}
@@ -42,10 +41,10 @@ module _ (x : Stream) (closing : Bool) (cut : List ℕ) where
       number_0 f = rw (z, f)
 
   -- what the code promises of a call whose answer is r and whose buffer d is d' later
-  abbrev pub Promised : List ℕ → List ℕ → Washed → Type 0
+  abbrev pub Promised : List ℕ → List ℕ → Fed Sums → Type 0
   Promised d d' r = (washed_paper r ≡ answer_for x closing cut (length d)) × ((r.stream ≡ next_for x closing cut (length d)) × (d' ≡ leaves_for x closing cut d))
 
-  pub refused_call : (d : List ℕ) (r : Washed) (why : Refusal) → r ≡ refused_by x why → number_for x closing cut (length d) ≡ number_of why → Promised d d r
+  pub refused_call : (d : List ℕ) (r : Fed Sums) (why : Refusal) → r ≡ refused_by x why → number_for x closing cut (length d) ≡ number_of why → Promised d d r
   unfolding answer_for next_for leaves_for
   refused_call d r why e n = rw (e, n, refusal_not_0 why) (refl, (refl, refl))
 
@@ -76,7 +75,7 @@ module _ (x : Stream) (closing : Bool) (cut d d' : List ℕ) (at : ℕ) (b : Boo
   fits_counted room = ap (λ (n : ℕ). leb n room) (ap (λ (t : Sums). t.bytes) summed_is ∙ washed_length x.seeking (reads_for x closing cut))
 
   pub done_call : (kept : List ℕ) (n : ℕ) → kept ≡ drop at w ++ replicate (8191 - length (drop at w)) 0 → n ≡ length (drop at w) → leb (length (washed_for x closing cut)) (length d) ≡ true → number_for x closing cut (length d) ≡ 0
-      → Promised x closing cut d d' (record { answer = Fine; sums = sums; stream = record { place = x.place + at; seeking = b; closed = closing; len = n; kept = kept; tally = x.tally } })
+      → Promised x closing cut d d' (record { answer = Ok sums; stream = record { place = x.place + at; seeking = b; closed = closing; len = n; kept = kept; tally = x.tally } })
   unfolding answer_for next_for leaves_for
   done_call kept n f g l o =
       let t : d' ≡ lays 0 (reads_for x closing cut) d = z.written ∙ ap (λ r. lays 0 r d) (sym (reads_is x closing cut)) in

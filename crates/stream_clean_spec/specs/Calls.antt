@@ -1,20 +1,20 @@
 -- The calls of a stream that scrubs: what each is answered, the stream after it, and what it leaves
 -- in the lent buffer. The state is a stream's (CR 1), of which counts and ledger stay as they are.
-use Rattle.std.specs.Prelude.{ℕ, Bool, List, [], ◌∷◌, ◌++◌, eqb, leb, length, get_or}
+use Rattle.std.specs.Prelude.{ℕ, Bool, List, [], ◌∷◌, ◌++◌, eqb, leb, length, get_or, Result, Ok, Err}
+use Rattle.std.specs.Result.{result_unwrap_or}
 use Rattle.terms.specs.Paper.{Paper, answer, pick}
 use Rattle.terms.specs.declared.Refusal.{Refusal}
-use Rattle.terms.specs.declared.Verdict.TheVariants.{Refused}
-use Rattle.terms.specs.Verdicts.{verdict_number}
+use Rattle.terms.specs.Refusals.{number_of}
 use Rattle.octets.specs.Octets.{laid}
 use Rattle.walk_laws.specs.Walk.{Sight}
 use Rattle.walk_laws.specs.Waits.{Got, ran_of}
 use Rattle.walk_laws.specs.WaitLaws.{mode_of}
 use Rattle.stream_spec.specs.declared.Stream.{Stream}
+use Rattle.stream_spec.specs.declared.Fed.{Fed}
 use Rattle.stream_spec.specs.declared.Tally.{Tally}
 use Rattle.stream_spec.specs.State.{head_of}
 use Rattle.stream_spec.specs.Calls.{Call, cut_of, closes, behind_of, may_take}
 use Rattle.stream_clean_spec.specs.declared.Sums.{Sums}
-use Rattle.stream_clean_spec.specs.declared.Washed.{Washed}
 use Rattle.stream_clean_spec.specs.Wash as Wash
 use Rattle.stream_clean_spec.specs.Wash.{Cut, says_by, washed, no_sums, sums_of}
 
@@ -86,8 +86,14 @@ leaves x call d = leaves_for x (closes call) (cut_of call) d
 
 -- ---- the code's answers in numbers
 
-abbrev pub washed_paper : Washed → Paper
-washed_paper r = sums_paper (verdict_number r.answer) r.sums
+-- number and sums, all 0 beside a refusal
+abbrev pub summed_paper : Result Sums Refusal → Paper
+summed_paper (Ok s) = sums_paper 0 s
+summed_paper (Err w) = sums_paper (number_of w) no_sums
 
-abbrev pub refused_by : Stream → Refusal → Washed
-refused_by x why = record { answer = Refused why; sums = no_sums; stream = x }
+abbrev pub washed_paper : Fed Sums → Paper
+washed_paper r = summed_paper r.answer
+
+-- what a call wrote
+abbrev pub wrote : Fed Sums → Sums
+wrote r = result_unwrap_or r.answer no_sums

@@ -8,14 +8,14 @@ use Rattle.reading.specs.declared.Seen.{Seen}
 use Rattle.walk_spec.specs.Walk.{sights, frames_of}
 use Rattle.clean_spec.specs.Clean.{clean_in, clean_of, found_in, found_of, clean_answer}
 use Rattle.stream_spec.specs.declared.Stream.{Stream}
+use Rattle.stream_spec.specs.declared.Fed.{Fed}
 use Rattle.stream_spec.specs.State.{last_place, head_of, sound_of, opened}
 use Rattle.stream_spec.specs.Calls.{Call, cut_of, closes}
 use Rattle.stream_spec.specs.Trace.{Asked, Calls, none, ◌▸◌}
 use Rattle.stream_spec.specs.Words.{wait_at, readings}
 use Rattle.stream_clean_spec.specs.declared.Sums.{Sums}
-use Rattle.stream_clean_spec.specs.declared.Washed.{Washed}
 use Rattle.stream_clean_spec.specs.Wash.{unjudged_by, no_sums, plus}
-use Rattle.stream_clean_spec.specs.Calls.{washed_for, sums_for, number_to, next_of}
+use Rattle.stream_clean_spec.specs.Calls.{washed_for, sums_for, number_to, next_of, wrote}
 use Rattle.stream_clean_spec.specs.CallLaws.{Promised}
 
 -- the stream after the calls
@@ -50,18 +50,18 @@ ended (calls ▸ a) = or_else (ended calls) (accepted calls a && closes a.call)
 -- x comes of calls of the code on a stream just opened, each meeting its promise
 pub data Row : Calls → Stream → Type 0 where
   opening : {x : Stream} → x ≡ opened → Row none x
-  one_more : {calls : Calls} {x : Stream} (call : Call) (d d' : List ℕ) (r : Washed) → Row calls x → Promised x (closes call) (cut_of call) d d' r
+  one_more : {calls : Calls} {x : Stream} (call : Call) (d d' : List ℕ) (r : Fed Sums) → Row calls x → Promised x (closes call) (cut_of call) d d' r
       → Row (calls ▸ record { call = call; room = length d }) r.stream
 
 -- what a host then has, if it sets aside what each call says it wrote
 abbrev pub heard : {calls : Calls} {x : Stream} → Row calls x → List ℕ
 heard (opening e) = []
-heard (one_more call d d' r row p) = heard row ++ take r.sums.bytes d'
+heard (one_more call d d' r row p) = heard row ++ take (wrote r).bytes d'
 
 -- and has counted, if it adds up what each call returns
 abbrev pub heard_counts : {calls : Calls} {x : Stream} → Row calls x → Sums
 heard_counts (opening e) = no_sums
-heard_counts (one_more call d d' r row p) = plus (heard_counts row) r.sums
+heard_counts (one_more call d d' r row p) = plus (heard_counts row) (wrote r)
 
 -- ---- the theorem's sentences
 

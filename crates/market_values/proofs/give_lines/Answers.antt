@@ -44,7 +44,7 @@ give_line-requires c =
     let l = c.loop-line in
     let s = c.args.s.now in
     let k : length c.put.new.d ≡ length l.out = give_kept_1 s l.p l.a l.out _ l.invariant.1 (stands c) c.put.new.d _ (typed c) refl in
-    (c.rows_of.ensures.1.0, (rw (rows c, k) (omega (arith, give_room s l.p l.a l.out _ l.invariant.1 (stands c))), rw (rows c) (give_right s l.p l.a l.out _ l.invariant.1 (stands c))))
+    (rw (rows c, k) (omega (arith, give_room s l.p l.a l.out _ l.invariant.1 (stands c))), rw (rows c) (give_right s l.p l.a l.out _ l.invariant.1 (stands c)))
 
 pub loop-line-smaller : goal.loop-line-smaller
 loop-line-smaller c = omega (arith, (next c).stand.inside, rw (← c.line_long-p.ensures.0) at (layout_some (line_number c.in-Line.line)))

@@ -30,7 +30,7 @@ pub returns-in_default : goal.returns-in_default
 returns-in_default c = let l = c.loop-p in absurd (put_some _ l.p l.a l.out _ l.invariant.1 c.loop-p-test.true (sym (c.in_default.ensures ∙ ap type_of c.at.ensures)))
 
 pub put_line-requires : goal.put_line-requires
-put_line-requires c = let l = c.loop-p in let s = c.args.s.now in (c.rows_of.ensures.1.0, (rw (rows c) (put_room s l.p l.a l.out _ l.invariant.1 c.loop-p-test.true), rw (rows c) (put_fits s l.p l.a l.out _ l.invariant.1 c.loop-p-test.true)))
+put_line-requires c = let l = c.loop-p in let s = c.args.s.now in (rw (rows c) (put_room s l.p l.a l.out _ l.invariant.1 c.loop-p-test.true), rw (rows c) (put_fits s l.p l.a l.out _ l.invariant.1 c.loop-p-test.true))
 
 pub loop-p-preserved : goal.loop-p-preserved
 loop-p-preserved c =

@@ -1,6 +1,7 @@
 -- `rule_of`: in an arm the tag is known, and the table computes; in the last it is none of the 27.
 -- Assumes nothing.
 use mathlib.Core.Path.{◌≡◌}
+use native.Mathlib.Omega.{arith}
 use borrow.Author.Tests.{ne_eqb}
 use Rattle.step_tags.specs.Table.{row_of, row_in, row_at, rows}
 use Rattle.step_tags.proofs.rule_of.Goals as goal
@@ -115,4 +116,7 @@ returns-in-36 c = rw c.in-36.is
 
 pub returns-in_default : goal.returns-in_default
 unfolding row_of row_in row_at rows
-returns-in_default c = let e : row_of c.args.tag ≡ 27 = simp (ne_eqb _ _ c.in_default.in_default-own.rest.0.0.0.0.0.0.0.0.0.0.0.0.0.0.0.0.0.0.0.0.0.0.0.0.0.0.1, ne_eqb _ _ c.in_default.in_default-own.rest.0.0.0.0.0.0.0.0.0.0.0.0.0.0.0.0.0.0.0.0.0.0.0.0.0.1, ne_eqb _ _ c.in_default.in_default-own.rest.0.0.0.0.0.0.0.0.0.0.0.0.0.0.0.0.0.0.0.0.0.0.0.0.1, ne_eqb _ _ c.in_default.in_default-own.rest.0.0.0.0.0.0.0.0.0.0.0.0.0.0.0.0.0.0.0.0.0.0.0.1, ne_eqb _ _ c.in_default.in_default-own.rest.0.0.0.0.0.0.0.0.0.0.0.0.0.0.0.0.0.0.0.0.0.0.1, ne_eqb _ _ c.in_default.in_default-own.rest.0.0.0.0.0.0.0.0.0.0.0.0.0.0.0.0.0.0.0.0.0.1, ne_eqb _ _ c.in_default.in_default-own.rest.0.0.0.0.0.0.0.0.0.0.0.0.0.0.0.0.0.0.0.0.1, ne_eqb _ _ c.in_default.in_default-own.rest.0.0.0.0.0.0.0.0.0.0.0.0.0.0.0.0.0.0.0.1, ne_eqb _ _ c.in_default.in_default-own.rest.0.0.0.0.0.0.0.0.0.0.0.0.0.0.0.0.0.0.1, ne_eqb _ _ c.in_default.in_default-own.rest.0.0.0.0.0.0.0.0.0.0.0.0.0.0.0.0.0.1, ne_eqb _ _ c.in_default.in_default-own.rest.0.0.0.0.0.0.0.0.0.0.0.0.0.0.0.0.1, ne_eqb _ _ c.in_default.in_default-own.rest.0.0.0.0.0.0.0.0.0.0.0.0.0.0.0.1, ne_eqb _ _ c.in_default.in_default-own.rest.0.0.0.0.0.0.0.0.0.0.0.0.0.0.1, ne_eqb _ _ c.in_default.in_default-own.rest.0.0.0.0.0.0.0.0.0.0.0.0.0.1, ne_eqb _ _ c.in_default.in_default-own.rest.0.0.0.0.0.0.0.0.0.0.0.0.1, ne_eqb _ _ c.in_default.in_default-own.rest.0.0.0.0.0.0.0.0.0.0.0.1, ne_eqb _ _ c.in_default.in_default-own.rest.0.0.0.0.0.0.0.0.0.0.1, ne_eqb _ _ c.in_default.in_default-own.rest.0.0.0.0.0.0.0.0.0.1, ne_eqb _ _ c.in_default.in_default-own.rest.0.0.0.0.0.0.0.0.1, ne_eqb _ _ c.in_default.in_default-own.rest.0.0.0.0.0.0.0.1, ne_eqb _ _ c.in_default.in_default-own.rest.0.0.0.0.0.0.1, ne_eqb _ _ c.in_default.in_default-own.rest.0.0.0.0.0.1, ne_eqb _ _ c.in_default.in_default-own.rest.0.0.0.0.1, ne_eqb _ _ c.in_default.in_default-own.rest.0.0.0.1, ne_eqb _ _ c.in_default.in_default-own.rest.0.0.1, ne_eqb _ _ c.in_default.in_default-own.rest.0.1, ne_eqb _ _ c.in_default.in_default-own.rest.1) in rw e
+returns-in_default c =
+    let t = c.args.tag in
+    let e : row_of t ≡ 27 = simp (ne_eqb t 49 (λ e. omega (arith, e)), ne_eqb t 56 (λ e. omega (arith, e)), ne_eqb t 34 (λ e. omega (arith, e)), ne_eqb t 43 (λ e. omega (arith, e)), ne_eqb t 97 (λ e. omega (arith, e)), ne_eqb t 52 (λ e. omega (arith, e)), ne_eqb t 347 (λ e. omega (arith, e)), ne_eqb t 98 (λ e. omega (arith, e)), ne_eqb t 108 (λ e. omega (arith, e)), ne_eqb t 141 (λ e. omega (arith, e)), ne_eqb t 789 (λ e. omega (arith, e)), ne_eqb t 553 (λ e. omega (arith, e)), ne_eqb t 554 (λ e. omega (arith, e)), ne_eqb t 1137 (λ e. omega (arith, e)), ne_eqb t 1407 (λ e. omega (arith, e)), ne_eqb t 1406 (λ e. omega (arith, e)), ne_eqb t 1409 (λ e. omega (arith, e)), ne_eqb t 112 (λ e. omega (arith, e)), ne_eqb t 7 (λ e. omega (arith, e)), ne_eqb t 16 (λ e. omega (arith, e)), ne_eqb t 45 (λ e. omega (arith, e)), ne_eqb t 371 (λ e. omega (arith, e)), ne_eqb t 372 (λ e. omega (arith, e)), ne_eqb t 373 (λ e. omega (arith, e)), ne_eqb t 58 (λ e. omega (arith, e)), ne_eqb t 123 (λ e. omega (arith, e)), ne_eqb t 36 (λ e. omega (arith, e))) in
+    rw e

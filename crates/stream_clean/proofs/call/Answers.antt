@@ -1,14 +1,24 @@
 -- `call`: what goes before the room, and then the room. Assumes nothing.
-use borrow.Author.Rules.{rules}
-use mathlib.Core.Path.{◌≡◌, sym, ap, ◌∙◌}
+use mathlib.Core.Path.{◌≡◌, refl, sym, ◌∙◌}
 use lib.ListN.{length}
-use Rattle.terms.specs.Verdicts.{verdict_number}
-use Rattle.stream_clean_spec.specs.CallLaws.{number_refused, refused_call}
+use Rattle.terms.specs.declared.Refusal.TheVariants.{Room}
+use Rattle.stream_clean_spec.specs.CallLaws.{number_refused, number_8, refused_call}
+use Rattle.stream.specs.Standing.{Ready}
+use Rattle.stream.specs.Pushed.{may_ready}
 use Rattle.stream_clean.proofs.call.Goals as goal
-use Rattle.stream_clean.proofs.call.Goals.{After-drawn-arg-in-Fine-1}
+use Rattle.stream_clean.proofs.call.Goals.{In_default}
 
-long : (c : goal.After-drawn-arg-in-Fine-1) → length c.args.kept.now ≡ 8191
-long c = search rules
+ready : (c : In_default) → Ready c.args.st c.args.kept.now (length c.args.cut.now)
+ready c = may_ready _ _ _ c.told-kept (sym c.in_default.ensures)
 
-pub returns-in-Refused : goal.returns-in-Refused
-returns-in-Refused c = refused_call _ _ _ _ _ _ (c.refused.ensures c.args.kept.now) (number_refused _ _ _ _ c.in-Refused.why (sym (ap verdict_number c.in-Refused.is) ∙ c.may_take.ensures))
+pub returns-in-Err : goal.returns-in-Err
+returns-in-Err c = refused_call _ _ _ _ _ c.in-Err.why refl (number_refused _ _ _ _ c.in-Err.why c.in-Err.ensures)
+
+pub takes_all-requires : goal.takes_all-requires
+takes_all-requires c = ready (goal.at.takes_all-requires c).In_default
+
+pub returns-then-not-takes_all : goal.returns-then-not-takes_all
+returns-then-not-takes_all c = refused_call _ _ _ _ _ Room refl (number_8 _ _ _ _ (sym c.in_default.ensures) (sym c.takes_all.ensures ∙ c.if-not-takes_all.true))
+
+pub drawn-requires : goal.drawn-requires
+drawn-requires c = (sym c.in_default.ensures, sym c.takes_all.ensures ∙ c.if-not-takes_all.false)

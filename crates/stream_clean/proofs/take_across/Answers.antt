@@ -2,13 +2,8 @@
 use native.Mathlib.Omega.{arith}
 use mathlib.Core.Path.{ap, ◌∙◌}
 use mathlib.Core.List.{◌++◌}
-use lib.ListN.{take, length-append}
-use borrow.Author.Rules.{rules}
-use Rattle.octets.specs.Papers.{laid_if_room}
-use Rattle.private.specs.Scrub.{scrubbed}
-use Rattle.reading.specs.declared.Seen.{Seen}
+use lib.ListN.{length-append}
 use Rattle.clean_spec.specs.Turns.{size_inside}
-use Rattle.stream_clean.proofs.Readings.{seen_taken}
 use Rattle.stream_clean.proofs.take_across.Goals as goal
 
 pub lay_across-requires : goal.lay_across-requires
