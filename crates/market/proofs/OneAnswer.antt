@@ -17,8 +17,8 @@ use Rattle.market.proofs.rows_of.Kinds as rows-of-kinds
 use Rattle.market.proofs.check.Reads as check
 use Rattle.market.proofs.check.Kinds as check-kinds
 
-pub Fault_number_one_answer : OneAnswer _ number-kinds.ps number-kinds.r number.Post
-Fault_number_one_answer κs a x y s t p q = p ∙ sym q
+pub U64FromFault_from_one_answer : OneAnswer _ number-kinds.ps number-kinds.r number.Post
+U64FromFault_from_one_answer κs a x y s t p q = p ∙ sym q
 
 pub due_one_answer : OneAnswer _ due-kinds.ps due-kinds.r due.Post
 due_one_answer κs a x y s t p q = p ∙ sym q
