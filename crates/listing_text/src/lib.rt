@@ -35,11 +35,9 @@ fn store_column(d: &mut [u8], at: usize, v: u64, behind: u8) -> usize
     requires { Room at (column v behind) d.old }
     ensures { Stored at (column v behind) d.old d.new result }
 {
-    let Ok(n) = digits::put_decimal(d, at, v) else {
-        return at;
-    };
-    d[at + n] = behind;
-    at + n + 1
+    let end = at + digits::put_decimal(d, at, v).unwrap();
+    d[end] = behind;
+    end + 1
 }
 
 // What a line shows of a type.
