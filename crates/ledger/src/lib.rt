@@ -3,7 +3,7 @@
 // beside its answer.
 #![tactic(auto)]
 
-ghost use Rattle.std.specs.Prelude.{◌≡◌, true, false, ◌&&◌, not, [], ◌∷◌, ◌+◌, ◌-◌, ◌%◌, ◌≤◌, ◌<◌, min, max, eqb};
+ghost use Rattle.std.specs.Prelude.{◌≡◌, Err, true, false, ◌&&◌, not, [], ◌∷◌, ◌+◌, ◌-◌, ◌%◌, ◌≤◌, ◌<◌, min, max, eqb};
 ghost use Rattle.terms.specs.Paper.{answer};
 ghost use Rattle.terms.specs.Verdicts.{verdict_number};
 ghost use Rattle.tick_map.specs.Bits.{is_set, bits_in};
@@ -393,6 +393,16 @@ impl Ledger {
         }
     }
 
+    // A refused call gives back the very ledger.
+    fn refused<T>(self, why: Refusal) -> Called<T>
+        ensures { result ≡ record { next = self; answer = Err why } }
+    {
+        Called {
+            next: self,
+            answer: Err(why),
+        }
+    }
+
     // The top raised to n, if it was lower.
     fn raised(mut self, n: TickNumber) -> Ledger
         ensures { result ≡ topped self (max self.top.0 n.0) }
@@ -476,10 +486,7 @@ impl Ledger {
                 next: self.raised(last),
                 answer: Ok(()),
             },
-            Err(why) => Called {
-                next: self,
-                answer: Err(why),
-            },
+            Err(why) => self.refused(why),
         }
     }
 
@@ -505,10 +512,7 @@ impl Ledger {
     {
         match self.request_verdict(channel) {
             Ok(()) => Sound { ledger: self }.granted(),
-            Err(why) => Called {
-                next: self,
-                answer: Err(why),
-            },
+            Err(why) => self.refused(why),
         }
     }
 
@@ -552,10 +556,7 @@ impl Ledger {
     {
         match self.reply_verdict(channel, first, status) {
             Ok(()) => Sound { ledger: self }.replied(self.reach(status)),
-            Err(why) => Called {
-                next: self,
-                answer: Err(why),
-            },
+            Err(why) => self.refused(why),
         }
     }
 
@@ -567,10 +568,7 @@ impl Ledger {
             × (result.next ≡ next_in self Renew) }
     {
         if !self.sound() {
-            return Called {
-                next: self,
-                answer: Err(Refusal::State),
-            };
+            return self.refused(Refusal::State);
         }
         Called {
             next: self.waiting(None),
@@ -585,10 +583,7 @@ impl Ledger {
             × (result.next ≡ next_in self (Ask Missing)) }
     {
         if !self.sound() {
-            return Called {
-                next: self,
-                answer: Err(Refusal::State),
-            };
+            return self.refused(Refusal::State);
         }
         let known = self.top.value() - self.floor.value();
         Called {
@@ -604,10 +599,7 @@ impl Ledger {
             × (result.next ≡ next_in self (Ask Held)) }
     {
         if !self.sound() {
-            return Called {
-                next: self,
-                answer: Err(Refusal::State),
-            };
+            return self.refused(Refusal::State);
         }
         Called {
             next: self,
@@ -643,12 +635,12 @@ impl Ledger {
         ensures { (count_paper result.answer ≡ answer_to (book_of self) (Ask (Between channel.0 a.0 b.0)))
             × (result.next ≡ next_in self (Ask (Between channel.0 a.0 b.0))) }
     {
-        Called {
-            next: self,
-            answer: match self.span_verdict(channel, a, b) {
-                Ok(()) => Ok(Sound { ledger: self }.between(a.value(), b.value())),
-                Err(why) => Err(why),
+        match self.span_verdict(channel, a, b) {
+            Ok(()) => Called {
+                next: self,
+                answer: Ok(Sound { ledger: self }.between(a.value(), b.value())),
             },
+            Err(why) => self.refused(why),
         }
     }
 }
