@@ -36,6 +36,7 @@ pub enum StepRefusal {
     Fields,
 }
 
+// The number of a refusal.
 impl From<StepRefusal> for u32 {
     ghost from_gives = { λ why n. n ≡ step_number why };
 
