@@ -11,7 +11,6 @@ ghost use Rattle.clean_spec.specs.Clean.{clean_answer, clean_leaves};
 ghost use Rattle.host_words.specs.Told.{Tells};
 ghost use Rattle.host_captures.specs.Captures.{walk_words, record_told, listing_told, listing_leaves, clean_told};
 
-use clean::Check;
 use listing_text::Summary;
 
 // Walks a capture: a record of 64 bytes for each reading, and channel 100's ledger. Results: how
@@ -23,18 +22,18 @@ pub fn rk_walk(capture: &[u8], records: &mut [u8], state: &mut [u64; 9], told: &
         × (records.new ≡ walk_leaves capture.now records.old)) }
 {
     let walked = walk::walk(capture, records);
-    let ledger = walked.ledger;
-    let given = walked.answer;
-    let answer = host_words::number_of(given);
-    host_words::keep(state, answer, ledger);
-    if answer == 0 {
-        *told = [
-            walked.records as u64,
-            walked.frames as u64,
-            walked.refused as u64,
-        ];
+    host_words::keep(state, terms::number_of(walked.answer), walked.ledger);
+    match walked.answer {
+        Ok(counts) => {
+            *told = [
+                counts.records as u64,
+                counts.frames as u64,
+                counts.refused as u64,
+            ];
+            0
+        }
+        Err(why) => u32::from(why),
     }
-    answer
 }
 
 // One record of a walk, the first 64 bytes; 1 where there are fewer. Results, as document 01 lays
@@ -46,21 +45,16 @@ pub fn rk_record(bytes: &[u8], told: &mut [u64; 9]) -> u32
         return 1;
     }
     let read = record::record_at(bytes, 0);
-    let seq = read.seq;
-    let tick = read.tick;
-    let channel = read.channel;
-    let floor = read.floor;
-    let top = read.top;
     *told = [
         read.place,
         read.msg_type as u64,
         read.answer as u64,
-        seq.value(),
-        tick.value(),
-        channel.value() as u64,
+        read.seq.value(),
+        read.tick.value(),
+        read.channel.value() as u64,
         read.body_len as u64,
-        floor.value(),
-        top.value(),
+        read.floor.value(),
+        read.top.value(),
     ];
     0
 }
@@ -71,8 +65,7 @@ pub fn rk_lines(records: &[u8], text: &mut [u8], told: &mut u64) -> u32
     ensures { Tells (room_for 0 (length (lines_in records.now)) (length text.old)) (told.old ∷ []) result (told.new ∷ [])
         × (text.new ≡ laid_if_room 0 (lines_in records.now) text.old) }
 {
-    let laid = listing_text::put_lines(text, records);
-    host_words::told_bytes(laid, told)
+    host_words::told_bytes(listing_text::put_lines(text, records), told)
 }
 
 // The listing of what a walk left: the line of each whole record, then the last line. Result: how
@@ -89,23 +82,19 @@ pub fn rk_listing(
         × (text.new ≡ listing_leaves records.now frames refused state.now text.old) }
 {
     let ledger = host_words::ledger_in(state);
-    let counted = ledger.missing();
-    let given = counted.answer;
-    let answer = host_words::number_of(given);
-    if answer != 0 {
-        return answer;
+    match ledger.missing().answer {
+        Ok(missing) => {
+            let last = Summary {
+                frames,
+                refused,
+                floor: ledger.floor,
+                top: ledger.top,
+                missing,
+            };
+            host_words::told_bytes(listing_text::put_listing(text, records, last), told)
+        }
+        Err(why) => u32::from(why),
     }
-    let floor = ledger.floor;
-    let top = ledger.top;
-    let s = Summary {
-        frames,
-        refused,
-        floor,
-        top,
-        missing: counted.count,
-    };
-    let laid = listing_text::put_listing(text, records, s);
-    host_words::told_bytes(laid, told)
 }
 
 // A capture, scrubbed: its accepted frames at the front of out, stray bytes left out. Results: how
@@ -114,17 +103,17 @@ pub fn rk_clean(capture: &[u8], out: &mut [u8], told: &mut [u64; 3]) -> u32
     ensures { Tells (clean_answer capture.now (length out.old)) told.old result told.new
         × (out.new ≡ clean_leaves capture.now out.old) }
 {
-    let cleaned = clean::clean(capture, out);
-    let given = cleaned.answer;
-    let answer = host_words::number_of(given);
-    if answer == 0 {
-        *told = [
-            cleaned.bytes as u64,
-            cleaned.frames as u64,
-            cleaned.after_damage as u64,
-        ];
+    match clean::clean(capture, out) {
+        Ok(cleaned) => {
+            *told = [
+                cleaned.bytes as u64,
+                cleaned.frames as u64,
+                cleaned.after_damage as u64,
+            ];
+            0
+        }
+        Err(why) => u32::from(why),
     }
-    answer
 }
 
 // Whether a capture is what cleaning it gives. Results: 1 and the first place where the two differ,
@@ -132,13 +121,9 @@ pub fn rk_clean(capture: &[u8], out: &mut [u8], told: &mut [u64; 3]) -> u32
 pub fn rk_is_clean(capture: &[u8], told: &mut [u64; 2]) -> u32
     ensures { Tells (clean_told capture.now) told.old result told.new }
 {
-    match clean::is_clean(capture) {
-        Check::Clean => {
-            *told = [0, 0];
-        }
-        Check::Changed(at) => {
-            *told = [1, at as u64];
-        }
-    }
+    *told = match clean::is_clean(capture) {
+        None => [0, 0],
+        Some(at) => [1, at as u64],
+    };
     0
 }

@@ -1,13 +1,15 @@
 -- What a call on the words leaves: a refusal the words as they were, 0 those of the next page.
 -- Assumes nothing.
 use Prim.Native.Nat.{ℕ}
-use mathlib.Core.Path.{◌≡◌, refl, sym, ap, ◌∙◌}
+use mathlib.Core.Path.{◌≡◌, sym, ap, ◌∙◌}
 use mathlib.Core.List.{List}
 use borrow.Author.Tests.{eq-eqb, ne_eqb}
-use Rattle.terms.specs.Paper.{Paper, answer, pick, one_number}
-use Rattle.month_spec.specs.Page.{Page, page_of}
+use Rattle.std.specs.Prelude.{Result, Ok, Err}
+use Rattle.terms.specs.Refusals.{number_of, refusal_pos}
+use Rattle.terms.specs.declared.Refusal.{Refusal}
+use Rattle.terms.specs.Paper.{answer, one_number}
 use Rattle.month_spec.specs.Calls.{start_number, start_page, number_to, answer_to, next_of}
-use Rattle.month.specs.State.{page_in, month_of, added_paper}
+use Rattle.month.specs.State.{page_in, month_of, figures_paper, added_paper}
 use Rattle.month.specs.declared.Month.{Month}
 use Rattle.month.specs.declared.Added.{Added}
 use Rattle.host_words.specs.Told.{Tells, tells_done, tells_refused}
@@ -40,12 +42,14 @@ module _ (w s : List ℕ) where
     paper_is : added_paper a ≡ answer_to (page_words w) s
     paper_is = ae ∙ ap (λ (x : Month). answer_to (page_in x) s) me
 
-    pub add_refused : (was : List ℕ) → (a.answer ≡ 0 → ⊥) → Tells (answer_to (page_words w) s) was a.answer was × (w ≡ words_after w s)
-    add_refused was ne =
-        (tells_refused (answer_to (page_words w) s) was a.answer (one_number paper_is) ne, sym (add_kept (λ z. ne (one_number paper_is ∙ z))))
+    pub add_refused : (was : List ℕ) (why : Refusal) (n : ℕ) → a.answer ≡ Err why → n ≡ number_of why → Tells (answer_to (page_words w) s) was n was × (w ≡ words_after w s)
+    add_refused was why n e q =
+        let f : number_of why ≡ (answer_to (page_words w) s).number = ap (λ (r : Result (List ℕ) Refusal). (figures_paper r).number) (sym e) ∙ one_number paper_is in
+        (tells_refused (answer_to (page_words w) s) was n (q ∙ f) (λ z. refusal_pos why (sym q ∙ z)), sym (add_kept (λ z. refusal_pos why (f ∙ z))))
 
-    pub add_done : (was row : List ℕ) → a.answer ≡ 0 → row ≡ words_of (page_in a.page) → Tells (answer_to (page_words w) s) was 0 a.figures × (row ≡ words_after w s)
-    add_done was row z e = (
-      tells_done (answer_to (page_words w) s) was a.figures (ap (λ (n : ℕ). answer n a.figures) (sym z) ∙ paper_is),
-      e ∙ ap (λ (x : Month). words_of (page_in x)) pe ∙ ap (λ (x : Month). words_of (next_of (page_in x) s)) me ∙ sym (add_words (sym (one_number paper_is) ∙ z)),
-    )
+    pub add_done : (was row figures : List ℕ) → a.answer ≡ Ok figures → row ≡ words_of (page_in a.page) → Tells (answer_to (page_words w) s) was 0 figures × (row ≡ words_after w s)
+    add_done was row figures z e =
+        let f : answer 0 figures ≡ answer_to (page_words w) s = ap figures_paper (sym z) ∙ paper_is in (
+          tells_done (answer_to (page_words w) s) was figures f,
+          e ∙ ap (λ (x : Month). words_of (page_in x)) pe ∙ ap (λ (x : Month). words_of (next_of (page_in x) s)) me ∙ sym (add_words (sym (one_number f))),
+        )

@@ -7,7 +7,7 @@ ghost use Rattle.std.specs.Prelude.{◌≡◌, min};
 ghost use Rattle.month_spec.specs.Calls.{start_number, answer_to};
 ghost use Rattle.month.specs.State.{page_in, month_of};
 ghost use Rattle.host_words.specs.Told.{Tells};
-ghost use Rattle.host_month.specs.Words.{channels_in, sums_in, page_words, Fronted, Laid, words_of, start_words, words_after};
+ghost use Rattle.host_month.specs.Words.{channels_in, sums_in, page_words, Fronted, words_of, start_words, words_after};
 
 use month::Month;
 
@@ -15,20 +15,15 @@ use month::Month;
 fn channel_in(word: u64) -> u16
     ensures { result ≡ min word 65535 }
 {
-    if word > 65535 {
-        return 65535;
-    }
-    word as u16
+    u16::try_from(word).unwrap_or(u16::MAX)
 }
 
 fn channels_in(words: &[u64; 226]) -> [u16; 32]
     ensures { result ≡ channels_in words.now }
 {
     let mut channels: [u16; 32] = [0; 32];
-    let mut i: usize = 0;
-    while i < 32 {
+    for i in 0..32 {
         channels[i] = channel_in(words[i]);
-        i += 1;
     }
     channels
 }
@@ -37,11 +32,7 @@ fn sums_in(words: &[u64; 226]) -> [u64; 192]
     ensures { result ≡ sums_in words.now }
 {
     let mut sums: [u64; 192] = [0; 192];
-    let mut k: usize = 0;
-    while k < 192 {
-        sums[k] = words[34 + k];
-        k += 1;
-    }
+    sums.copy_from_slice(&words[34..]);
     sums
 }
 
@@ -59,34 +50,13 @@ fn month_in(words: &[u64; 226]) -> Month
     }
 }
 
-fn wide(channel: u16) -> u64
-    ensures { result ≡ channel }
-{
-    channel as u64
-}
-
 // The channels at the front of the words, and zeros.
 fn fronted(channels: [u16; 32]) -> [u64; 226]
     ensures { Fronted channels result }
 {
     let mut words: [u64; 226] = [0; 226];
-    let mut i: usize = 0;
-    while i < 32 {
-        words[i] = wide(channels[i]);
-        i += 1;
-    }
-    words
-}
-
-// The words with the sums behind the first 34.
-fn laid(front: [u64; 226], sums: [u64; 192]) -> [u64; 226]
-    ensures { Laid front sums result }
-{
-    let mut words: [u64; 226] = front;
-    let mut k: usize = 0;
-    while k < 192 {
-        words[34 + k] = sums[k];
-        k += 1;
+    for i in 0..32 {
+        words[i] = u64::from(channels[i]);
     }
     words
 }
@@ -95,11 +65,10 @@ fn laid(front: [u64; 226], sums: [u64; 192]) -> [u64; 226]
 fn words_of(page: Month) -> [u64; 226]
     ensures { result ≡ words_of (page_in page) }
 {
-    let channels = page.channels;
-    let sums = page.sums;
-    let mut words: [u64; 226] = laid(fronted(channels), sums);
+    let mut words = fronted(page.channels);
     words[32] = page.named as u64;
     words[33] = page.taken as u64;
+    words[34..].copy_from_slice(&page.sums);
     words
 }
 
@@ -108,11 +77,13 @@ pub fn rk_month_start(channels: &[u16], state: &mut [u64; 226]) -> u32
     ensures { (result ≡ start_number channels.now) × (state.new ≡ start_words channels.now state.old) }
 {
     let started = Month::started(channels);
-    if started.answer == 0 {
-        let page = started.page;
-        *state = words_of(page);
+    match started.answer {
+        Ok(()) => {
+            *state = words_of(started.page);
+            0
+        }
+        Err(why) => u32::from(why),
     }
-    started.answer
 }
 
 // One more capture on a page: told are its own figures, six for each place, and the page has
@@ -122,12 +93,12 @@ pub fn rk_month_add(state: &mut [u64; 226], capture: &[u8], told: &mut [u64; 192
         × (state.new ≡ words_after state.old capture.now) }
 {
     let added = month_in(state).added(capture);
-    if added.answer != 0 {
-        return added.answer;
+    match added.answer {
+        Ok(figures) => {
+            *state = words_of(added.page);
+            *told = figures;
+            0
+        }
+        Err(why) => u32::from(why),
     }
-    let page = added.page;
-    let figures = added.figures;
-    *state = words_of(page);
-    *told = figures;
-    0
 }

@@ -7,20 +7,19 @@
 ghost use Rattle.std.specs.Prelude.{ℕ, ◌≡◌, List, length};
 ghost use Rattle.octets.specs.Octets.{Bytes};
 ghost use Rattle.stream_spec.specs.State.{opened};
-ghost use Rattle.stream_spec.specs.Calls.{Feed, Close, leaves, fed_paper};
+ghost use Rattle.stream_spec.specs.Calls.{Feed, Close, leaves};
 ghost use Rattle.terms.specs.Verdicts.{verdict_number};
-ghost use Rattle.stream.specs.Standing.{whole, fed_of};
-ghost use Rattle.stream_clean.specs.Cleaned.{washed_of};
+ghost use Rattle.stream.specs.Standing.{whole};
 ghost use Rattle.host_words.specs.Told.{Tells};
-ghost use Rattle.host_stream_spec.specs.Lent.{waiting_in, word_of, lent, lent_of, stream_in};
-ghost use Rattle.host_stream_spec.specs.Calls.{told_with, kept_beside, call_told, lent_after};
+ghost use Rattle.host_stream_spec.specs.Lent.{waiting_in, lent, lent_of, stream_in};
+ghost use Rattle.host_stream_spec.specs.Calls.{AnsweredBy, row_by, fed_numbers, kept_beside, call_told, lent_after};
 ghost use Rattle.stream_clean_spec.specs.Calls as Clean;
-ghost use Rattle.stream_clean_spec.specs.Calls.{washed_paper};
-ghost use Rattle.host_stream_spec.specs.Washes.{wash_with, wash_told, wash_after};
+ghost use Rattle.host_stream_spec.specs.Washes.{wash_numbers, wash_told, wash_after};
 
 use stream::{Answered, Standing};
-use stream_clean::Cleaned;
+use stream_clean_spec::Sums;
 use stream_spec::{Stream, Tally};
+use terms::Refusal;
 
 // THE STREAM, AS SIX NUMBERS: the place of the first byte that waits, or of the next to come; 1
 // where the search is under way; 1 where the stream is closed; how many bytes wait; how many frames
@@ -32,102 +31,111 @@ fn waiting_in(seeking: u64, closed: u64, waiting: u64) -> usize
     ensures { result ≡ waiting_in seeking closed waiting }
 {
     if (seeking <= 1) & (closed <= 1) {
-        return waiting as usize;
+        waiting as usize
+    } else {
+        8192
     }
-    8192
-}
-
-fn word_of(flag: bool) -> u64
-    ensures { result ≡ word_of flag }
-{
-    if flag { 1 } else { 0 }
-}
-
-// Keeps a stream as its words and bytes.
-fn keep(state: &mut [u64; 6], ledger: &mut [u64; 9], kept: &mut [u8; 8191], next: Stream)
-    ensures { lent state.new ledger.new kept.new ≡ lent_of next }
-{
-    let tally = next.tally;
-    let book = tally.ledger;
-    let held = next.kept;
-    *state = [
-        next.place,
-        word_of(next.seeking),
-        word_of(next.closed),
-        next.len as u64,
-        tally.frames,
-        tally.refused,
-    ];
-    *ledger = host_words::state_of(book);
-    *kept = held;
 }
 
 // How the stream stands that they stand for, sound or not.
 fn standing_in(state: &[u64; 6], ledger: &[u64; 9]) -> Standing
     ensures { (kept : List ℕ) → whole result kept ≡ stream_in (lent state.now ledger.now kept) }
 {
-    let seeking = state[1];
-    let closed = state[2];
-    let tally = Tally {
-        frames: state[4],
-        refused: state[5],
-        ledger: host_words::ledger_in(ledger),
-    };
+    let [place, seeking, closed, waiting, frames, refused] = *state;
     Standing {
-        place: state[0],
+        place,
         seeking: seeking == 1,
         closed: closed == 1,
-        len: waiting_in(seeking, closed, state[3]),
-        tally,
+        len: waiting_in(seeking, closed, waiting),
+        tally: Tally {
+            frames,
+            refused,
+            ledger: host_words::ledger_in(ledger),
+        },
     }
 }
 
 // Keeps how a stream stands as its words.
-fn keep_words(state: &mut [u64; 6], ledger: &mut [u64; 9], next: Standing)
+fn keep(state: &mut [u64; 6], ledger: &mut [u64; 9], next: Standing)
     ensures { (kept : List ℕ) → lent state.new ledger.new kept ≡ lent_of (whole next kept) }
 {
-    let tally = next.tally;
-    let book = tally.ledger;
     *state = [
         next.place,
-        word_of(next.seeking),
-        word_of(next.closed),
+        u64::from(next.seeking),
+        u64::from(next.closed),
         next.len as u64,
-        tally.frames,
-        tally.refused,
+        next.tally.frames,
+        next.tally.refused,
     ];
-    *ledger = host_words::state_of(book);
+    *ledger = host_words::state_of(next.tally.ledger);
 }
 
-// What a call returns: its number; beside 0 the words of the stream after it are kept, and its
-// numbers are the results.
-fn settle(state: &mut [u64; 6], ledger: &mut [u64; 9], told: &mut [u64; 5], done: Answered) -> u32
-    ensures { (kept : List ℕ) → Tells (told_with (fed_paper (fed_of done kept)) (whole done.next kept)) told.old result told.new
-        × (lent state.new ledger.new kept
-        ≡ kept_beside (verdict_number done.answer) (whole done.next kept) (lent state.old ledger.old kept)) }
+// What a call returns: its number; beside 0 the row is told, and the words of the stream after the
+// call are kept.
+fn settle<const N: usize>(
+    state: &mut [u64; 6],
+    ledger: &mut [u64; 9],
+    told: &mut [u64; N],
+    row: Result<[u64; N], Refusal>,
+    next: Standing,
+) -> u32
+    ensures { AnsweredBy row.entry told.old result told.new
+        × ((kept : List ℕ) → lent state.new ledger.new kept ≡ kept_beside (verdict_number row.entry) (whole next kept) (lent state.old ledger.old kept)) }
 {
-    let given = done.answer;
-    let answer = given.number();
-    let next = done.next;
-    if answer == 0 {
-        let tally = next.tally;
-        *told = [
-            done.records as u64,
-            tally.frames,
-            tally.refused,
-            next.place,
-            next.len as u64,
-        ];
-        keep_words(state, ledger, next);
+    match row {
+        Ok(numbers) => {
+            *told = numbers;
+            keep(state, ledger, next);
+            0
+        }
+        Err(why) => u32::from(why),
     }
-    answer
+}
+
+// The results of a call that gives records.
+fn fed_row(done: Answered<usize>) -> Result<[u64; 5], Refusal>
+    ensures { (kept : List ℕ) → result ≡ row_by (fed_numbers (whole done.next kept)) done.answer }
+{
+    let next = done.next;
+    Ok([
+        done.answer? as u64,
+        next.tally.frames,
+        next.tally.refused,
+        next.place,
+        next.len as u64,
+    ])
+}
+
+// The results of a call that cleans.
+fn washed_row(done: Answered<Sums>) -> Result<[u64; 6], Refusal>
+    ensures { (kept : List ℕ) → result ≡ row_by (wash_numbers (whole done.next kept)) done.answer }
+{
+    let sums = done.answer?;
+    Ok([
+        sums.bytes as u64,
+        sums.frames as u64,
+        sums.found as u64,
+        sums.unjudged as u64,
+        done.next.place,
+        done.next.len as u64,
+    ])
 }
 
 // A stream before its first call; its ledger is that of channel 100. Always 0.
 pub fn rk_stream_open(state: &mut [u64; 6], ledger: &mut [u64; 9], kept: &mut [u8; 8191]) -> u32
     ensures { (result ≡ 0) × (lent state.new ledger.new kept.new ≡ lent_of opened) }
 {
-    keep(state, ledger, kept, Stream::opened());
+    let fresh = Stream::opened();
+    let standing = Standing {
+        place: fresh.place,
+        seeking: fresh.seeking,
+        closed: fresh.closed,
+        len: fresh.len,
+        tally: fresh.tally,
+    };
+    let none_waits = fresh.kept;
+    *kept = none_waits;
+    keep(state, ledger, standing);
     0
 }
 
@@ -148,7 +156,7 @@ pub fn rk_stream_feed(
         × Bytes cut.now }
 {
     let done = stream::feed(standing_in(state, ledger), kept, cut, records);
-    settle(state, ledger, told, done)
+    settle(state, ledger, told, fed_row(done), done.next)
 }
 
 // No more bytes come: what remains is walked as the end of a closed capture is. Results as for a
@@ -165,37 +173,7 @@ pub fn rk_stream_close(
         × (records.new ≡ leaves (stream_in (lent state.old ledger.old kept.old)) Close records.old)) }
 {
     let done = stream::close(standing_in(state, ledger), kept, records);
-    settle(state, ledger, told, done)
-}
-
-// What a call that cleans returns: its number; beside 0 the words of the stream after it are kept,
-// and its numbers are the results.
-fn settle_washed(
-    state: &mut [u64; 6],
-    ledger: &mut [u64; 9],
-    told: &mut [u64; 6],
-    done: Cleaned,
-) -> u32
-    ensures { (kept : List ℕ) → Tells (wash_with (washed_paper (washed_of done kept)) (whole done.next kept)) told.old result told.new
-        × (lent state.new ledger.new kept
-        ≡ kept_beside (verdict_number done.answer) (whole done.next kept) (lent state.old ledger.old kept)) }
-{
-    let given = done.answer;
-    let answer = given.number();
-    let next = done.next;
-    let sums = done.sums;
-    if answer == 0 {
-        *told = [
-            sums.bytes as u64,
-            sums.frames as u64,
-            sums.found as u64,
-            sums.unjudged as u64,
-            next.place,
-            next.len as u64,
-        ];
-        keep_words(state, ledger, next);
-    }
-    answer
+    settle(state, ledger, told, fed_row(done), done.next)
 }
 
 // One more cut, perhaps of no bytes: writes the accepted frames that it decides at the front of
@@ -218,7 +196,7 @@ pub fn rk_stream_clean(
         × Bytes cut.now }
 {
     let done = stream_clean::clean_cut(standing_in(state, ledger), kept, cut, out);
-    settle_washed(state, ledger, told, done)
+    settle(state, ledger, told, washed_row(done), done.next)
 }
 
 // No more bytes come: what remains is cleaned as the end of a closed capture is. Results as for a
@@ -235,5 +213,5 @@ pub fn rk_stream_clean_close(
         × (out.new ≡ Clean.leaves (stream_in (lent state.old ledger.old kept.old)) Close out.old)) }
 {
     let done = stream_clean::clean_end(standing_in(state, ledger), kept, out);
-    settle_washed(state, ledger, told, done)
+    settle(state, ledger, told, washed_row(done), done.next)
 }

@@ -1,21 +1,22 @@
 -- What a call of a stream that scrubs answers and tells through the host, and what it leaves; a row
 -- of such calls on a stream that rk_stream_open wrote; and the sentences of what the host then has.
-use Rattle.std.specs.Prelude.{ℕ, ◌≤◌, ◌≡◌, true, List, [], ◌∷◌, ◌++◌, length, get_or, take}
+use Rattle.std.specs.Prelude.{ℕ, ◌≤◌, ◌≡◌, refl, Result, Ok, Err, true, List, [], ◌∷◌, ◌++◌, length, get_or, take}
 use Rattle.std.proofs.Common.{ap, ap₂, ◌∙◌, ne_eqb}
 use Rattle.terms.specs.Paper.{Paper, answer, one_number}
 use Rattle.terms.specs.Verdicts.{verdict_number}
+use Rattle.terms.specs.declared.Refusal.{Refusal}
 use Rattle.octets.specs.Octets.{Bytes}
 use Rattle.walk_spec.specs.Walk.{frames_of}
 use Rattle.clean_spec.specs.Clean.{clean_in, clean_of, found_in, clean_answer}
 use Rattle.stream_spec.specs.declared.Stream.{Stream}
+use Rattle.stream_spec.specs.declared.Fed.{Fed}
 use Rattle.stream_spec.specs.State.{opened, StreamRules}
 use Rattle.stream_spec.specs.Calls.{Call, cut_of, closes}
 use Rattle.stream_spec.specs.Trace.{Calls, none, ◌▸◌}
 use Rattle.stream_spec.specs.Words.{readings}
 use Rattle.stream_clean_spec.specs.declared.Sums.{Sums}
-use Rattle.stream_clean_spec.specs.declared.Washed.{Washed}
 use Rattle.stream_clean_spec.specs.Wash.{no_sums, plus}
-use Rattle.stream_clean_spec.specs.Calls.{counts_in, answer_for, leaves_for, answer_to, next_of, leaves, washed_paper}
+use Rattle.stream_clean_spec.specs.Calls.{counts_in, answer_for, leaves_for, answer_to, next_of, leaves, summed_paper, washed_paper}
 use Rattle.stream_clean_spec.specs.CallLaws.{Promised}
 use Rattle.stream_clean_spec.specs.Trace.{after, taken, ended, unjudged_of}
 use Rattle.host_words.specs.Told.{Tells, retold, both, seen, Refuses, tells_as, tells_kept}
@@ -24,6 +25,9 @@ use Rattle.host_stream_spec.specs.Calls.{kept_beside}
 
 -- TOLD: what this call wrote (bytes, frames, frames found after damage, M101 frames), the place of
 -- the first byte that waits, or of the next to come, and how many bytes wait
+abbrev pub wash_numbers : Stream → Sums → List ℕ
+wash_numbers x s = s.bytes ∷ s.frames ∷ s.found ∷ s.unjudged ∷ x.place ∷ x.len ∷ []
+
 abbrev pub wash_with : Paper → Stream → Paper
 wash_with p next = retold (λ (vs : List ℕ). vs ++ (next.place ∷ next.len ∷ [])) p
 
@@ -75,15 +79,19 @@ pub record HostWashes (calls : Calls) (k : Lent) (has : List ℕ) (sums : Sums) 
 
 -- PROOFS
 
+number_is : (a : Result Sums Refusal) → verdict_number a ≡ (summed_paper a).number
+number_is (Ok s) = refl
+number_is (Err w) = refl
+
 -- the stream's own call, and what is told and kept of it
-pub wash_settled : (k : Lent) (call : Call) (d d' : List ℕ) (f : Washed) (x : Stream) → x ≡ stream_in k → Promised x (closes call) (cut_of call) d d' f
+pub wash_settled : (k : Lent) (call : Call) (d d' : List ℕ) (f : Fed Sums) (x : Stream) → x ≡ stream_in k → Promised x (closes call) (cut_of call) d d' f
     → {was row : List ℕ} {n : ℕ} {k' : Lent} → Tells (wash_with (washed_paper f) f.stream) was n row × (k' ≡ kept_beside (verdict_number f.answer) f.stream k)
     → WashCalled k call was d n k' row d'
 unfolding wash_after
 wash_settled k call d d' f x e p t =
     let paper : washed_paper f ≡ answer_to (stream_in k) call (length d) = p.0 ∙ ap (λ (y : Stream). answer_to y call (length d)) e in
     let next : f.stream ≡ next_of (stream_in k) call (length d) = p.1.0 ∙ ap (λ (y : Stream). next_of y call (length d)) e in
-    (tells_as (ap₂ wash_with paper next) t.0, (t.1 ∙ ap₂ (λ (m : ℕ) (y : Stream). kept_beside m y k) (one_number paper) next, p.1.1 ∙ ap (λ (y : Stream). leaves y call d) e))
+    (tells_as (ap₂ wash_with paper next) t.0, (t.1 ∙ ap₂ (λ (m : ℕ) (y : Stream). kept_beside m y k) (number_is f.answer ∙ one_number paper) next, p.1.1 ∙ ap (λ (y : Stream). leaves y call d) e))
 
 -- a refusal leaves the told row, what is lent and the buffer as they were
 module _ (k : Lent) (call : Call) (was d : List ℕ) (n : ℕ) (k' : Lent) (row d' : List ℕ) (p : WashCalled k call was d n k' row d') (w : Refuses n) where

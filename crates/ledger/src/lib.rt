@@ -3,7 +3,7 @@
 // beside its answer.
 #![tactic(auto)]
 
-ghost use Rattle.std.specs.Prelude.{◌≡◌, true, false, ◌&&◌, not, [], ◌∷◌, ◌+◌, ◌-◌, ◌%◌, ◌≤◌, ◌<◌, min, max, eqb};
+ghost use Rattle.std.specs.Prelude.{◌≡◌, Err, true, false, ◌&&◌, not, [], ◌∷◌, ◌+◌, ◌-◌, ◌%◌, ◌≤◌, ◌<◌, min, max, eqb};
 ghost use Rattle.terms.specs.Paper.{answer};
 ghost use Rattle.terms.specs.Verdicts.{verdict_number};
 ghost use Rattle.tick_map.specs.Bits.{is_set, bits_in};
@@ -73,7 +73,7 @@ const LAST_CHANNEL: u16 = 9_999;
 fn reply_status(s: u8) -> bool
     ensures { result ≡ reply_status s }
 {
-    (1 <= s && s <= 5) || s == 99
+    matches!(s, 1..=5 | 99)
 }
 
 // Whether the map, read round from `from`, keeps the state rules, where `known` numbers lie above
@@ -86,13 +86,7 @@ fn map_sound(map: Map, from: u64, known: u64) -> bool
     if 256 <= known {
         return !map.holds(from % 256);
     }
-    if map.empty() {
-        return true;
-    }
-    if known == 0 {
-        return false;
-    }
-    map.none_but(from % 256, known - 1)
+    map.empty() || (known != 0 && map.none_but(from % 256, known - 1))
 }
 
 // A number of 1 to 18 digits.
@@ -393,6 +387,16 @@ impl Ledger {
         }
     }
 
+    // A refused call gives back the very ledger.
+    fn refused<T>(self, why: Refusal) -> Called<T>
+        ensures { result ≡ record { next = self; answer = Err why } }
+    {
+        Called {
+            next: self,
+            answer: Err(why),
+        }
+    }
+
     // The top raised to n, if it was lower.
     fn raised(mut self, n: TickNumber) -> Ledger
         ensures { result ≡ topped self (max self.top.0 n.0) }
@@ -476,10 +480,7 @@ impl Ledger {
                 next: self.raised(last),
                 answer: Ok(()),
             },
-            Err(why) => Called {
-                next: self,
-                answer: Err(why),
-            },
+            Err(why) => self.refused(why),
         }
     }
 
@@ -505,10 +506,7 @@ impl Ledger {
     {
         match self.request_verdict(channel) {
             Ok(()) => Sound { ledger: self }.granted(),
-            Err(why) => Called {
-                next: self,
-                answer: Err(why),
-            },
+            Err(why) => self.refused(why),
         }
     }
 
@@ -552,10 +550,7 @@ impl Ledger {
     {
         match self.reply_verdict(channel, first, status) {
             Ok(()) => Sound { ledger: self }.replied(self.reach(status)),
-            Err(why) => Called {
-                next: self,
-                answer: Err(why),
-            },
+            Err(why) => self.refused(why),
         }
     }
 
@@ -567,10 +562,7 @@ impl Ledger {
             × (result.next ≡ next_in self Renew) }
     {
         if !self.sound() {
-            return Called {
-                next: self,
-                answer: Err(Refusal::State),
-            };
+            return self.refused(Refusal::State);
         }
         Called {
             next: self.waiting(None),
@@ -585,10 +577,7 @@ impl Ledger {
             × (result.next ≡ next_in self (Ask Missing)) }
     {
         if !self.sound() {
-            return Called {
-                next: self,
-                answer: Err(Refusal::State),
-            };
+            return self.refused(Refusal::State);
         }
         let known = self.top.value() - self.floor.value();
         Called {
@@ -604,10 +593,7 @@ impl Ledger {
             × (result.next ≡ next_in self (Ask Held)) }
     {
         if !self.sound() {
-            return Called {
-                next: self,
-                answer: Err(Refusal::State),
-            };
+            return self.refused(Refusal::State);
         }
         Called {
             next: self,
@@ -643,12 +629,12 @@ impl Ledger {
         ensures { (count_paper result.answer ≡ answer_to (book_of self) (Ask (Between channel.0 a.0 b.0)))
             × (result.next ≡ next_in self (Ask (Between channel.0 a.0 b.0))) }
     {
-        Called {
-            next: self,
-            answer: match self.span_verdict(channel, a, b) {
-                Ok(()) => Ok(Sound { ledger: self }.between(a.value(), b.value())),
-                Err(why) => Err(why),
+        match self.span_verdict(channel, a, b) {
+            Ok(()) => Called {
+                next: self,
+                answer: Ok(Sound { ledger: self }.between(a.value(), b.value())),
             },
+            Err(why) => self.refused(why),
         }
     }
 }

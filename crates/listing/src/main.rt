@@ -8,9 +8,10 @@ ghost use Rattle.listing_text.specs.Listed.{listed_of};
 ghost use Rattle.listing.specs.LastLine.{last_by};
 ghost use Rattle.listing_text.specs.Output.{output_of};
 
+use ledger::Ledger;
 use listing_text::Summary;
 use std::io::{self, Read, Write};
-use walk::Walked;
+use walk::Counts;
 
 // The largest capture that is taken. One byte more is read, which tells a capture that is too long.
 const MOST: usize = 65536;
@@ -22,19 +23,15 @@ const RECORDS: usize = 289280;
 const TEXT: usize = 574178;
 
 // The last line's numbers: the walk's counts, and what its ledger says in the end.
-fn last_of(walked: Walked) -> Summary
-    ensures { result ≡ last_by walked }
+fn last_of(counts: Counts, ledger: Ledger) -> Summary
+    ensures { result ≡ last_by counts ledger }
 {
-    let ledger = walked.ledger;
-    let counted = ledger.missing();
-    let floor = ledger.floor;
-    let top = ledger.top;
     Summary {
-        frames: walked.frames as u64,
-        refused: walked.refused as u64,
-        floor,
-        top,
-        missing: counted.count,
+        frames: counts.frames as u64,
+        refused: counts.refused as u64,
+        floor: ledger.floor,
+        top: ledger.top,
+        missing: ledger.missing().answer.unwrap_or(0),
     }
 }
 
@@ -44,11 +41,9 @@ fn list(capture: &[u8], records: &mut [u8], text: &mut [u8]) -> usize
     ensures { Stored 0 (listed_of capture.now) text.old text.new result }
 {
     let walked = walk::walk(capture, records);
-    let n = 64 * walked.records;
-    match listing_text::put_listing(text, &records[..n], last_of(walked)) {
-        Err(_) => 0,
-        Ok(e) => e,
-    }
+    let counts = walked.answer.unwrap();
+    let last = last_of(counts, walked.ledger);
+    listing_text::put_listing(text, &records[..64 * counts.records], last).unwrap()
 }
 
 // Writes what is to be printed for an input over the front of text, and returns the place after it.
@@ -58,7 +53,7 @@ fn output(input: &[u8], records: &mut [u8], text: &mut [u8]) -> usize
 {
     if MOST < input.len() {
         let said = b"capture over 65536 bytes\n";
-        octets::lay(text, 0, said);
+        text[..said.len()].copy_from_slice(said);
         return said.len();
     }
     list(input, records, text)
@@ -68,7 +63,7 @@ fn output(input: &[u8], records: &mut [u8], text: &mut [u8]) -> usize
 fn main(rt: HostRuntime) -> io::Result<()> {
     let alloc = rt.alloc();
     let mut input = Vec::new(alloc);
-    rt.stdin().take(65537).read_to_end(&mut input)?;
+    rt.stdin().take(MOST as u64 + 1).read_to_end(&mut input)?;
     let mut records = Vec::from_elem(alloc, 0u8, RECORDS)?;
     let mut text = Vec::from_elem(alloc, 0u8, TEXT)?;
     let e = output(&input, &mut records, &mut text);

@@ -29,8 +29,8 @@ use Rattle.market.proofs.check.Reads as check
 use Rattle.market.proofs.check.Kinds as check-kinds
 
 -- FAULTS: a fault, and CR 10's number
-abbrev pub fault_number_wrong : List (Row Fault ℕ)
-fault_number_wrong =
+abbrev pub U64FromFault_from_wrong : List (Row Fault ℕ)
+U64FromFault_from_wrong =
     CutShort only 40  -- not counted from 0
     ∷ Header never 40  -- two faults with one number
     ∷ Sum only 46  -- not 45 or 47, which are others'
@@ -38,8 +38,8 @@ fault_number_wrong =
     ∷ Room only 8  -- not counted on behind 47
     ∷ []
 
-pub Fault_number_rules_out : RulesOut (Kept _ number-kinds.ps number-kinds.r number.Post) (λ c. c.args.0) (λ c. c.result) fault_number_wrong
-Fault_number_rules_out = ruled numbers fault_number (λ c p. p) _ refl
+pub U64FromFault_from_rules_out : RulesOut (Kept _ number-kinds.ps number-kinds.r number.Post) (λ c. c.args.0) (λ c. c.result) U64FromFault_from_wrong
+U64FromFault_from_rules_out = ruled numbers fault_number (λ c p. p) _ refl
 
 -- DUE: a row and the row behind its layout
 abbrev pub due_wrong : List (Row (ℕ × ℕ) ℕ)
@@ -78,7 +78,7 @@ rows_of_wrong =
 
 pub rows_of_rules_out : RulesOut (Kept _ rows-of-kinds.ps rows-of-kinds.r rows_of_lem.Post) (λ c. line_number c.args.0) (λ c. c.result.first ∷ c.result.last ∷ []) rows_of_wrong
 rows_of_rules_out =
-    ruled lists (λ (t : ℕ). first_of t ∷ last_of t ∷ []) (λ c p. ap₂ (λ (f : ℕ) (l : ℕ). f ∷ l ∷ []) p.1.1.0 p.1.1.1) _ refl
+    ruled lists (λ (t : ℕ). first_of t ∷ last_of t ∷ []) (λ c p. ap₂ (λ (f : ℕ) (l : ℕ). f ∷ l ∷ []) p.1.0 p.1.1) _ refl
 
 -- CHECK: files
 abbrev empty : List ℕ

@@ -68,11 +68,12 @@ pub enum Start {
     Other,
 }
 
-// The rows of a layout: from first up to last.
+// The rows of a layout: from first up to last, of the 58 that there are.
 #[derive(Clone, Copy, Debug, PartialEq, Eq)]
 pub struct Rows {
     pub first: usize,
     pub last: usize,
+    ghost within: { last ≤ 58 },
 }
 
 // The rows of the header.
@@ -80,7 +81,7 @@ pub const HEADER: Rows = Rows { first: 0, last: 9 };
 
 // The rows of a line's type.
 pub fn rows_of(line: LineType) -> Rows
-    ensures { (columns result.first result.last ≡ layout_of (line_number line)) × ((result.last ≤ 58) × ((result.first ≡ first_of (line_number line)) × (result.last ≡ last_of (line_number line)))) }
+    ensures { (columns result.first result.last ≡ layout_of (line_number line)) × ((result.first ≡ first_of (line_number line)) × (result.last ≡ last_of (line_number line))) }
 {
     let (first, last) = match line {
         LineType::Md401 => (9, 26),
@@ -105,7 +106,7 @@ pub fn due(i: usize, last: usize) -> u8
 // The columns of some rows, in s from at on: the place behind them, or the first fault, which is
 // the given one where a column or the byte behind it is wrong.
 fn line_at(s: &[u8], at: usize, rows: Rows, fault: Fault) -> Result<usize, Wrong>
-    requires { (at ≤ length s.now) × (rows.last ≤ 58) }
+    requires { at ≤ length s.now }
     ensures { verdict_paper result ≡ line_fault (fault_number fault) (columns rows.first rows.last) at s.now }
 {
     let cut = Wrong {

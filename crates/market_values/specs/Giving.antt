@@ -1,12 +1,12 @@
 -- How values are taken out of a line and of a file, a turn of each loop at a time.
-use Rattle.std.specs.Prelude.{ℕ, zero, suc, ◌+◌, ◌-◌, ◌≤◌, ◌<◌, ◌≡◌, true, false, ◌&&◌, leb, eqb, take, drop, set}
+use Rattle.std.specs.Prelude.{ℕ, zero, suc, ◌+◌, ◌-◌, ◌≤◌, ◌<◌, ◌≡◌, true, false, ◌&&◌, leb, take, drop, set}
 use Rattle.std.proofs.Math.Path.{refl, sym, ap}
 use Rattle.std.proofs.Common.{◌∙◌, ⊎_elim, arith, add_assoc, lit≤, length-set, drop-drop, le-leb, ne_eqb}
 use mathlib.Core.List.{List, [], ◌∷◌, ◌++◌}
 use Rattle.std.proofs.Math.ListN.{length, length-append}
 use Rattle.std.proofs.lemmas.Bool.{lt-leb}
 use Rattle.terms.specs.Paper.{Paper}
-use Rattle.terms.specs.Cases.{two, same, clash}
+use Rattle.terms.specs.Cases.{same, clash}
 use Rattle.digits.specs.Digits.{nothing}
 use Rattle.octets.specs.Octets.{bytes_of, laid, sum8}
 use Rattle.octets.specs.Numerals.{length_digits}

@@ -1,11 +1,10 @@
 -- How a file is written from values, a turn of each loop at a time: judged first, then laid.
-use Rattle.std.specs.Prelude.{Result, Ok, Err, ℕ, suc, ◌+◌, ◌-◌, ◌*◌, ◌≤◌, ◌<◌, ◌≡◌, refl, true, false, List, [], ◌∷◌, ◌++◌, eqb, get_or, take, drop, set, replicate}
+use Rattle.std.specs.Prelude.{Result, Ok, Err, ℕ, suc, ◌+◌, ◌-◌, ◌*◌, ◌≤◌, ◌<◌, ◌≡◌, refl, true, List, [], ◌∷◌, ◌++◌, get_or, take, drop, set, replicate}
 use Rattle.std.proofs.Math.Path.{sym}
-use Rattle.std.proofs.Common.{ap, ◌∙◌, ⊎_elim, append_assoc, append-nil, arith, add-zero, zero-add, add_assoc, lit≤, length-append, drop_of_length-le, drop-drop, drop_at, take-take, get_or-take, length-take-le, le-leb, le-ltb, ne_eqb}
+use Rattle.std.proofs.Common.{ap, ◌∙◌, append_assoc, append-nil, arith, add-zero, zero-add, add_assoc, lit≤, length-append, drop_of_length-le, drop-drop, drop_at, take-take, get_or-take, length-take-le, le-leb, le-ltb, ne_eqb}
 use Rattle.std.proofs.Math.ListN.{length}
 use Rattle.std.proofs.lemmas.List.{length-replicate}
 use Rattle.terms.specs.Paper.{Paper, answer}
-use Rattle.terms.specs.Cases.{two}
 use Rattle.octets.specs.Octets.{be, bytes_of, laid, sum8}
 use Rattle.octets.specs.Numerals.{length_digits, numeral_take}
 use Rattle.octets.specs.Overlays.{laid_append, length_laid, laid_one, laid_nil, laid_front, laid_next, take_front}

@@ -100,7 +100,7 @@ fn put_column(out: &mut [u8], at: usize, s: &[u8], p: usize, i: usize)
 // The values of some rows, in s from a place on: the place behind them, or the first that is cut
 // short or does not fit.
 fn values_fit(s: &[u8], at: usize, rows: Rows) -> Result<usize, Wrong>
-    requires { (at ≤ length s.now) × (rows.last ≤ 58) }
+    requires { at ≤ length s.now }
     ensures { verdict_paper result ≡ taken_fault (columns rows.first rows.last) at s.now }
 {
     let mut p = at;
@@ -126,7 +126,7 @@ fn values_fit(s: &[u8], at: usize, rows: Rows) -> Result<usize, Wrong>
 // Lays the line of some rows over out from at on, made of the values that stand in s from `from`
 // on, all of which fit.
 fn put_line(out: &mut [u8], at: usize, s: &[u8], from: usize, rows: Rows)
-    requires { (rows.last ≤ 58) × ((at + length_of (columns rows.first rows.last) ≤ length out.old) × AllFit (columns rows.first rows.last) from s.now) }
+    requires { (at + length_of (columns rows.first rows.last) ≤ length out.old) × AllFit (columns rows.first rows.last) from s.now }
     ensures { out.new ≡ laid at (line_text (columns rows.first rows.last) (taken_line (columns rows.first rows.last) (drop from s.now))) out.old }
 {
     let mut a = at;
@@ -173,7 +173,7 @@ fn give_column(out: &mut [u8], at: usize, s: &[u8], p: usize, i: usize)
 // Lays the values of some rows, a line of s from a place on with nothing wrong, over out from at
 // on.
 fn give_line(out: &mut [u8], at: usize, s: &[u8], from: usize, rows: Rows)
-    requires { (rows.last ≤ 58) × ((at + sizes_of (columns rows.first rows.last) ≤ length out.old) × Right (columns rows.first rows.last) from s.now) }
+    requires { (at + sizes_of (columns rows.first rows.last) ≤ length out.old) × Right (columns rows.first rows.last) from s.now }
     ensures { out.new ≡ laid at (row_bytes (line_values (columns rows.first rows.last) (drop from s.now))) out.old }
 {
     let mut a = at;
@@ -185,27 +185,23 @@ fn give_line(out: &mut [u8], at: usize, s: &[u8], from: usize, rows: Rows)
     }
 }
 
-// The bytes of a line of a type, and those of its values with the type's own two.
-fn line_long(line: LineType) -> usize
-    ensures { (result ≡ length_of (layout_of (line_number line))) × (result ≤ 227) }
-{
-    match line {
-        LineType::Md401 => 227,
-        LineType::Md404 => 128,
-        LineType::Md405 => 125,
-        LineType::Md406 => 149,
-    }
+// How many bytes a line has, and its values with the two of its type.
+#[derive(Clone, Copy, Debug, PartialEq, Eq)]
+struct Sizes {
+    text: usize,
+    values: usize,
 }
 
-fn line_size(line: LineType) -> usize
-    ensures { (result ≡ 2 + sizes_of (layout_of (line_number line))) × (result ≤ 173) }
+fn line_sizes(line: LineType) -> Sizes
+    ensures { ((result.text ≡ length_of (layout_of (line_number line))) × (result.text ≤ 227)) × ((result.values ≡ 2 + sizes_of (layout_of (line_number line))) × (result.values ≤ 173)) }
 {
-    match line {
-        LineType::Md401 => 173,
-        LineType::Md404 => 109,
-        LineType::Md405 => 103,
-        LineType::Md406 => 121,
-    }
+    let (text, values) = match line {
+        LineType::Md401 => (227, 173),
+        LineType::Md404 => (128, 109),
+        LineType::Md405 => (125, 103),
+        LineType::Md406 => (149, 121),
+    };
+    Sizes { text, values }
 }
 
 // The number of a line's type, and the type of a number.
@@ -240,8 +236,9 @@ fn values_size(s: &[u8]) -> usize
     let mut p: usize = 82;
     let mut n: usize = 38;
     while let Start::Line(line) = market::line_type(s, p) {
-        n += line_size(line);
-        p += line_long(line);
+        let sizes = line_sizes(line);
+        n += sizes.values;
+        p += sizes.text;
     }
     n
 }
@@ -256,8 +253,9 @@ fn give_lines(out: &mut [u8], s: &[u8])
     while let Start::Line(line) = market::line_type(s, p) {
         let _ = octets::put(out, a, 2, type_number(line));
         give_line(out, a + 2, s, p, market::rows_of(line));
-        a += line_size(line);
-        p += line_long(line);
+        let sizes = line_sizes(line);
+        a += sizes.values;
+        p += sizes.text;
     }
 }
 
@@ -318,7 +316,7 @@ fn judge_lines(s: &[u8]) -> Result<Good, Wrong>
             });
         };
         p = values_fit(s, p + 2, market::rows_of(line))?;
-        size += line_long(line);
+        size += line_sizes(line).text;
         lines += 1;
     }
     Ok(Good { size, lines })
@@ -355,8 +353,9 @@ fn put_lines(out: &mut [u8], s: &[u8])
             return;
         };
         put_line(out, a, s, p + 2, market::rows_of(line));
-        a += line_long(line);
-        p += line_size(line);
+        let sizes = line_sizes(line);
+        a += sizes.text;
+        p += sizes.values;
     }
 }
 

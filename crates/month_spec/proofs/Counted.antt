@@ -1,7 +1,7 @@
 -- What the figures are: told from the readings alone; those of a scrubbed capture; and for channel
 -- 100 those of the walk. Assumes nothing.
-use Prim.Native.Nat.{ℕ, zero, suc, ◌+◌, ◌≤◌}
-use mathlib.Core.Path.{◌≡◌, refl, sym, ap, ap₂, ◌∙◌}
+use Prim.Native.Nat.{ℕ, ◌≤◌}
+use mathlib.Core.Path.{◌≡◌, refl, sym, ap, ◌∙◌}
 use mathlib.Core.Bool.{Bool, true, false}
 use mathlib.Core.Logic.{⊎_elim}
 use mathlib.Core.List.{List, [], ◌∷◌}
@@ -11,24 +11,20 @@ use Rattle.terms.specs.Paper.{answer, pick}
 use Rattle.rules.specs.Table.{kind_of}
 use Rattle.rules.specs.declared.Kind.{Kind}
 use Rattle.rules.specs.declared.Kind.TheVariants.{S001, S002, S003, P001, P002, M101, M102, M201, Unknown}
-use Rattle.ledger_spec.specs.State.{Book}
 use Rattle.ledger_spec.specs.Calls.{Tick, Announce, Ask, Missing, answer_to}
 use Rattle.ledger_spec.specs.Trace.{Calls, none, after, trace}
-use Rattle.ledger_spec.specs.Words.{answered, one, ticks, ticks_taken, count, missing, known_top, received}
-use Rattle.ledger_spec.proofs.Rows.{count_ext}
+use Rattle.ledger_spec.specs.Words.{answered, one, ticks, ticks_taken, count, known_top, received}
 use Rattle.ledger_spec.proofs.Agree.{agrees}
 use Rattle.ledger_spec.proofs.Demand3.{demand_3}
 use Rattle.reading.specs.declared.Seen.{Seen}
 use Rattle.reading.specs.Seen.{seen_number}
 use Rattle.walk_spec.specs.Offers.{calls_for, calls_by}
 use Rattle.walk_spec.specs.OfferLaws.{calls_refused, calls_of_lem}
-use Rattle.walk_spec.specs.Walk.{sights, walk_of, added, calls_of}
-use Rattle.walk_spec.specs.CallLaws.{brought, walk_ledger}
-use Rattle.walk_spec.proofs.CallLaws.{walk_received}
+use Rattle.walk_spec.specs.Walk.{sights, added, calls_of}
 use Rattle.clean_spec.specs.Clean.{clean_of}
 use Rattle.clean_spec.specs.Laws.{clean_reads}
 use Rattle.clean_spec.specs.Figures.{reads, calls_made, calls_reads}
-use Rattle.month_spec.specs.Figures.{ticks_answered, Figures, figures_from, figures_of, figures_by, reads_in}
+use Rattle.month_spec.specs.Figures.{ticks_answered, figures_from, figures_of, figures_by, reads_in}
 
 -- THE READINGS ALONE
 

@@ -1,19 +1,17 @@
 -- Each number of a call that adds a capture is given exactly when the papers say so; a refusal
 -- changes nothing; and no call breaks the state rules. Assumes nothing.
 use Prim.Native.Nat.{ℕ, ◌+◌, ◌*◌, ◌/◌, ◌%◌, ◌≤◌, ◌<◌}
-use mathlib.Core.Path.{◌≡◌, refl, sym, ap, ap₂, ◌∙◌}
-use mathlib.Core.Bool.{Bool, true, false, not}
-use mathlib.Core.Logic.{◌⊎◌, inl, inr, ⊎_elim, ◌↔◌}
+use mathlib.Core.Path.{◌≡◌, ap₂, ◌∙◌}
+use mathlib.Core.Bool.{Bool, true, false}
+use mathlib.Core.Logic.{⊎_elim, ◌↔◌}
 use mathlib.Core.List.{List}
 use native.Mathlib.Omega.{arith}
-use lib.Dec.{eqb, leb, ltb}
-use lib.ListN.{length, get_or}
+use lib.ListN.{get_or}
 use borrow.Author.Tests.{eq-eqb, ne_eqb, le-leb, leb-true, leb-false, lt-leb, lt-ltb, le-ltb}
 use Rattle.terms.specs.Cases.{two, less, same, clash}
-use Rattle.terms.specs.Paper.{pick}
 use Rattle.month_spec.specs.Figures.{figure_of}
-use Rattle.month_spec.specs.Page.{Page, captures, places, figures_in_all, highest, tabled, all_below, sound_of, PageRules}
-use Rattle.month_spec.specs.Calls.{figure_at, sum_fits, number_to, figures_told, nothing_told, answer_to, counted, next_of}
+use Rattle.month_spec.specs.Page.{Page, captures, figures_in_all, highest, all_below, sound_of, PageRules}
+use Rattle.month_spec.specs.Calls.{figure_at, sum_fits, number_to, counted, next_of}
 use Rattle.month_spec.specs.Given.{Given27, Given28, Given0}
 use Rattle.month_spec.proofs.Lists.{length_tabled, get_d_tabled, all_each, all_made, all_broken, Breaks, not_all}
 use Rattle.month_spec.proofs.Rules.{rules_facts, rules_test}

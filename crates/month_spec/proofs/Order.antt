@@ -1,19 +1,17 @@
 -- After every row of captures each sum is that of the captures answered 0; and the captures in
 -- another order give the same page, with none refused. Assumes nothing.
-use Prim.Native.Nat.{ℕ, suc, ◌+◌, ◌*◌, ◌≤◌, ◌<◌}
+use Prim.Native.Nat.{ℕ, ◌+◌, ◌*◌, ◌≤◌, ◌<◌}
 use mathlib.Core.Path.{◌≡◌, refl, sym, ap, ap₂, ◌∙◌}
 use mathlib.Core.Logic.{⊎_elim}
 use mathlib.Core.List.{List, [], ◌∷◌}
 use native.Mathlib.Omega.{arith}
-use lib.Dec.{eqb}
 use lib.ListN.{length, get_or}
 use borrow.Author.Tests.{eq-eqb, ne_eqb}
 use Rattle.terms.specs.Cases.{same}
-use Rattle.terms.specs.Paper.{pick}
 use Rattle.month_spec.specs.Figures.{figure_of}
-use Rattle.month_spec.specs.Page.{Page, captures, places, figures_in_all, highest, tabled, PageRules}
+use Rattle.month_spec.specs.Page.{Page, captures, figures_in_all, highest, PageRules}
 use Rattle.month_spec.specs.Calls.{figure_at, number_to, counted, next_of}
-use Rattle.month_spec.specs.Trace.{Capture, page_after, answered_zero, sum_over, Unrefused, u_none, u_more, Reordered, r_none, r_more, r_swap, r_then}
+use Rattle.month_spec.specs.Trace.{Capture, page_after, answered_zero, sum_over, Unrefused, u_more, Reordered, r_none, r_more, r_swap, r_then}
 use Rattle.month_spec.specs.Given.{Given0}
 use Rattle.month_spec.proofs.Lists.{get_d_tabled, tabled_same}
 use Rattle.month_spec.proofs.Given.{figure_named, next_done, page_stays, sum_next, rules_kept, given_0}

@@ -1,20 +1,18 @@
 -- The state rules as a test say the facts; and a named place is found by its channel. Assumes
 -- nothing.
-use Prim.Native.Nat.{ℕ, ◌+◌, ◌*◌, ◌≤◌, ◌<◌}
-use mathlib.Core.Path.{◌≡◌, refl, sym, ap, ◌∙◌}
-use mathlib.Core.Bool.{Bool, true, false, ◌&&◌, not}
+use Prim.Native.Nat.{ℕ, ◌*◌, ◌≤◌, ◌<◌}
+use mathlib.Core.Path.{◌≡◌, sym}
+use mathlib.Core.Bool.{true, ◌&&◌}
 use mathlib.Core.Logic.{⊎_elim, ◌↔◌}
 use mathlib.Core.List.{List}
 use native.Mathlib.Omega.{arith}
-use lib.Dec.{eqb, leb, ltb}
-use lib.ListN.{length, get_or}
+use lib.Dec.{eqb, leb}
+use lib.ListN.{get_or}
 use borrow.Author.Tests.{eq-eqb, ne_eqb, eqb-true, le-leb, leb-true, lt-ltb, le-ltb}
 use Rattle.terms.specs.Cases.{less, clash}
 use Rattle.terms.specs.RuledOut.{split}
-use Rattle.terms.specs.Paper.{pick}
-use Rattle.channels_spec.specs.Table.{least}
 use Rattle.channels_spec.proofs.Least.{least_is, least_none, least_all, least_top}
-use Rattle.month_spec.specs.Page.{Page, captures, places, figures_in_all, all_below, place_in, place_right, sum_right, channels_right, sums_right, sound_of, PageRules}
+use Rattle.month_spec.specs.Page.{Page, places, figures_in_all, place_in, place_right, sum_right, channels_right, sums_right, sound_of, PageRules}
 use Rattle.month_spec.proofs.Lists.{all_each, all_made}
 
 -- ONE PLACE

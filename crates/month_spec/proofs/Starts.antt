@@ -1,22 +1,22 @@
 -- Starting a page: each channel is judged by CR 3's opening over the channels named before it; the
 -- first that is refused answers. Assumes nothing.
-use Prim.Native.Nat.{ℕ, zero, suc, ◌+◌, ◌*◌, ◌≤◌, ◌<◌}
-use mathlib.Core.Path.{◌≡◌, refl, sym, ap, ap₂, ◌∙◌}
-use mathlib.Core.Bool.{Bool, true, false, not}
+use Prim.Native.Nat.{ℕ, zero, suc, ◌+◌, ◌≤◌, ◌<◌}
+use mathlib.Core.Path.{◌≡◌, refl, sym, ap, ◌∙◌}
+use mathlib.Core.Bool.{Bool, true, false}
 use mathlib.Core.Logic.{◌⊎◌, inl, inr, ⊎_elim, ◌↔◌}
 use mathlib.Core.List.{List, [], ◌∷◌, ◌++◌, append_assoc, append-nil}
 use native.Mathlib.Omega.{arith}
-use lib.Dec.{eqb, leb, ltb}
+use lib.Dec.{eqb, ltb}
 use lib.ListN.{length, get_or, length-append, get_or-append}
 use lib.Seq.{get_or-append_seam}
-use borrow.Author.Tests.{eq-eqb, ne_eqb, eqb-true, le-leb, lt-ltb, le-ltb, ltb-true, ltb-false}
+use borrow.Author.Tests.{eq-eqb, ne_eqb, eqb-true, lt-ltb, le-ltb, ltb-true}
 use Rattle.terms.specs.Cases.{two, less, same, clash}
 use Rattle.terms.specs.Paper.{pick}
 use Rattle.ledger_spec.specs.Calls.{fresh}
-use Rattle.channels_spec.specs.Table.{Place, free, holds, Table, least, is_for, is_free, place_of, free_place, is_open}
+use Rattle.channels_spec.specs.Table.{Place, least, is_for, is_free, place_of, free_place, is_open}
 use Rattle.channels_spec.specs.Calls.{opening_number}
-use Rattle.channels_spec.proofs.Least.{Lowest, least_is, least_none, least_all, least_at, least_low, least_top}
-use Rattle.month_spec.specs.Page.{Page, captures, places, figures_in_all, tabled, page_of, PageRules}
+use Rattle.channels_spec.proofs.Least.{least_is, least_all, least_at, least_low}
+use Rattle.month_spec.specs.Page.{places, figures_in_all, tabled, page_of, PageRules}
 use Rattle.month_spec.specs.Calls.{table_naming, naming_number, start_from, start_number, start_page}
 use Rattle.month_spec.specs.Given.{Names, First, Among, Given10, Given22, Given21}
 use Rattle.month_spec.proofs.Lists.{length_tabled, get_d_tabled}

@@ -1,21 +1,21 @@
 -- One more accepted frame: what it adds to the calls and to each figure of a channel. A frame of
 -- another channel adds nothing. Assumes nothing.
 use Prim.Native.Nat.{ℕ, ◌+◌, ◌≤◌}
-use mathlib.Core.Path.{◌≡◌, refl, sym, ap, ap₂, ◌∙◌}
+use mathlib.Core.Path.{◌≡◌, refl, ap, ◌∙◌}
 use mathlib.Core.Bool.{Bool, true, false, ◌&&◌}
 use mathlib.Core.List.{List, [], ◌∷◌, ◌++◌}
 use native.Mathlib.Omega.{arith}
 use lib.Dec.{eqb}
 use lib.ListN.{length}
 use borrow.Author.Tests.{ne_eqb}
-use Rattle.terms.specs.Paper.{Paper, answer, pick, one_number}
+use Rattle.terms.specs.Paper.{Paper, pick, one_number}
 use Rattle.terms.specs.Cases.{and_false}
 use Rattle.rules.specs.Table.{kind_of}
 use Rattle.rules.specs.declared.Kind.{Kind}
 use Rattle.rules.specs.declared.Kind.TheVariants.{S001, S002, S003, P001, P002, M101, M102, M201, Unknown}
 use Rattle.ledger_spec.specs.State.{Book}
 use Rattle.ledger_spec.specs.Calls.{Call, Tick, Announce, answer_to, next_of, number_to}
-use Rattle.ledger_spec.specs.Trace.{Calls, none, ◌▸◌, after, trace}
+use Rattle.ledger_spec.specs.Trace.{Calls, after, trace}
 use Rattle.ledger_spec.specs.Words.{answered, one, ticks}
 use Rattle.ledger_spec.specs.Answers.{Elsewhere}
 use Rattle.ledger_spec.proofs.Answers.{answers, keeps}
@@ -25,7 +25,7 @@ use Rattle.walk_spec.specs.Offers as offers
 use Rattle.walk_spec.specs.Offers.{calls_for, calls_by, offer_of}
 use Rattle.walk_spec.specs.OfferLaws.{calls_of_lem}
 use Rattle.walk_spec.specs.Walk.{added}
-use Rattle.walk_spec.specs.CallLaws.{is_tick, book_added}
+use Rattle.walk_spec.specs.CallLaws.{is_tick}
 use Rattle.clean_spec.specs.Figures.{calls_made}
 use Rattle.month_spec.specs.Figures.{ticks_answered, is_resend, resends, resent}
 

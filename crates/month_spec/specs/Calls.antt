@@ -1,7 +1,7 @@
 -- The page's calls in the papers' numbers: what starting and adding a capture are answered, and the
 -- page after them. Document 02, request 11.
-use Rattle.std.specs.Prelude.{ℕ, ◌+◌, ◌*◌, ◌/◌, ◌%◌, Bool, ◌&&◌, not, List, [], ◌∷◌, ◌++◌, eqb, leb, ltb, length, get_or}
-use Rattle.terms.specs.Paper.{Paper, answer, refusal, pick}
+use Rattle.std.specs.Prelude.{ℕ, ◌+◌, ◌*◌, ◌/◌, ◌%◌, Bool, not, List, [], ◌∷◌, ◌++◌, eqb, leb, ltb, length, get_or}
+use Rattle.terms.specs.Paper.{Paper, answer, pick}
 use Rattle.ledger_spec.specs.Calls.{fresh}
 use Rattle.channels_spec.specs.Table.{free, holds, Table}
 use Rattle.channels_spec.specs.Calls.{opening_number}

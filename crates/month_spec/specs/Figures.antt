@@ -3,7 +3,7 @@
 -- A call that names another channel is answered 18 there and changes nothing, so one list of calls
 -- serves every channel. P002 frames make no call, and are counted themselves.
 use Rattle.std.specs.Prelude.{ℕ, ◌+◌, Bool, true, false, ◌&&◌, List, [], ◌∷◌, eqb, get_or}
-use Rattle.terms.specs.Paper.{Paper, answer, pick}
+use Rattle.terms.specs.Paper.{answer, pick}
 use Rattle.rules.specs.Table.{kind_of}
 use Rattle.rules.specs.declared.Kind.{Kind}
 use Rattle.rules.specs.declared.Kind.TheVariants.{S001, S002, S003, P001, P002, M101, M102, M201, Unknown}

@@ -1,6 +1,6 @@
 -- The conditions under which each number is given, in the papers' words. proofs/Given.antt proves
 -- each both ways.
-use Rattle.std.specs.Prelude.{ℕ, ◌+◌, ◌*◌, ◌≤◌, ◌<◌, ◌≡◌, List, [], ◌∷◌, ◌++◌, length, get_or}
+use Rattle.std.specs.Prelude.{ℕ, ◌+◌, ◌*◌, ◌≤◌, ◌<◌, ◌≡◌, List, ◌∷◌, ◌++◌, length, get_or}
 use Rattle.month_spec.specs.Figures.{figure_of}
 use Rattle.month_spec.specs.Page.{Page, captures, places, highest, PageRules}
 

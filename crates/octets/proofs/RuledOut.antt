@@ -34,39 +34,39 @@ abbrev bytes : List ℕ
 bytes = 0x12 ∷ 0x34 ∷ 0x56 ∷ 0x78 ∷ 0x9A ∷ 0xBC ∷ 0xDE ∷ 0xF0 ∷ 0x11 ∷ []
 
 -- NUMBERS: bytes and a place, and the number there
-abbrev pub u8_at_wrong : List (Row (List ℕ × ℕ) ℕ)
-u8_at_wrong =
+abbrev pub U8Number_at_wrong : List (Row (List ℕ × ℕ) ℕ)
+U8Number_at_wrong =
     (bytes, 1) never 0x12  -- the byte in front, wherever it is asked for
     ∷ (bytes, 1) never 0  -- no byte at all
     ∷ (bytes, 9) only 0  -- past the end, not the last byte
     ∷ []
 
-pub u8_at_rules_out : RulesOut (Kept _ u8-at-kinds.ps u8-at-kinds.r u8-at.Post) (λ c. (c.args.0.now, c.args.1.0)) (λ c. c.result) u8_at_wrong
+pub U8Number_at_rules_out : RulesOut (Kept _ u8-at-kinds.ps u8-at-kinds.r u8-at.Post) (λ c. (c.args.0.now, c.args.1.0)) (λ c. c.result) U8Number_at_wrong
 unfolding numeral
-u8_at_rules_out = ruled numbers (λ (i : List ℕ × ℕ). be 1 i.1 i.0) (λ c p. p) _ refl
+U8Number_at_rules_out = ruled numbers (λ (i : List ℕ × ℕ). be 1 i.1 i.0) (λ c p. p) _ refl
 
-abbrev pub u16_at_wrong : List (Row (List ℕ × ℕ) ℕ)
-u16_at_wrong =
+abbrev pub U16Number_at_wrong : List (Row (List ℕ × ℕ) ℕ)
+U16Number_at_wrong =
     (bytes, 1) never 0x1234  -- the bytes in front, wherever they are asked for
     ∷ (bytes, 1) never 0x5634  -- low byte first
     ∷ (bytes, 1) never 0x34  -- the high byte alone
     ∷ (bytes, 8) only 0x1100  -- half past the end
     ∷ []
 
-pub u16_at_rules_out : RulesOut (Kept _ u16-at-kinds.ps u16-at-kinds.r u16-at.Post) (λ c. (c.args.0.now, c.args.1.0)) (λ c. c.result) u16_at_wrong
+pub U16Number_at_rules_out : RulesOut (Kept _ u16-at-kinds.ps u16-at-kinds.r u16-at.Post) (λ c. (c.args.0.now, c.args.1.0)) (λ c. c.result) U16Number_at_wrong
 unfolding numeral
-u16_at_rules_out = ruled numbers (λ (i : List ℕ × ℕ). be 2 i.1 i.0) (λ c p. p) _ refl
+U16Number_at_rules_out = ruled numbers (λ (i : List ℕ × ℕ). be 2 i.1 i.0) (λ c p. p) _ refl
 
-abbrev pub u32_at_wrong : List (Row (List ℕ × ℕ) ℕ)
-u32_at_wrong =
+abbrev pub U32Number_at_wrong : List (Row (List ℕ × ℕ) ℕ)
+U32Number_at_wrong =
     (bytes, 1) never 0x12345678  -- the bytes in front, wherever they are asked for
     ∷ (bytes, 1) never 0x345678  -- the low byte left out
     ∷ (bytes, 1) only 0x3456789A
     ∷ []
 
-pub u32_at_rules_out : RulesOut (Kept _ u32-at-kinds.ps u32-at-kinds.r u32-at.Post) (λ c. (c.args.0.now, c.args.1.0)) (λ c. c.result) u32_at_wrong
+pub U32Number_at_rules_out : RulesOut (Kept _ u32-at-kinds.ps u32-at-kinds.r u32-at.Post) (λ c. (c.args.0.now, c.args.1.0)) (λ c. c.result) U32Number_at_wrong
 unfolding numeral
-u32_at_rules_out = ruled numbers (λ (i : List ℕ × ℕ). be 4 i.1 i.0) (λ c p. p) _ refl
+U32Number_at_rules_out = ruled numbers (λ (i : List ℕ × ℕ). be 4 i.1 i.0) (λ c p. p) _ refl
 
 abbrev pub letters_at_wrong : List (Row (List ℕ × ℕ) ℕ)
 letters_at_wrong =
@@ -79,16 +79,16 @@ pub letters_at_rules_out : RulesOut (Kept _ letters-at-kinds.ps letters-at-kinds
 unfolding numeral
 letters_at_rules_out = ruled numbers (λ (i : List ℕ × ℕ). be 5 i.1 i.0) (λ c p. p) _ refl
 
-abbrev pub u64_at_wrong : List (Row (List ℕ × ℕ) ℕ)
-u64_at_wrong =
+abbrev pub U64Number_at_wrong : List (Row (List ℕ × ℕ) ℕ)
+U64Number_at_wrong =
     (bytes, 1) never 0x123456789ABCDEF0  -- the bytes in front, wherever they are asked for
     ∷ (bytes, 1) never 0x3456789ABCDEF0  -- the low byte left out
     ∷ (bytes, 1) only 0x3456789ABCDEF011
     ∷ []
 
-pub u64_at_rules_out : RulesOut (Kept _ u64-at-kinds.ps u64-at-kinds.r u64-at.Post) (λ c. (c.args.0.now, c.args.1.0)) (λ c. c.result) u64_at_wrong
+pub U64Number_at_rules_out : RulesOut (Kept _ u64-at-kinds.ps u64-at-kinds.r u64-at.Post) (λ c. (c.args.0.now, c.args.1.0)) (λ c. c.result) U64Number_at_wrong
 unfolding numeral
-u64_at_rules_out = ruled numbers (λ (i : List ℕ × ℕ). be 8 i.1 i.0) (λ c p. p) _ refl
+U64Number_at_rules_out = ruled numbers (λ (i : List ℕ × ℕ). be 8 i.1 i.0) (λ c p. p) _ refl
 
 -- bytes, a place and a length, and a sum that is not theirs
 abbrev pub sum_wrong : List (Row (List ℕ × (ℕ × ℕ)) ℕ)

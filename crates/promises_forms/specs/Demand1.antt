@@ -26,6 +26,7 @@ market_answers =
     let due_one_answer = market.due_one_answer in
     let line_type_one_answer = market.line_type_one_answer in
     let rows_of_one_answer = market.rows_of_one_answer in
+    let U64FromFault_from_one_answer = market.U64FromFault_from_one_answer in
     let check_one_answer = market.check_one_answer in
     named
 
@@ -51,6 +52,7 @@ market_values_answers =
 step_frame_answers : Named
 step_frame_answers =
     let field_at_one_answer = step_frame.field_at_one_answer in
+    let U32FromStepRefusal_from_one_answer = step_frame.U32FromStepRefusal_from_one_answer in
     let read_at_one_answer = step_frame.read_at_one_answer in
     let write_one_answer = step_frame.write_one_answer in
     named

@@ -27,11 +27,11 @@ use Rattle.promises_words.specs.Words.{Named, named, refusal_in_table, in_table,
 -- octets
 octets_answers : Named
 octets_answers =
-    let u8_at_one_answer = octets.u8_at_one_answer in
-    let u16_at_one_answer = octets.u16_at_one_answer in
-    let u32_at_one_answer = octets.u32_at_one_answer in
-    let u40_at_one_answer = octets.letters_at_one_answer in
-    let u64_at_one_answer = octets.u64_at_one_answer in
+    let U8Number_at_one_answer = octets.U8Number_at_one_answer in
+    let U16Number_at_one_answer = octets.U16Number_at_one_answer in
+    let U32Number_at_one_answer = octets.U32Number_at_one_answer in
+    let letters_at_one_answer = octets.letters_at_one_answer in
+    let U64Number_at_one_answer = octets.U64Number_at_one_answer in
     let sum_one_answer = octets.sum_one_answer in
     let sum_after_one_answer = octets.sum_after_one_answer in
     let has_room_one_answer = octets.has_room_one_answer in
@@ -58,10 +58,11 @@ digits_answers =
 -- rules
 rules_answers : Named
 rules_answers =
-    let kind_of_one_answer = rules.kind_of_one_answer in
+    let KindFromU32_from_one_answer = rules.KindFromU32_from_one_answer in
     let is_known_one_answer = rules.is_known_one_answer in
     let measure_one_answer = rules.measure_one_answer in
     let layout_of_one_answer = rules.layout_of_one_answer in
+    let pair_ok_one_answer = rules.pair_ok_one_answer in
     let suits_tail_one_answer = rules.suits_tail_one_answer in
     named
 

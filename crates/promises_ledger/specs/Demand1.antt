@@ -75,6 +75,7 @@ host_ledger_answers =
     let rk_ledger_reply_one_answer = host_ledger.rk_ledger_reply_one_answer in
     let rk_ledger_renew_one_answer = host_ledger.rk_ledger_renew_one_answer in
     let rk_ledger_missing_one_answer = host_ledger.rk_ledger_missing_one_answer in
+    let settled_row_one_answer = host_ledger.settled_row_one_answer in
     let rk_ledger_told_one_answer = host_ledger.rk_ledger_told_one_answer in
     named
 

@@ -20,6 +20,7 @@ host_session_answers =
 -- session
 session_answers : Named
 session_answers =
+    let RefusalFromFault_from_one_answer = session.RefusalFromFault_from_one_answer in
     let Session-opened-one-answer = session.Session-opened-one-answer in
     let Session-turn-one-answer = session.Session-turn-one-answer in
     let Session-may-send-one-answer = session.Session-may-send-one-answer in

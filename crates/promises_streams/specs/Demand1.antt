@@ -29,6 +29,8 @@ stream_answers : Named
 stream_answers =
     let may_take_one_answer = stream.may_take_one_answer in
     let keep_rest_one_answer = stream.keep_rest_one_answer in
+    let waits_one_answer = stream.waits_one_answer in
+    let passes_one_answer = stream.passes_one_answer in
     let feed_one_answer = stream.feed_one_answer in
     let close_one_answer = stream.close_one_answer in
     named

@@ -26,8 +26,8 @@ use Rattle.rules.proofs.entry_size.Kinds as entry-size-kinds
 use Rattle.rules.proofs.judge.Reads as judge
 use Rattle.rules.proofs.judge.Kinds as judge-kinds
 
-pub kind_of_one_answer : OneAnswer _ kind-of-kinds.ps kind-of-kinds.r kind-of.Post
-kind_of_one_answer κs a x y s t p q = kind_one x y (p ∙ sym q)
+pub KindFromU32_from_one_answer : OneAnswer _ kind-of-kinds.ps kind-of-kinds.r kind-of.Post
+KindFromU32_from_one_answer κs a x y s t p q = kind_one x y (p ∙ sym q)
 
 pub is_known_one_answer : OneAnswer _ is-known-kinds.ps is-known-kinds.r is_Known.Post
 is_known_one_answer κs a x y s t p q = p ∙ sym q

@@ -41,16 +41,16 @@ use Rattle.rules.proofs.judge.Reads as judge
 use Rattle.rules.proofs.judge.Kinds as judge-kinds
 
 -- a MsgType, four letters as one number
-abbrev pub kind_of_wrong : List (Row ℕ Paper)
-kind_of_wrong =
+abbrev pub KindFromU32_from_wrong : List (Row ℕ Paper)
+KindFromU32_from_wrong =
     0x53303032 never answer 0 (0x53303031 ∷ [])  -- S002 taken for S001
     ∷ 0x4D323031 never refusal 2  -- M201 left out of the table
     ∷ 0x4D313131 only refusal 2  -- M111 is in no row, and not taken for M101
     ∷ []
 
-pub kind_of_rules_out : RulesOut (Kept _ kind-of-kinds.ps kind-of-kinds.r kind-of.Post) (λ c. c.args.0) (λ c. kind_paper c.result) kind_of_wrong
+pub KindFromU32_from_rules_out : RulesOut (Kept _ kind-of-kinds.ps kind-of-kinds.r kind-of.Post) (λ c. c.args.0) (λ c. kind_paper c.result) KindFromU32_from_wrong
 unfolding kind_of type_of
-kind_of_rules_out = ruled papers type_of (λ c p. p) _ refl
+KindFromU32_from_rules_out = ruled papers type_of (λ c p. p) _ refl
 
 abbrev pub is_known_wrong : List (Row Kind Bool)
 is_known_wrong =

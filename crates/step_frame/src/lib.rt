@@ -22,7 +22,7 @@ const LONGEST: usize = 8192;
 // The byte that ends a field.
 const SOH: u8 = 1;
 
-// Why a frame or a message is refused.
+// Why a frame or a message is refused. The numbers are those of document 02.
 #[derive(Clone, Copy, Debug, PartialEq, Eq)]
 pub enum StepRefusal {
     More,
@@ -36,7 +36,7 @@ pub enum StepRefusal {
     Fields,
 }
 
-// The number of a refusal in documents 01 and 02.
+// The number of a refusal.
 impl From<StepRefusal> for u32 {
     ghost from_gives = { λ why n. n ≡ step_number why };
 

@@ -75,6 +75,7 @@ pub struct Map {
 
 impl Map {
     // Nothing held.
+    #[tactic(auto, unfolding(crate::specs::Bits::map_of))]
     pub fn new() -> Map
         ensures { result ≡ map_of 0 }
     {
@@ -192,6 +193,7 @@ impl Map {
     }
 
     // Whether no place is held.
+    #[tactic(auto, using(crate::proofs::Words::value_zero))]
     pub fn empty(self) -> bool
         ensures { result ≡ eqb (bits_in self) 0 }
     {
@@ -298,6 +300,7 @@ impl Map {
     }
 
     // Those of the k places from s on that are not held, counted round.
+    #[tactic(auto, unfolding(crate::specs::Ring::lacking))]
     pub fn lacking(self, s: u64, k: u64) -> Map
         ensures { result ≡ map_of (lacking s k (bits_in self)) }
     {

@@ -6,7 +6,7 @@ use Rattle.octets.specs.Octets.{sum8, sum_of}
 use Rattle.octets.specs.Sums.{sum8_on}
 use Rattle.frame_spec.specs.Frame.{reads}
 use Rattle.frame_spec.specs.Places.{inside_at}
-use Rattle.frame_spec.specs.SearchLaws.{first_hit, first_miss, first_end, search_beyond, search_first, refused_read, all_passed}
+use Rattle.frame_spec.specs.SearchLaws.{first_hit, first_miss, first_end, search_beyond, search_first, refused_read}
 use Rattle.frame.specs.Papers.{found_paper}
 use Rattle.frame.proofs.search.Goals as goal
 use Rattle.frame.proofs.search.Goals.{In-Ok, in-Ok+else-loop-i-test+else-accepts, in_default}
@@ -18,20 +18,12 @@ inside c = inside_at c.places.at c.args.bytes.now c.in-Ok.head.body_len c.in-Ok.
 pub returns-then-bytes-from : goal.returns-then-bytes-from
 returns-then-bytes-from c = sym (search_beyond _ _ c.if-bytes-from.true)
 
-pub places-init : goal.places-init
-places-init c = (refl, refl)
-
 pub loop-i-init : goal.loop-i-init
 unfolding sum8 sum_of
 loop-i-init c = rw (sub_self c.places.at) refl
 
 pub loop-i-preserved : goal.loop-i-preserved
 loop-i-preserved c = sum8_on _ _ _ _ c.loop-i.auto.i (omega (arith, inside (goal.at.loop-i-preserved c).In-Ok)) c.loop-i.invariant
-
-pub accepts-requires : goal.accepts-requires
-accepts-requires c =
-    let n = c.in-Ok.head.body_len in
-    (c.in-Ok.ensures, all_passed c.args.bytes.now c.places.at n c.loop-i.i c.loop-i.v (omega (arith, c.loop-i.auto.i-end (omega arith))) c.loop-i.invariant)
 
 pub places-preserved : goal.places-preserved
 places-preserved c =

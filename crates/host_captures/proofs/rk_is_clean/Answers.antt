@@ -4,13 +4,12 @@ use mathlib.Core.Path.{sym, ap, ◌∙◌}
 use Rattle.clean.specs.Papers.{check_paper}
 use Rattle.host_words.specs.Told.{perhaps, retold, tells_done}
 use Rattle.host_captures.specs.Captures.{clean_told}
-use borrow.Author.Rules.{rules}
 use Rattle.host_captures.proofs.rk_is_clean.Goals as goal
 
-pub returns-in-Clean : goal.returns-in-Clean
+pub returns-in-None : goal.returns-in-None
 unfolding clean_told
-returns-in-Clean c = tells_done _ _ _ (ap (retold perhaps) (sym (ap check_paper c.in-Clean.is) ∙ c.is_clean.ensures))
+returns-in-None c = tells_done _ _ _ (ap (retold perhaps) (sym (ap check_paper c.in-None.is) ∙ c.is_clean.ensures))
 
-pub returns-in-Changed : goal.returns-in-Changed
+pub returns-in-Some : goal.returns-in-Some
 unfolding clean_told
-returns-in-Changed c = tells_done _ _ _ (ap (retold perhaps) (sym (ap check_paper c.in-Changed.is) ∙ c.is_clean.ensures))
+returns-in-Some c = tells_done _ _ _ (ap (retold perhaps) (sym (ap check_paper c.in-Some.is) ∙ c.is_clean.ensures))

@@ -1,19 +1,27 @@
 -- `rk_walk`: the walk's paper is told; words and records are those after it. Assumes nothing.
-use mathlib.Core.Path.{◌∙◌}
+use mathlib.Core.Path.{◌≡◌, refl, sym, ap, ◌∙◌}
+use Rattle.std.specs.Prelude.{ℕ, Result, Ok, Err}
 use Rattle.terms.specs.Paper.{one_number}
-use Rattle.host_words.specs.Told.{tells_then, tells_else}
+use Rattle.terms.specs.Verdicts.{verdict_number}
+use Rattle.terms.specs.declared.Refusal.{Refusal}
+use Rattle.walk.specs.declared.Counts.{Counts}
+use Rattle.walk.specs.Papers.{counts_paper}
+use Rattle.host_words.specs.Told.{tells_done, tells_why}
 use Rattle.host_captures.specs.Captures.{walk_words_lem}
-use borrow.Author.Rules.{rules}
 use Rattle.host_captures.proofs.rk_walk.Goals as goal
 
-pub returns-then-answer-eq0 : goal.returns-then-answer-eq0
-returns-then-answer-eq0 c =
-    let e = c.walk-walked.ensures in
-    let n = c.number_of-answer.ensures in
-    (tells_then _ _ _ _ _ n e.0 c.if-answer-eq0.true, (walk_words_lem _ _ _ (n ∙ one_number e.0) e.1.0 c.keep.ensures, e.1.1))
+number_is : (a : Result Counts Refusal) → verdict_number a ≡ (counts_paper a).number
+number_is (Ok c) = refl
+number_is (Err w) = refl
 
-pub returns-else-answer-eq0 : goal.returns-else-answer-eq0
-returns-else-answer-eq0 c =
+pub returns-in-Ok : goal.returns-in-Ok
+returns-in-Ok c =
     let e = c.walk-walked.ensures in
-    let n = c.number_of-answer.ensures in
-    (tells_else _ _ _ _ _ n e.0 c.if-answer-eq0.false, (walk_words_lem _ _ _ (n ∙ one_number e.0) e.1.0 c.keep.ensures, e.1.1))
+    (tells_done _ _ _ (sym (ap counts_paper c.in-Ok.is) ∙ e.0), (walk_words_lem _ _ _ (c.number_of.ensures ∙ number_is _ ∙ one_number e.0) e.1.0 c.keep.ensures, e.1.1))
+
+pub returns-in-Err : goal.returns-in-Err
+returns-in-Err c =
+    let e = c.walk-walked.ensures in (
+      tells_why _ _ c.in-Err.why _ c.from.ensures (one_number (sym (ap counts_paper c.in-Err.is) ∙ e.0)),
+      (walk_words_lem _ _ _ (c.number_of.ensures ∙ number_is _ ∙ one_number e.0) e.1.0 c.keep.ensures, e.1.1),
+    )

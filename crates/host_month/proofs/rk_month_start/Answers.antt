@@ -1,15 +1,16 @@
 -- Refused, nothing is written; else the started page's words. Assumes nothing.
-use mathlib.Core.Path.{◌≡◌, sym, ◌∙◌}
-use borrow.Author.Rules.{rules}
+use Rattle.std.proofs.Common.{sym, ap, ◌∙◌}
+use Rattle.terms.specs.Refusals.{refusal_pos}
+use Rattle.terms.specs.Verdicts.{verdict_number}
 use Rattle.host_month.proofs.Kept.{start_kept, start_done}
 use Rattle.host_month.proofs.rk_month_start.Goals as goal
 
-pub returns-then-started-eq0 : goal.returns-then-started-eq0
-returns-then-started-eq0 c =
-    let started = c.started-started in
-    (started.ensures.0, start_done _ _ _ _ (sym started.ensures.0 ∙ c.if-started-eq0.true) started.ensures.1 c.words_of.ensures)
+pub returns-in-Ok : goal.returns-in-Ok
+returns-in-Ok c =
+    let e = ap verdict_number (sym c.in-Ok.is) ∙ c.started-started.ensures.0 in
+    (e, start_done _ _ _ _ (sym e) c.started-started.ensures.1 c.words_of.ensures)
 
-pub returns-else-started-eq0 : goal.returns-else-started-eq0
-returns-else-started-eq0 c =
-    let started = c.started-started in
-    (started.ensures.0, sym (start_kept _ _ (λ z. c.if-started-eq0.false (started.ensures.0 ∙ z))))
+pub returns-in-Err : goal.returns-in-Err
+returns-in-Err c =
+    let e = ap verdict_number (sym c.in-Err.is) ∙ c.started-started.ensures.0 in
+    (c.from.ensures ∙ e, sym (start_kept _ _ (λ z. refusal_pos c.in-Err.why (e ∙ z))))

@@ -1,8 +1,14 @@
--- `keep`: each part of the stream is its word, or its bytes. Assumes nothing.
-use Rattle.host_stream_spec.specs.Lent.{state_of}
-use borrow.Author.Rules.{rules}
+-- `keep`: each part of the stream but for its store is its word. Assumes nothing.
+use mathlib.Core.Path.{◌≡◌, refl}
+use mathlib.Core.Bool.{Bool, true, false}
+use Rattle.std.specs.Int.{from_bool}
+use Rattle.host_stream_spec.specs.Lent.{word_of, state_of}
 use Rattle.host_stream.proofs.keep.Goals as goal
+
+flag : (b : Bool) → from_bool b ≡ word_of b
+flag true = refl
+flag false = refl
 
 pub returns : goal.returns
 unfolding state_of
-returns c = rw (c.word_of.ensures, c.word_of-2.ensures, c.state_of.ensures)
+returns c = λ kept. rw (c.from.ensures, c.from-2.ensures, flag c.args.next.seeking, flag c.args.next.closed, c.state_of.ensures)

@@ -5,4 +5,4 @@ use borrow.Author.Rules.{rules}
 use Rattle.host_stream.proofs.rk_stream_clean.Goals as goal
 
 pub returns : goal.returns
-returns c = (lent_washed _ _ _ (Feed _) _ _ _ c.standing_in.result c.standing_in.ensures c.clean_cut-done.result c.clean_cut-done.ensures c.settle_washed.ensures, λ i. (c.shared_slice_known-1.given i).fits)
+returns c = (lent_washed _ _ _ (Feed _) _ _ _ c.standing_in.result c.standing_in.ensures c.clean_cut-done.result c.clean_cut-done.ensures _ c.washed_row.ensures c.settle.ensures, λ i. (c.shared_slice_known-1.given i).fits)

@@ -5,4 +5,4 @@ use borrow.Author.Rules.{rules}
 use Rattle.host_stream.proofs.rk_stream_feed.Goals as goal
 
 pub returns : goal.returns
-returns c = (lent_settled _ _ _ (Feed _) _ _ _ c.standing_in.result c.standing_in.ensures c.feed-done.result c.feed-done.ensures.0 c.settle.ensures, c.feed-done.ensures.1)
+returns c = (lent_settled _ _ _ (Feed _) _ _ _ c.standing_in.result c.standing_in.ensures c.feed-done.result c.feed-done.ensures.0 _ c.fed_row.ensures c.settle.ensures, c.feed-done.ensures.1)

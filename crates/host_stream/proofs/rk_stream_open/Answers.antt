@@ -1,8 +1,7 @@
 -- `rk_stream_open`: the stream that `stream_spec` opens is kept. Assumes nothing.
 use mathlib.Core.Path.{refl, ap, ◌∙◌}
 use Rattle.host_stream_spec.specs.Lent.{lent_of}
-use borrow.Author.Rules.{rules}
 use Rattle.host_stream.proofs.rk_stream_open.Goals as goal
 
 pub returns : goal.returns
-returns c = (refl, c.keep.ensures ∙ ap lent_of c.opened.ensures)
+returns c = (refl, c.keep.ensures _ ∙ ap lent_of c.opened-fresh.ensures)

@@ -1,6 +1,5 @@
 -- `standing_in`: each word is its part of the stream. Assumes nothing.
 use Rattle.host_stream_spec.specs.Lent.{stream_in}
-use borrow.Author.Rules.{rules}
 use Rattle.host_stream.proofs.standing_in.Goals as goal
 
 pub returns : goal.returns

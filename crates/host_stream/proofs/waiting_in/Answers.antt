@@ -6,6 +6,6 @@ pub returns-then-seeking-closed : goal.returns-then-seeking-closed
 unfolding waiting_in
 returns-then-seeking-closed c = rw c.if-seeking-closed.true
 
-pub returns : goal.returns
+pub returns-else-seeking-closed : goal.returns-else-seeking-closed
 unfolding waiting_in
-returns c = rw c.if-seeking-closed.false
+returns-else-seeking-closed c = rw c.if-seeking-closed.false

@@ -15,10 +15,10 @@ use Rattle.market_values.proofs.give_line.Goals as goal
 use Rattle.market_values.proofs.give_line.Goals.{In-loop-i, After-size-a}
 
 next : (c : goal.In-loop-i) → RightNext c.loop-i.i c.args.rows.last c.loop-i.p c.args.s.now
-next c = right_next c.loop-i.i c.args.rows.last c.loop-i.p c.args.s.now c.loop-i-test.true c.requires.0 c.loop-i.invariant.1.1.0
+next c = right_next c.loop-i.i c.args.rows.last c.loop-i.p c.args.s.now c.loop-i-test.true c.args.rows.within c.loop-i.invariant.1.1.0
 
 roomy : (c : goal.In-loop-i) → c.loop-i.a + size_of (row_of c.loop-i.i) + sizes_of (columns (c.loop-i.i + 1) c.args.rows.last) ≤ length c.args.out.now
-roomy c = omega (arith, c.loop-i.invariant.1.0, sizes_next c.loop-i.i c.args.rows.last c.loop-i-test.true c.requires.0)
+roomy c = omega (arith, c.loop-i.invariant.1.0, sizes_next c.loop-i.i c.args.rows.last c.loop-i-test.true c.args.rows.within)
 
 small : (c : goal.In-loop-i) → (length c.args.out.now < 2 ^ 63) × (length c.args.s.now < 2 ^ 63)
 small c = (search rules, search rules)
@@ -53,7 +53,7 @@ loop-i-preserved c =
         (
           rw (c.column.ensures.0.width_is, ← add_assoc l.p (wide (row_of l.i)) 1) (next q).onward,
           rw (c.column.ensures.0.width_is, c.size-a.ensures, ← add_assoc l.p (wide (row_of l.i)) 1)
-              (given_laid l.i a.rows.last l.p l.a a.s.now l.out c.give_column.new.out _ c.loop-i-test.true c.requires.0 (next q) (omega (arith, roomy q, l.invariant.0)) c.give_column.ensures l.invariant.1.1.1),
+              (given_laid l.i a.rows.last l.p l.a a.s.now l.out c.give_column.new.out _ c.loop-i-test.true c.args.rows.within (next q) (omega (arith, roomy q, l.invariant.0)) c.give_column.ensures l.invariant.1.1.1),
         ),
       ),
     )

@@ -16,7 +16,7 @@ use Rattle.market_spec.specs.Sound.{values_of}
 use Rattle.market_spec.specs.FileBytes.{type_number, lines_bytes}
 use Rattle.market_values.specs.Giving.{GiveLeft, lines_stop, give_first, give_end, give_room, give_right, give_kept_1, give_kept, give_next}
 use Rattle.market_values.proofs.give_lines.Goals as goal
-use Rattle.market_values.proofs.give_lines.Goals.{After-rows_of, After-line_long-p}
+use Rattle.market_values.proofs.give_lines.Goals.{After-rows_of, After-line_sizes-sizes}
 
 stands : (c : goal.After-rows_of) → type_at c.loop-line.p c.args.s.now ≤ 4
 stands c = omega (arith, c.in-Line.ensures, line_most c.in-Line.line)
@@ -27,14 +27,14 @@ rows c = c.rows_of.ensures.0 ∙ ap layout_of c.in-Line.ensures
 typed : (c : goal.After-rows_of) → c.put.new.d ≡ laid_if_room c.loop-line.a (bytes_of 2 (type_number (type_at c.loop-line.p c.args.s.now))) c.loop-line.out
 typed c = rw (c.type_number.ensures, c.in-Line.ensures) at c.put.ensures.1
 
-given : (c : goal.After-line_long-p) → let l = c.loop-line in let s = c.args.s.now in c.give_line.new.out ≡ laid (l.a + 2) (row_bytes (line_values (layout_of (type_at l.p s)) (drop l.p s))) c.put.new.d
-given c = c.give_line.ensures ∙ ap (λ (cs : List Column). laid (c.loop-line.a + 2) (row_bytes (line_values cs (drop c.loop-line.p c.args.s.now))) c.put.new.d) (rows (goal.at.loop-line-preserved c).After-rows_of)
+given : (c : goal.After-line_sizes-sizes) → let l = c.loop-line in let cs = layout_of (type_at l.p c.args.s.now) in columns c.rows_of.result.first c.rows_of.result.last ≡ cs → c.give_line.new.out ≡ laid (l.a + 2) (row_bytes (line_values cs (drop l.p c.args.s.now))) c.put.new.d
+given c r = c.give_line.ensures ∙ ap (λ (cs : List Column). laid (c.loop-line.a + 2) (row_bytes (line_values cs (drop c.loop-line.p c.args.s.now))) c.put.new.d) r
 
-next : (c : goal.After-line_long-p) → let l = c.loop-line in GiveLeft c.args.s.now (l.p + c.line_long-p.result) (l.a + c.line_size-a.result) c.give_line.new.out (laid 38 (lines_bytes (values_of c.args.s.now).lines) c.args.out.now)
-next c =
+next : (c : goal.After-line_sizes-sizes) → let l = c.loop-line in let t = type_at l.p c.args.s.now in t ≤ 4 → c.put.new.d ≡ laid_if_room l.a (bytes_of 2 (type_number t)) l.out → columns c.rows_of.result.first c.rows_of.result.last ≡ layout_of t →
+    GiveLeft c.args.s.now (l.p + c.line_sizes-sizes.result.text) (l.a + c.line_sizes-sizes.result.values) c.give_line.new.out (laid 38 (lines_bytes (values_of c.args.s.now).lines) c.args.out.now)
+next c h t r =
     let l = c.loop-line in
-    let q = (goal.at.loop-line-preserved c).After-rows_of in
-    rw (c.line_long-p.ensures.0, c.line_size-a.ensures.0, c.in-Line.ensures) (give_next c.args.s.now l.p l.a l.out _ l.invariant.1 (stands q) c.put.new.d c.give_line.new.out (typed q) (given c))
+    rw (c.line_sizes-sizes.ensures.0.0, c.line_sizes-sizes.ensures.1.0, c.in-Line.ensures) (give_next c.args.s.now l.p l.a l.out _ l.invariant.1 h c.put.new.d c.give_line.new.out t (given c r))
 
 pub loop-line-init : goal.loop-line-init
 loop-line-init c = (refl, give_first _ _ c.requires.0 c.requires.1)
@@ -44,16 +44,21 @@ give_line-requires c =
     let l = c.loop-line in
     let s = c.args.s.now in
     let k : length c.put.new.d ≡ length l.out = give_kept_1 s l.p l.a l.out _ l.invariant.1 (stands c) c.put.new.d _ (typed c) refl in
-    (c.rows_of.ensures.1.0, (rw (rows c, k) (omega (arith, give_room s l.p l.a l.out _ l.invariant.1 (stands c))), rw (rows c) (give_right s l.p l.a l.out _ l.invariant.1 (stands c))))
+    (rw (rows c, k) (omega (arith, give_room s l.p l.a l.out _ l.invariant.1 (stands c))), rw (rows c) (give_right s l.p l.a l.out _ l.invariant.1 (stands c)))
 
 pub loop-line-smaller : goal.loop-line-smaller
-loop-line-smaller c = omega (arith, (next c).stand.inside, rw (← c.line_long-p.ensures.0) at (layout_some (line_number c.in-Line.line)))
+loop-line-smaller c =
+    let g = goal.at.loop-line-smaller c in
+    let q = g.After-rows_of in
+    omega (arith, (next g.After-line_sizes-sizes (stands q) (typed q) (rows q)).stand.inside, rw (← c.line_sizes-sizes.ensures.0.0) at (layout_some (line_number c.in-Line.line)))
 
 pub loop-line-preserved : goal.loop-line-preserved
 loop-line-preserved c =
     let l = c.loop-line in
-    let q = (goal.at.loop-line-preserved c).After-rows_of in
-    (give_kept c.args.s.now l.p l.a l.out _ l.invariant.1 (stands q) c.put.new.d c.give_line.new.out (typed q) (given c) ∙ l.invariant.0, next c)
+    let g = goal.at.loop-line-preserved c in
+    let k = g.After-line_sizes-sizes in
+    let q = g.After-rows_of in
+    (give_kept c.args.s.now l.p l.a l.out _ l.invariant.1 (stands q) c.put.new.d c.give_line.new.out (typed q) (given k (rows q)) ∙ l.invariant.0, next k (stands q) (typed q) (rows q))
 
 pub returns : goal.returns
 returns c = let l = c.loop-line in give_end _ l.p l.a l.out _ l.invariant.1 (lines_stop _ l.p _ l.invariant.1.stand c.line_type.result c.line_type.ensures c.in_default.not-Line)

@@ -9,12 +9,12 @@ use Rattle.octets.specs.Octets.{be}
 use Rattle.market.specs.Papers.{verdict_paper, fault_some}
 use Rattle.market.specs.Starts.{line_number, line_not}
 use Rattle.market_columns.specs.Columns.{Column}
-use Rattle.market_spec.specs.File.{layout_of, fine}
+use Rattle.market_spec.specs.File.{layout_of}
 use Rattle.market_spec.specs.ValueBytes.{taken_fault}
 use Rattle.market_spec.specs.FileBytes.{type_of}
 use Rattle.market_values.specs.Writing.{judge_first, judge_short, judge_type, judge_wrong, judge_farther, judge_next, judge_end}
 use Rattle.market_values.proofs.judge_lines.Goals as goal
-use Rattle.market_values.proofs.judge_lines.Goals.{After-values_fit, After-line_long-size}
+use Rattle.market_values.proofs.judge_lines.Goals.{After-values_fit}
 
 -- the type that stands there, and what its values answer
 typed : (c : goal.After-values_fit) → line_number c.in-Some.line ≡ type_of (be 2 c.loop-p.p c.args.s.now)
@@ -28,9 +28,6 @@ other c e = (line_not c.in-Some.line).2 (typed c ∙ e)
 
 whole : (c : goal.After-values_fit) → c.loop-p.p + 2 ≤ length c.args.s.now
 whole c = omega (arith, c.if-s-p-lt2.false, c.loop-p-test.true)
-
-passed : (c : goal.After-line_long-size) → let q = (goal.at.loop-p-preserved c).After-values_fit in taken_fault (layout_of (type_of (be 2 c.loop-p.p c.args.s.now))) (c.loop-p.p + 2) c.args.s.now ≡ fine c.in_ok-p.p
-passed c = sym (told (goal.at.loop-p-preserved c).After-values_fit) ∙ ap verdict_paper c.in_ok-p.was
 
 pub loop-p-init : goal.loop-p-init
 loop-p-init c = judge_first _ c.requires
@@ -52,14 +49,14 @@ pub loop-p-smaller : goal.loop-p-smaller
 loop-p-smaller c =
     let l = c.loop-p in
     let q = (goal.at.loop-p-smaller c).After-values_fit in
-    let f = judge_farther c.args.s.now l.p l.lines l.size l.invariant c.loop-p-test.true (whole q) (other q) c.in_ok-p.p (passed c) in
+    let f = judge_farther c.args.s.now l.p l.lines l.size l.invariant c.loop-p-test.true (whole q) (other q) c.in_ok-p.p (sym (told q) ∙ ap verdict_paper c.in_ok-p.was) in
     omega (arith, f.0, f.1)
 
 pub loop-p-preserved : goal.loop-p-preserved
 loop-p-preserved c =
     let l = c.loop-p in
     let q = (goal.at.loop-p-preserved c).After-values_fit in
-    rw (c.line_long-size.ensures.0, typed q) (judge_next c.args.s.now l.p l.lines l.size l.invariant c.loop-p-test.true (whole q) (other q) c.in_ok-p.p (passed c))
+    rw (c.line_sizes-size.ensures.0.0, typed q) (judge_next c.args.s.now l.p l.lines l.size l.invariant c.loop-p-test.true (whole q) (other q) c.in_ok-p.p (sym (told q) ∙ ap verdict_paper c.in_ok-p.was))
 
 pub returns : goal.returns
 returns c = let l = c.loop-p in judge_end _ l.p l.lines l.size l.invariant c.loop-p-test.false

@@ -3,7 +3,6 @@
 use mathlib.Core.Path.{◌≡◌, ap, ◌∙◌}
 use mathlib.Core.List.{List}
 use Prim.Native.Nat.{ℕ}
-use lib.Dec.{lit≤}
 use Rattle.octets.specs.Octets.{laid}
 use Rattle.market_columns.specs.Columns.{header}
 use Rattle.market_columns.specs.Values.{Value}
@@ -24,7 +23,7 @@ pub put_line-requires : goal.put_line-requires
 put_line-requires c =
     let y = c in
     let b = y in
-    (lit≤ tt, (b.requires.1, rw (row (goal.at.put_line-requires c).After-lay) (head_all_fit b.args.s.now b.args.k b.requires.0)))
+    (b.requires.1, rw (row (goal.at.put_line-requires c).After-lay) (head_all_fit b.args.s.now b.args.k b.requires.0))
 
 pub returns : goal.returns
 returns c =

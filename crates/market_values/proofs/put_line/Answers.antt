@@ -15,13 +15,13 @@ use Rattle.market_values.proofs.put_line.Goals.{After-column, After-put_column, 
 
 -- the column at hand: its value fits, and the buffer has room for the rest of the line
 next : (k : goal.After-column) → let l = k.loop-i in let a = k.args in Fitting l.i a.rows.last l.p a.s.now
-next k = let l = k.loop-i in let a = k.args in all_next l.i a.rows.last l.p a.s.now k.loop-i-test.true k.requires.0 l.invariant.1.1.0
+next k = let l = k.loop-i in let a = k.args in all_next l.i a.rows.last l.p a.s.now k.loop-i-test.true a.rows.within l.invariant.1.1.0
 
 roomy : (k : goal.After-column) → let l = k.loop-i in let a = k.args in l.a + k.column.result.width + 1 + length_of (columns (l.i + 1) a.rows.last) ≤ length a.out.now
 roomy k =
     let l = k.loop-i in
     let a = k.args in
-    rw k.column.ensures.0.width_is (omega (arith, l.invariant.1.0, length_next l.i a.rows.last k.loop-i-test.true k.requires.0))
+    rw k.column.ensures.0.width_is (omega (arith, l.invariant.1.0, length_next l.i a.rows.last k.loop-i-test.true a.rows.within))
 
 kept : (g : goal.After-put_column) → let l = g.loop-i in let a = g.args in Fitting l.i a.rows.last l.p a.s.now → l.a + g.column.result.width + 1 + length_of (columns (l.i + 1) a.rows.last) ≤ length a.out.now → length g.put_column.new.out ≡ length a.out.now
 kept g n r =
@@ -37,7 +37,7 @@ again c n r =
     let l = c.loop-i in
     let a = c.args in
     rw (c.column.ensures.0.width_is, c.size-p.ensures, c.due.ensures)
-    (line_laid l.i a.rows.last l.p l.a a.s.now l.out c.put_column.new.out _ c.loop-i-test.true c.requires.0 n (rw (sym c.column.ensures.0.width_is) (omega (arith, r, l.invariant.0))) c.put_column.ensures l.invariant.1.1.1)
+    (line_laid l.i a.rows.last l.p l.a a.s.now l.out c.put_column.new.out _ c.loop-i-test.true a.rows.within n (rw (sym c.column.ensures.0.width_is) (omega (arith, r, l.invariant.0))) c.put_column.ensures l.invariant.1.1.1)
 
 pub put_column-requires : goal.put_column-requires
 put_column-requires c = let k = c in (rw (sym k.column.ensures.0.width_is) (omega (arith, roomy (goal.at.put_column-requires c).After-column, k.loop-i.invariant.0)), ((next (goal.at.put_column-requires c).After-column).whole, (next (goal.at.put_column-requires c).After-column).fitting))

@@ -12,7 +12,7 @@ use Rattle.market_spec.specs.ValueBytes.{taken_line}
 use Rattle.market_spec.specs.FileBytes.{type_of}
 use Rattle.market_values.specs.Writing.{put_first, put_end, put_some, put_room, put_fits, put_kept, put_next}
 use Rattle.market_values.proofs.put_lines.Goals as goal
-use Rattle.market_values.proofs.put_lines.Goals.{After-rows_of, After-line_size-p}
+use Rattle.market_values.proofs.put_lines.Goals.{After-rows_of, After-put_line}
 
 typed : (c : goal.After-rows_of) → line_number c.in-Some.line ≡ type_of (be 2 c.loop-p.p c.args.s.now)
 typed c = c.in-Some.ensures ∙ ap type_of c.at.ensures
@@ -20,8 +20,8 @@ typed c = c.in-Some.ensures ∙ ap type_of c.at.ensures
 rows : (c : goal.After-rows_of) → columns c.rows_of.result.first c.rows_of.result.last ≡ layout_of (type_of (be 2 c.loop-p.p c.args.s.now))
 rows c = c.rows_of.ensures.0 ∙ ap layout_of (typed c)
 
-line : (c : goal.After-line_size-p) → let l = c.loop-p in let s = c.args.s.now in c.put_line.new.out ≡ laid l.a (line_text (layout_of (type_of (be 2 l.p s))) (taken_line (layout_of (type_of (be 2 l.p s))) (drop (l.p + 2) s))) l.out
-line c = c.put_line.ensures ∙ ap (λ (cs : List Column). laid c.loop-p.a (line_text cs (taken_line cs (drop (c.loop-p.p + 2) c.args.s.now))) c.loop-p.out) (rows (goal.at.loop-p-preserved c).After-rows_of)
+line : (c : goal.After-put_line) → let l = c.loop-p in let cs = layout_of (type_of (be 2 l.p c.args.s.now)) in columns c.rows_of.result.first c.rows_of.result.last ≡ cs → c.put_line.new.out ≡ laid l.a (line_text cs (taken_line cs (drop (l.p + 2) c.args.s.now))) l.out
+line c r = c.put_line.ensures ∙ ap (λ (cs : List Column). laid c.loop-p.a (line_text cs (taken_line cs (drop (c.loop-p.p + 2) c.args.s.now))) c.loop-p.out) r
 
 pub loop-p-init : goal.loop-p-init
 loop-p-init c = (refl, put_first _ _ c.requires.0 c.requires.1)
@@ -30,15 +30,17 @@ pub returns-in_default : goal.returns-in_default
 returns-in_default c = let l = c.loop-p in absurd (put_some _ l.p l.a l.out _ l.invariant.1 c.loop-p-test.true (sym (c.in_default.ensures ∙ ap type_of c.at.ensures)))
 
 pub put_line-requires : goal.put_line-requires
-put_line-requires c = let l = c.loop-p in let s = c.args.s.now in (c.rows_of.ensures.1.0, (rw (rows c) (put_room s l.p l.a l.out _ l.invariant.1 c.loop-p-test.true), rw (rows c) (put_fits s l.p l.a l.out _ l.invariant.1 c.loop-p-test.true)))
+put_line-requires c = let l = c.loop-p in let s = c.args.s.now in (rw (rows c) (put_room s l.p l.a l.out _ l.invariant.1 c.loop-p-test.true), rw (rows c) (put_fits s l.p l.a l.out _ l.invariant.1 c.loop-p-test.true))
 
 pub loop-p-preserved : goal.loop-p-preserved
 loop-p-preserved c =
     let l = c.loop-p in
     let s = c.args.s.now in
-    let q = (goal.at.loop-p-preserved c).After-rows_of in (
-      put_kept s l.p l.a l.out _ l.invariant.1 c.loop-p-test.true c.put_line.new.out (line c) ∙ l.invariant.0,
-      rw (c.line_size-p.ensures.0, c.line_long-a.ensures.0, typed q) (put_next s l.p l.a l.out _ l.invariant.1 c.loop-p-test.true c.put_line.new.out (line c)),
+    let g = goal.at.loop-p-preserved c in
+    let q = g.After-rows_of in
+    let k = line g.After-put_line (rows q) in (
+      put_kept s l.p l.a l.out _ l.invariant.1 c.loop-p-test.true c.put_line.new.out k ∙ l.invariant.0,
+      rw (c.line_sizes-sizes.ensures.1.0, c.line_sizes-sizes.ensures.0.0, typed q) (put_next s l.p l.a l.out _ l.invariant.1 c.loop-p-test.true c.put_line.new.out k),
     )
 
 pub returns : goal.returns

@@ -15,4 +15,4 @@ returns-in-Ok c =
     (p.0, c.raised.ensures ∙ p.1)
 
 pub returns-in-Err : goal.returns-in-Err
-returns-in-Err c = announce_refused_call c.args.self _ _ _ c.in-Err.ensures
+returns-in-Err c = rw c.refused.ensures (announce_refused_call c.args.self _ _ _ c.in-Err.ensures)

@@ -29,4 +29,4 @@ returns-in-Ok c =
     (ap (λ (x : ℕ). answer 0 (x ∷ [])) (c.between.ensures ∙ ap₂ (between_count (book_of c.args.self)) c.value.ensures c.value-in-Ok.ensures) ∙ p.0, p.1)
 
 pub returns-in-Err : goal.returns-in-Err
-returns-in-Err c = between_refused_call c.args.self _ _ _ _ c.in-Err.ensures
+returns-in-Err c = rw c.refused.ensures (between_refused_call c.args.self _ _ _ _ c.in-Err.ensures)

@@ -17,4 +17,4 @@ returns-in-Ok c =
 pub returns-in-Err : goal.returns-in-Err
 returns-in-Err c =
     let p = reply_refused_call c.args.self _ _ _ _ c.in-Err.ensures in
-    (p.0, p.1, refl)
+    rw c.refused.ensures (p.0, p.1, refl)

@@ -12,4 +12,4 @@ returns-in-Ok c =
     (c.granted.ensures.0 ∙ p.0, c.granted.ensures.1 ∙ p.1)
 
 pub returns-in-Err : goal.returns-in-Err
-returns-in-Err c = request_refused_call c.args.self _ _ c.in-Err.ensures
+returns-in-Err c = rw c.refused.ensures (request_refused_call c.args.self _ _ c.in-Err.ensures)
