@@ -42,6 +42,7 @@ use Rattle.ledger.specs.Papers.{request_paper_one}
 use Rattle.month_spec.specs.Calls as month
 use Rattle.month.specs.declared.Month.{Month}
 use Rattle.month.specs.State.{page_in, month_of, added_paper}
+use Rattle.month.proofs.OneAnswer.{added_one}
 use Rattle.month.proofs.Month.added.Reads as added
 use Rattle.month.proofs.Month.added.Kinds as added-kinds
 use Rattle.host_month.specs.Words as month-words
@@ -84,7 +85,7 @@ walk_cant_tell κs a b x y s t g p q =
     )
 
 -- a request's answer, beside the ledger after it
-called : Ledger → Result Range Refusal → Called Range
+abbrev called : Ledger → Result Range Refusal → Called Range
 called n w = record { next = n; answer = w }
 
 -- `Ledger::request`, asked of the ledger that each walk has left: these are equal, by the theorem
@@ -143,7 +144,7 @@ added_cant_tell κs a b x y s t g p q =
     let o = same_outside a.1.0.now b.1.0.now g.1 in
     let e : added_paper x ≡ added_paper y = p.0 ∙ o.same_added (page_in a.0) ∙ ap (λ (m : Month). month.answer_to (page_in m) b.1.0.now) g.0 ∙ sym q.0 in
     let f : x.page ≡ y.page = p.1 ∙ ap month_of (o.same_page (page_in a.0) ∙ ap (λ (m : Month). month.next_of (page_in m) b.1.0.now) g.0) ∙ sym q.1 in
-    (ap₂ (λ (r : Paper) (m : Month). record { answer = r.number; figures = r.values; page = m }) e f, refl)
+    (added_one x y e f, refl)
 
 -- THROUGH C: every number told and every byte written. What a function is lent is put in one list.
 
