@@ -43,7 +43,7 @@ fn head_at(bytes: &[u8], at: usize) -> Result<Head, Refusal>
     if left < 24 {
         return Err(Refusal::More);
     }
-    if u8::at(bytes, at + 2) != 0x30 {
+    if bytes[at + 2] != b'0' {
         return Err(Refusal::MsgType);
     }
     let kind = Kind::from(u32::at(bytes, at));
@@ -166,6 +166,9 @@ pub fn write(
 }
 
 // Whether the checks behind the head pass.
+// It is called and not inlined: few places get so far, and the search's loop over places is a third
+// faster without their code.
+#[inline(never)]
 fn accepts(bytes: &[u8], at: usize, head: Head, v: u8) -> bool
     requires { HeadSays (Ok head) (drop at bytes.now) × (v ≡ sum8 (take (24 + head.body_len) (drop at bytes.now))) }
     ensures { result ≡ reads (drop at bytes.now) }

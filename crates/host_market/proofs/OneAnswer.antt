@@ -27,8 +27,8 @@ Refuses x = x.number ≡ 0 → ⊥
 kept : (x : Finding) (p : Paper) (b d e : List ℕ) → Refuses x → finding_paper x ≡ p → e ≡ laid_if0 p b d → e ≡ d
 kept x p b d e r h l = l ∙ rw (ne_eqb p.number 0 (λ z. r (ap (λ (y : Paper). y.number) h ∙ z)))
 
-pub Finding_from_one_answer : OneAnswer _ finding-kinds.ps finding-kinds.r finding.Post
-Finding_from_one_answer κs a x y s t p q = finding_one x y (p ∙ sym q)
+pub FindingFromResultUsizeWrong_from_one_answer : OneAnswer _ finding-kinds.ps finding-kinds.r finding.Post
+FindingFromResultUsizeWrong_from_one_answer κs a x y s t p q = finding_one x y (p ∙ sym q)
 
 pub rk_market_check_one_answer : OneAnswer _ rk-market-check-kinds.ps rk-market-check-kinds.r rk-market-check.Post
 rk_market_check_one_answer κs a x y s t p q = finding_one x y (p ∙ sym q)

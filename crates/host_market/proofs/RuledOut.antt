@@ -40,16 +40,16 @@ empty = head_line 48 ++ trailer_line 2 0 4
 abbrev wrong : Fault → ℕ → Result ℕ Wrong
 wrong f p = Err (record { fault = f; place = p })
 
-abbrev pub finding_wrong : List (Row (Result ℕ Wrong) Paper)
-finding_wrong =
+abbrev pub FindingFromResultUsizeWrong_from_wrong : List (Row (Result ℕ Wrong) Paper)
+FindingFromResultUsizeWrong_from_wrong =
     Ok 3 only fine 3
     ∷ wrong Header 81 only fault 41 81
     ∷ wrong Sum 0 never fine 0  -- a fault told as sound
     ∷ wrong Room 0 only fault 8 0
     ∷ []
 
-pub Finding_from_rules_out : RulesOut (Kept _ finding-kinds.ps finding-kinds.r finding.Post) (λ c. c.args.0) (λ c. finding_paper c.result) finding_wrong
-Finding_from_rules_out = ruled papers verdict_paper (λ c p. p) _ refl
+pub FindingFromResultUsizeWrong_from_rules_out : RulesOut (Kept _ finding-kinds.ps finding-kinds.r finding.Post) (λ c. c.args.0) (λ c. finding_paper c.result) FindingFromResultUsizeWrong_from_wrong
+FindingFromResultUsizeWrong_from_rules_out = ruled papers verdict_paper (λ c p. p) _ refl
 
 -- CHECK: a file
 abbrev pub rk_market_check_wrong : List (Row (List ℕ) Paper)

@@ -73,7 +73,7 @@ const LAST_CHANNEL: u16 = 9_999;
 fn reply_status(s: u8) -> bool
     ensures { result ≡ reply_status s }
 {
-    (1 <= s && s <= 5) || s == 99
+    matches!(s, 1..=5 | 99)
 }
 
 // Whether the map, read round from `from`, keeps the state rules, where `known` numbers lie above
@@ -86,13 +86,7 @@ fn map_sound(map: Map, from: u64, known: u64) -> bool
     if 256 <= known {
         return !map.holds(from % 256);
     }
-    if map.empty() {
-        return true;
-    }
-    if known == 0 {
-        return false;
-    }
-    map.none_but(from % 256, known - 1)
+    map.empty() || (known != 0 && map.none_but(from % 256, known - 1))
 }
 
 // A number of 1 to 18 digits.

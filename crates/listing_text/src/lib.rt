@@ -58,6 +58,7 @@ fn store_type(d: &mut [u8], at: usize, t: u32) -> usize
 }
 
 // Writes the first four columns over d from at on, and returns the place after them.
+#[tactic(auto, using(crate::specs::Columns::room_first, crate::specs::Columns::room_behind, record::specs::Stored::stored_both), unfolding(crate::specs::Text::first_columns))]
 fn store_columns(d: &mut [u8], at: usize, r: Record) -> usize
     requires { Room at (first_columns r) d.old }
     ensures { Stored at (first_columns r) d.old d.new result }
@@ -69,6 +70,7 @@ fn store_columns(d: &mut [u8], at: usize, r: Record) -> usize
 }
 
 // Writes the other four.
+#[tactic(auto, using(crate::specs::Columns::room_first, crate::specs::Columns::room_behind, record::specs::Stored::stored_both), unfolding(crate::specs::Text::last_columns))]
 fn store_last(d: &mut [u8], at: usize, r: Record) -> usize
     requires { Room at (last_columns r) d.old }
     ensures { Stored at (last_columns r) d.old d.new result }
@@ -80,6 +82,7 @@ fn store_last(d: &mut [u8], at: usize, r: Record) -> usize
 }
 
 // Writes a record's line over d from at on, and returns the place after it.
+#[tactic(auto, using(crate::specs::Columns::room_first, crate::specs::Columns::room_behind, record::specs::Stored::stored_both), unfolding(crate::specs::Text::line_of))]
 fn store_line(d: &mut [u8], at: usize, r: Record) -> usize
     requires { Room at (line_of r) d.old }
     ensures { Stored at (line_of r) d.old d.new result }
@@ -110,6 +113,7 @@ fn store_named(d: &mut [u8], at: usize, word: &[u8], v: u64, behind: u8) -> usiz
 }
 
 // Writes the last line of the listing over d from at on, and returns the place after it.
+#[tactic(auto, using(crate::specs::Columns::room_first, crate::specs::Columns::room_behind, record::specs::Stored::stored_both), unfolding(crate::specs::Text::summary_of))]
 fn store_summary(d: &mut [u8], at: usize, s: Summary) -> usize
     requires { Room at (summary_of s) d.old }
     ensures { Stored at (summary_of s) d.old d.new result }
@@ -133,6 +137,7 @@ pub fn put_summary(out: &mut [u8], at: usize, s: Summary) -> Result<usize, Refus
 }
 
 // How many bytes a number takes with the byte after it.
+#[tactic(auto, using(crate::specs::Columns::few_digits))]
 fn column_len(v: u64) -> usize
     ensures { (result ≡ width_of v + 1) × (result ≤ 21) }
 {
@@ -140,6 +145,7 @@ fn column_len(v: u64) -> usize
 }
 
 // How many bytes a record's line has.
+#[tactic(auto, using(crate::specs::Lengths::line_length))]
 fn line_len(r: Record) -> usize
     ensures { result ≡ length (line_of r) }
 {
@@ -150,6 +156,7 @@ fn line_len(r: Record) -> usize
 }
 
 // How many bytes the last line has: 33 are those of its words.
+#[tactic(auto, using(crate::specs::Lengths::summary_length))]
 fn last_len(s: Summary) -> usize
     ensures { result ≡ length (summary_of s) }
 {

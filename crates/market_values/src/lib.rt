@@ -188,20 +188,20 @@ fn give_line(out: &mut [u8], at: usize, s: &[u8], from: usize, rows: Rows)
 // How many bytes a line has, and its values with the two of its type.
 #[derive(Clone, Copy, Debug, PartialEq, Eq)]
 struct Sizes {
-    text: usize,
+    bytes: usize,
     values: usize,
 }
 
 fn line_sizes(line: LineType) -> Sizes
-    ensures { ((result.text ≡ length_of (layout_of (line_number line))) × (result.text ≤ 227)) × ((result.values ≡ 2 + sizes_of (layout_of (line_number line))) × (result.values ≤ 173)) }
+    ensures { ((result.bytes ≡ length_of (layout_of (line_number line))) × (result.bytes ≤ 227)) × ((result.values ≡ 2 + sizes_of (layout_of (line_number line))) × (result.values ≤ 173)) }
 {
-    let (text, values) = match line {
+    let (bytes, values) = match line {
         LineType::Md401 => (227, 173),
         LineType::Md404 => (128, 109),
         LineType::Md405 => (125, 103),
         LineType::Md406 => (149, 121),
     };
-    Sizes { text, values }
+    Sizes { bytes, values }
 }
 
 // The number of a line's type, and the type of a number.
@@ -238,7 +238,7 @@ fn values_size(s: &[u8]) -> usize
     while let Start::Line(line) = market::line_type(s, p) {
         let sizes = line_sizes(line);
         n += sizes.values;
-        p += sizes.text;
+        p += sizes.bytes;
     }
     n
 }
@@ -255,7 +255,7 @@ fn give_lines(out: &mut [u8], s: &[u8])
         give_line(out, a + 2, s, p, market::rows_of(line));
         let sizes = line_sizes(line);
         a += sizes.values;
-        p += sizes.text;
+        p += sizes.bytes;
     }
 }
 
@@ -316,7 +316,7 @@ fn judge_lines(s: &[u8]) -> Result<Good, Wrong>
             });
         };
         p = values_fit(s, p + 2, market::rows_of(line))?;
-        size += line_sizes(line).text;
+        size += line_sizes(line).bytes;
         lines += 1;
     }
     Ok(Good { size, lines })
@@ -354,7 +354,7 @@ fn put_lines(out: &mut [u8], s: &[u8])
         };
         put_line(out, a, s, p + 2, market::rows_of(line));
         let sizes = line_sizes(line);
-        a += sizes.text;
+        a += sizes.bytes;
         p += sizes.values;
     }
 }

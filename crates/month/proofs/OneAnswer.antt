@@ -32,8 +32,11 @@ figures_one a b e = sym (figures_told a) ∙ ap (told Ok Err) e ∙ figures_told
 pub Month-started-one-answer : OneAnswer _ started-kinds.ps started-kinds.r started.Post
 Month-started-one-answer κs a x y s t p q = ap₂ (λ (r : Result ⊤ Refusal) (m : Month). record { answer = r; page = m }) (verdict_one x.answer y.answer (p.0 ∙ sym q.0)) (p.1 ∙ sym q.1)
 
+pub added_one : (x y : Added) → added_paper x ≡ added_paper y → x.page ≡ y.page → x ≡ y
+added_one x y e f = ap₂ (λ (r : Result (List ℕ) Refusal) (m : Month). record { answer = r; page = m }) (figures_one x.answer y.answer e) f
+
 pub Month-added-one-answer : OneAnswer _ added-kinds.ps added-kinds.r added.Post
-Month-added-one-answer κs a x y s t p q = ap₂ (λ (r : Result (List ℕ) Refusal) (m : Month). record { answer = r; page = m }) (figures_one x.answer y.answer (p.0 ∙ sym q.0)) (p.1 ∙ sym q.1)
+Month-added-one-answer κs a x y s t p q = added_one x y (p.0 ∙ sym q.0) (p.1 ∙ sym q.1)
 
 -- a refusal gives back the very page
 pub added_refused_stays : (m : Month) (s : List ℕ) (x : Added) → added_paper x ≡ answer_to (page_in m) s → x.page ≡ month_of (next_of (page_in m) s) → ((added_paper x).number ≡ 0 → ⊥) → x.page ≡ m

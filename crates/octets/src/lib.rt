@@ -150,6 +150,17 @@ pub fn put(d: &mut [u8], at: usize, n: usize, v: u64) -> Result<usize, Refusal>
     Ok(n)
 }
 
+// Stores all of src from at on. Byte by byte: of an array made aside the compiler then stores the
+// parts at once, and not the whole of it first.
+fn copy(d: &mut [u8], at: usize, src: &[u8])
+    requires { at + length src.now ≤ length d.old }
+    ensures { d.new ≡ laid at src.now d.old }
+{
+    for i in 0..src.len() {
+        d[at + i] = src[i];
+    }
+}
+
 // Writes all of src over d from at on.
 pub fn lay(d: &mut [u8], at: usize, src: &[u8]) -> Result<usize, Refusal>
     ensures { (written_paper result ≡ room_for at (length src.now) (length d.old)) × (d.new ≡ laid_if_room at src.now d.old) }
@@ -157,7 +168,7 @@ pub fn lay(d: &mut [u8], at: usize, src: &[u8]) -> Result<usize, Refusal>
     if !has_room(d.len(), at, src.len()) {
         return Err(Refusal::Room);
     }
-    d[at..at + src.len()].copy_from_slice(src);
+    copy(d, at, src);
     Ok(src.len())
 }
 

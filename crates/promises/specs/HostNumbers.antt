@@ -2,6 +2,7 @@
 -- table. This is said of what is offered to the ledger, of each paper that a function of
 -- `host_captures` names in its promise, and of each function.
 use Rattle.std.specs.Prelude.{ℕ, ◌+◌, refl, List, [], ◌∷◌, eqb, ltb, leb, length}
+use Rattle.terms.specs.Verdicts.{verdict_number}
 use Rattle.terms.specs.Paper.{answer, refusal}
 use Rattle.octets.specs.Papers.{room_for}
 use Rattle.frame_spec.specs.Frame.{checked}
@@ -39,7 +40,7 @@ unfolding offering answer_to
 offered b n [] h = h
 offered b n (call ∷ calls) h = offered (next_of b call) (number_to b call) calls (calling b call)
 
-pub offer_numbered : Promises _ offer-kinds.ps offer-kinds.r offer.Post (λ κs a x s. Numbered x.answer)
+pub offer_numbered : Promises _ offer-kinds.ps offer-kinds.r offer.Post (λ κs a x s. Numbered (verdict_number x.answer))
 unfolding offer_of
 offer_numbered κs a x s p = rw p.0 (offered (book_of a.0) (seen_number a.1.0) (calls_by a.1.0) (seen_numbered a.1.0))
 

@@ -2,12 +2,13 @@
 -- page m one after the other, refused ones among them, by whatever meets the promise of
 -- Month::added; the page is n then. Figures are told from the calls of a capture alone
 -- (`figures_of` of `month_spec`).
-use Rattle.std.specs.Prelude.{ℕ, ◌+◌, ◌*◌, ◌≤◌, ◌<◌, ◌≡◌, refl, Bool, true, false, ◌↔◌, List, [], ◌∷◌, eqb, length, take}
+use Rattle.std.specs.Prelude.{ℕ, ◌+◌, ◌*◌, ◌≤◌, ◌<◌, ◌≡◌, refl, Bool, true, false, ◌↔◌, List, [], ◌∷◌, eqb, length, take, Ok}
 use Rattle.std.proofs.Common.{sym, ap₂, ◌∙◌, ⊎_elim, arith, eq-eqb, ne_eqb}
 use Rattle.std.proofs.Math.Path.{ap}
 use Rattle.std.proofs.Math.ListN.{get_or}
 use Rattle.terms.specs.Cases.{same}
 use Rattle.terms.specs.Paper.{Paper, answer, one_number}
+use Rattle.terms.specs.Verdicts.{verdict_number}
 use Rattle.octets.specs.Overlays.{take_front}
 use Rattle.clean_spec.specs.Clean.{clean_of, fits_in, clean_answer, clean_leaves}
 use Rattle.clean.specs.declared.Cleaned.{Cleaned}
@@ -30,7 +31,7 @@ use Rattle.month_spec.proofs.Starts as Starts
 use Rattle.month.specs.declared.Month.{Month}
 use Rattle.month.specs.declared.Started.{Started}
 use Rattle.month.specs.declared.Added.{Added}
-use Rattle.month.specs.State.{page_in, month_of, added_paper}
+use Rattle.month.specs.State.{page_in, month_of, figures_paper, added_paper}
 use Rattle.month.proofs.OneAnswer as month
 use Rattle.month.proofs.Month.started.Reads as started
 use Rattle.month.proofs.Month.started.Kinds as started-kinds
@@ -57,14 +58,15 @@ added_call κs a x s p = record { paper = p.0; page = p.1 }
 -- "for each of up to 32 channels named at the start, ticks received, repeated, refused as far,
 -- still missing, and P002 frames of status 0 and of status 4": what a capture answered 0 is told,
 -- for each named place and each of the six, is the figure counted from its calls
-pub figures_counted : (m : Month) (s : List ℕ) (x : Added) → AddCall m s x → x.answer ≡ 0
-    → (place figure : ℕ) → place < m.named → figure < 6 → get_or x.figures (6 * place + figure) 0 ≡ figure_of (get_or m.channels place 0) s figure
+pub figures_counted : (m : Month) (s : List ℕ) (x : Added) → AddCall m s x → (figures : List ℕ) → x.answer ≡ Ok figures
+    → (place figure : ℕ) → place < m.named → figure < 6 → get_or figures (6 * place + figure) 0 ≡ figure_of (get_or m.channels place 0) s figure
 unfolding answer_to figures_told
-figures_counted m s x c z place figure h k =
-    let n : number_to (page_in m) s ≡ 0 = sym (one_number c.paper) ∙ z in
+figures_counted m s x c figures z place figure h k =
+    let paper : answer 0 figures ≡ answer_to (page_in m) s = ap figures_paper (sym z) ∙ c.paper in
+    let n : number_to (page_in m) s ≡ 0 = sym (one_number paper) in
     let r = ((Given.given_0 (page_in m) s).0 n).rules in
     let low : 6 * place + figure < figures_in_all = omega (arith, r.named_few) in
-    ap (λ (p : Paper). get_or p.values (6 * place + figure) 0) c.paper
+    ap (λ (p : Paper). get_or p.values (6 * place + figure) 0) paper
     ∙ rw (eq-eqb (number_to (page_in m) s) 0 n) (get_d_tabled (figure_at (page_in m) s) figures_in_all (6 * place + figure) low ∙ Given.figure_named (page_in m) s place figure h k)
 
 -- ======== "Their figures equal those of the originals."
@@ -74,19 +76,20 @@ pub scrubbed_same : (channel : ℕ) (s : List ℕ) → figures_of channel (clean
 scrubbed_same = Counted.scrubbed_same
 
 -- and so of whatever `clean::clean` wrote: the bytes at the front of the buffer d
-written : (s d : List ℕ) (x : Cleaned) → clean_paper x ≡ clean_answer s (length d) → (clean_paper x).number ≡ 0 → (e : List ℕ) → e ≡ clean_leaves s d → take x.bytes e ≡ clean_of s
+written : (s d : List ℕ) (x : Cleaned) → clean_paper (Ok x) ≡ clean_answer s (length d) → (e : List ℕ) → e ≡ clean_leaves s d → take x.bytes e ≡ clean_of s
 unfolding clean_answer clean_leaves
-written s d x p z e q = by_room (fits_in s (length d)) refl
+written s d x p e q = by_room (fits_in s (length d)) refl
   where
     by_room : (b : Bool) → fits_in s (length d) ≡ b → take x.bytes e ≡ clean_of s
     by_room true f =
         let n : x.bytes ≡ length (clean_of s) = ap (λ (y : Paper). get_or y.values 0 0) (rw f at p) in
         ap (take x.bytes) (rw f at q) ∙ take_front x.bytes (clean_of s) d (sym n)
-    by_room false f = absurd (omega (arith, sym z ∙ one_number (rw f at p)))
+    by_room false f = absurd (omega (arith, one_number (rw f at p)))
 
 pub cleaned_same : (channel : ℕ)
-    → Promises _ clean-kinds.ps clean-kinds.r clean.Post (λ κs a x s. (clean_paper x).number ≡ 0 → figures_of channel (take x.bytes s.1.0.now) ≡ figures_of channel a.0.now)
-cleaned_same channel κs a x s p z = ap (figures_of channel) (written a.0.now a.1.0.now x p.0 z s.1.0.now p.1) ∙ scrubbed_same channel a.0.now
+    → Promises _ clean-kinds.ps clean-kinds.r clean.Post (λ κs a x s. (c : Cleaned) → x ≡ Ok c → figures_of channel (take c.bytes s.1.0.now) ≡ figures_of channel a.0.now)
+cleaned_same channel κs a x s p c e =
+    ap (figures_of channel) (written a.0.now a.1.0.now c (ap clean_paper (sym e) ∙ p.0) s.1.0.now p.1) ∙ scrubbed_same channel a.0.now
 
 -- ======== Rows of captures
 
@@ -101,7 +104,7 @@ ran_page m n (s ∷ ss) (r_more {x = x} c r) = ran_page x.page n ss r ∙ ap (λ
 
 -- a start answered 0: the page of these channels, with nothing taken
 pub record StartCall (cs : List ℕ) (x : Started) : Type 0 where
-  pub number : x.answer ≡ start_number cs
+  pub number : verdict_number x.answer ≡ start_number cs
   pub page : x.page ≡ month_of (start_page cs)
 
 pub started_call : Promises _ started-kinds.ps started-kinds.r started.Post (λ κs a x s. StartCall a.0.now x)
@@ -198,7 +201,7 @@ pub given_28 : (p : Page) (s : List ℕ) → (number_to p s ≡ 28) ↔ Given28 
 given_28 = Given.given_28
 
 -- "the page so far stays": a refusal gives back the very page
-pub page_stays : (m : Month) (s : List ℕ) (x : Added) → AddCall m s x → (x.answer ≡ 0 → ⊥) → x.page ≡ m
+pub page_stays : (m : Month) (s : List ℕ) (x : Added) → AddCall m s x → ((added_paper x).number ≡ 0 → ⊥) → x.page ≡ m
 page_stays m s x c ne = month.added_refused_stays m s x c.paper c.page ne
 
 -- ======== For C and Rust: the words are those of the page, after every row of calls

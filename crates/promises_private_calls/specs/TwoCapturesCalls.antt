@@ -1,7 +1,7 @@
 -- CR 13 of whatever the functions may answer by the promises that the checker makes of their
 -- `ensures`: the same call on two captures that meet the premise, with the same bytes in all that
 -- is lent beside them, answers the same and leaves the same bytes.
-use Rattle.std.specs.Prelude.{ℕ, ◌+◌, ◌≡◌, refl, List, [], ◌∷◌, length, take, get_or}
+use Rattle.std.specs.Prelude.{ℕ, ◌+◌, ◌≡◌, refl, List, [], ◌∷◌, length, take, get_or, Result}
 use Rattle.std.proofs.Common.{sym, ap, ap₂, ◌∙◌}
 use contract.Lifetimes.{Lfts}
 use borrow.Fn.Kinds.{ParamKind, ResultKind, Dens, res_t, ended_of, Out}
@@ -13,7 +13,9 @@ use Rattle.private.specs.Scrub.{scrubbed, scrub_answer}
 use Rattle.private.proofs.Laws.{answer_as}
 use Rattle.ledger.specs.State.{book_of, ledger_of, next_in}
 use Rattle.ledger.specs.declared.Ledger.{Ledger}
-use Rattle.ledger.specs.declared.RequestAnswer.{RequestAnswer}
+use Rattle.ledger.specs.declared.Called.{Called}
+use Rattle.ledger.specs.declared.Range.{Range}
+use Rattle.terms.specs.declared.Refusal.{Refusal}
 use Rattle.ledger_spec.specs.Calls.{Request, answer_to}
 use Rattle.clean_spec.specs.Clean.{clean_answer, clean_leaves}
 use Rattle.walk_spec.specs.Walk.{sights, walk_answer, walk_book, walk_leaves}
@@ -40,6 +42,7 @@ use Rattle.ledger.specs.Papers.{request_paper_one}
 use Rattle.month_spec.specs.Calls as month
 use Rattle.month.specs.declared.Month.{Month}
 use Rattle.month.specs.State.{page_in, month_of, added_paper}
+use Rattle.month.proofs.OneAnswer.{added_one}
 use Rattle.month.proofs.Month.added.Reads as added
 use Rattle.month.proofs.Month.added.Kinds as added-kinds
 use Rattle.host_month.specs.Words as month-words
@@ -81,13 +84,17 @@ walk_cant_tell κs a b x y s t g p q =
       p.1.1 ∙ o.same_table _ ∙ ap (walk_leaves b.0.now) g.1 ∙ sym q.1.1,
     )
 
+-- a request's answer, beside the ledger after it
+abbrev called : Ledger → Result Range Refusal → Called Range
+called n w = record { next = n; answer = w }
+
 -- `Ledger::request`, asked of the ledger that each walk has left: these are equal, by the theorem
 -- above
 pub request_cant_tell : CantTell _ request-kinds.ps request-kinds.r request.Post (λ κs a b. (a.0 ≡ b.0) × (a.1.0 ≡ b.1.0)) (λ κs s. [])
 request_cant_tell κs a b x y s t g p q =
     let e : answer_to (book_of a.0) (Request a.1.0.0) ≡ answer_to (book_of b.0) (Request b.1.0.0) = rw (g.0, g.1) in
     let f : next_in a.0 (Request a.1.0.0) ≡ next_in b.0 (Request b.1.0.0) = rw (g.0, g.1) in
-    (ap₂ (λ (n : Ledger) (w : RequestAnswer). record { next = n; answer = w }) (p.1 ∙ f ∙ sym q.1) (request_paper_one x.answer y.answer (p.0 ∙ e ∙ sym q.0)), refl)
+    (ap₂ called (p.1 ∙ f ∙ sym q.1) (request_paper_one x.answer y.answer (p.0 ∙ e ∙ sym q.0)), refl)
 
 -- the two, one after the other: what a request on the ledger of each walk answers
 pub walk_then_request : (κs : Lfts 2) (a b : Dens κs walk-kinds.ps) (x y : (res_t walk-kinds.r κs).Denot) (s t : AtExit (ended_of _ walk-kinds.ps walk-kinds.r) κs)
@@ -137,7 +144,7 @@ added_cant_tell κs a b x y s t g p q =
     let o = same_outside a.1.0.now b.1.0.now g.1 in
     let e : added_paper x ≡ added_paper y = p.0 ∙ o.same_added (page_in a.0) ∙ ap (λ (m : Month). month.answer_to (page_in m) b.1.0.now) g.0 ∙ sym q.0 in
     let f : x.page ≡ y.page = p.1 ∙ ap month_of (o.same_page (page_in a.0) ∙ ap (λ (m : Month). month.next_of (page_in m) b.1.0.now) g.0) ∙ sym q.1 in
-    (ap₂ (λ (r : Paper) (m : Month). record { answer = r.number; figures = r.values; page = m }) e f, refl)
+    (added_one x y e f, refl)
 
 -- THROUGH C: every number told and every byte written. What a function is lent is put in one list.
 

@@ -3,7 +3,7 @@
 -- `taken` has "the joined bytes of the calls not refused", `ended` says whether the closing call is
 -- among those, and `heard` has what a host then has from its buffers. No capture is too long:
 -- `number_told` knows no such number.
-use Rattle.std.specs.Prelude.{ℕ, ◌^◌, ◌≤◌, ◌<◌, ◌≡◌, true, List, ◌++◌, length, drop}
+use Rattle.std.specs.Prelude.{ℕ, ◌^◌, ◌≤◌, ◌<◌, ◌≡◌, true, refl, List, ◌++◌, length, drop, Result, Ok, Err}
 use Rattle.std.proofs.Common.{sym, ◌∙◌, arith}
 use Rattle.std.proofs.Math.Path.{ap}
 use Rattle.ledger.specs.State.{book_of, ledger_of}
@@ -19,9 +19,9 @@ use Rattle.listing_text.specs.Fit.{walk_fits}
 use Rattle.listing_text.specs.Listed.{last_at, listed_of, walked_book}
 use Rattle.stream_spec.specs.declared.Stream.{Stream}
 use Rattle.stream_spec.specs.declared.Fed.{Fed}
-use Rattle.terms.specs.declared.Verdict.TheVariants.{Fine}
 use Rattle.stream_spec.specs.State.{head_of, StreamRules}
 use Rattle.stream_spec.specs.Calls.{Call, cut_of, closes}
+use Rattle.terms.specs.declared.Refusal.{Refusal}
 use Rattle.terms.specs.Verdicts.{verdict_number}
 use Rattle.stream_spec.specs.CallLaws.{Promised}
 use Rattle.stream_spec.specs.Answers.{refused_leaves, refused_stream}
@@ -36,6 +36,11 @@ use Rattle.host_stream_spec.specs.Rows.{Followed, HostFollows}
 use Rattle.host_stream.proofs.Promised as Follow
 use Rattle.host_stream_spec.proofs.Cuttings.{every_host_cutting}
 use Rattle.stream.proofs.Promised.{ran_rules, ran_few, ran_heard, ran_closed, ran_number}
+
+-- an answer that is not 0 is a refusal
+refusal_in : (x : Result ℕ Refusal) → (verdict_number x ≡ 0 → ⊥) → (w : Refusal) × (x ≡ Err w)
+refusal_in (Ok n) f = absurd (f refl)
+refusal_in (Err w) f = (w, refl)
 
 -- a place that "waits for more": `wait_at` is such a place, or the end, and every one before it
 -- lies inside a frame that was read
@@ -95,14 +100,16 @@ module _ {calls : Calls} {x : Stream} (row : Row calls x) where
   pub stream_rules : StreamRules x
   stream_rules = ran_rules row
 
-  module _ (call : Call) (d d' : List ℕ) (r : Fed) (p : Promised x (closes call) (cut_of call) d d' r) where
+  module _ (call : Call) (d d' : List ℕ) (r : Fed ℕ) (p : Promised x (closes call) (cut_of call) d d' r) where
     -- the number of a further call, by the calls before it: 19, then 29, then 8
     pub its_number : verdict_number r.answer ≡ number_told calls call (length d)
     its_number = ran_number row call d d' r p
 
     -- beside a refusal "nothing changes"
-    pub nothing_changes : (r.answer ≡ Fine → ⊥) → (r.stream ≡ x) × (d' ≡ d)
-    nothing_changes w = (refused_stream x (closes call) (cut_of call) d d' r p w, refused_leaves x (closes call) (cut_of call) d d' r p w)
+    pub nothing_changes : (verdict_number r.answer ≡ 0 → ⊥) → (r.stream ≡ x) × (d' ≡ d)
+    nothing_changes n =
+        let w = refusal_in r.answer n in
+        (refused_stream x (closes call) (cut_of call) d d' r p w, refused_leaves x (closes call) (cut_of call) d d' r p w)
 
 -- "for every cutting", before the closing call too: the same bytes taken leave one stream, and one
 -- row of records

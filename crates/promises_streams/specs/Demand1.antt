@@ -1,14 +1,17 @@
 -- Demand 1 for the functions of a stream: `promises/specs/Demand1.antt` tells what is said here.
+use Rattle.std.specs.Prelude.{ℕ, refl, Result, Ok, Err}
+use Rattle.terms.specs.declared.Refusal.{Refusal}
+use Rattle.ledger.specs.Papers.{count_paper}
 use Rattle.stream_spec.specs.declared.Fed.{Fed}
 use Rattle.stream_spec.specs.Calls.{fed_paper}
-use Rattle.stream_clean_spec.specs.declared.Washed.{Washed}
-use Rattle.stream_clean_spec.specs.Calls.{washed_paper}
+use Rattle.stream_clean_spec.specs.declared.Sums.{Sums}
+use Rattle.stream_clean_spec.specs.Calls.{washed_paper, summed_paper}
 use Rattle.reading_parts.proofs.OneAnswer as reading_parts
 use Rattle.stream_spec.proofs.OneAnswer as stream_spec
 use Rattle.stream.proofs.OneAnswer as stream
 use Rattle.stream_clean.proofs.OneAnswer as stream_clean
 use Rattle.host_stream.proofs.OneAnswer as host_stream
-use Rattle.promises_words.specs.Words.{Named, named, Numbered, verdict_numbered}
+use Rattle.promises_words.specs.Words.{Named, named, refusal_in_table, Numbered, done, refused}
 
 -- EVERY ANSWER
 
@@ -55,11 +58,19 @@ follow_answers =
 -- EVERY NUMBER
 
 -- the calls of a stream
-pub stream_numbered : (x : Fed) → Numbered (fed_paper x).number
-stream_numbered x = verdict_numbered x.answer
+counted_numbered : (x : Result ℕ Refusal) → Numbered (count_paper x).number
+counted_numbered (Ok n) = done refl
+counted_numbered (Err w) = refused (refusal_in_table w)
 
-pub stream_clean_numbered : (x : Washed) → Numbered (washed_paper x).number
-stream_clean_numbered x = verdict_numbered x.answer
+pub stream_numbered : (x : Fed ℕ) → Numbered (fed_paper x).number
+stream_numbered x = counted_numbered x.answer
+
+summed_numbered : (x : Result Sums Refusal) → Numbered (summed_paper x).number
+summed_numbered (Ok s) = done refl
+summed_numbered (Err w) = refused (refusal_in_table w)
+
+pub stream_clean_numbered : (x : Fed Sums) → Numbered (washed_paper x).number
+stream_clean_numbered x = summed_numbered x.answer
 
 -- EVERY BUFFER
 

@@ -14,20 +14,20 @@ pub loop-b-init : goal.loop-b-init
 unfolding all_digits said_by numeral
 loop-b-init c = (refl, refl)
 
-pub returns-then-not-is_ascii_digit : goal.returns-then-not-is_ascii_digit
-returns-then-not-is_ascii_digit c =
+pub returns-then-not-digit : goal.returns-then-not-digit
+returns-then-not-digit c =
     let e : c.args.at + c.args.n - c.args.at ≡ c.args.n = omega arith in
-    rw e at (sym (said_lacks _ (said_stops _ _ c.loop-b-test.true (sym c.is_ascii_digit.ensures.value ∙ c.if-not-is_ascii_digit.true))))
+    rw e at (sym (said_lacks _ (said_stops _ _ c.loop-b-test.true (sym c.digit.ensures ∙ c.if-not-digit.true))))
 
 pub overflow_mul-v : goal.overflow_mul-v
 overflow_mul-v c = omega (arith, said_room _ _ c.loop-b-test.true (omega arith) c.loop-b.invariant.0)
 
 pub overflow_add-v : goal.overflow_add-v
-overflow_add-v c = omega (arith, digit_bounds (hand c.args.s.now c.args.at c.args.n c.loop-b.b-index) (sym c.is_ascii_digit.ensures.value ∙ c.if-not-is_ascii_digit.false), said_room _ _ c.loop-b-test.true (omega arith) c.loop-b.invariant.0)
+overflow_add-v c = omega (arith, digit_bounds (hand c.args.s.now c.args.at c.args.n c.loop-b.b-index) (sym c.digit.ensures ∙ c.if-not-digit.false), said_room _ _ c.loop-b-test.true (omega arith) c.loop-b.invariant.0)
 
 pub loop-b-preserved : goal.loop-b-preserved
 loop-b-preserved c =
-    (all_on _ _ c.loop-b-test.true c.loop-b.invariant.0 (sym c.is_ascii_digit.ensures.value ∙ c.if-not-is_ascii_digit.false), rw (said_on _ _ c.loop-b-test.true) (omega (arith, digit_bounds (hand c.args.s.now c.args.at c.args.n c.loop-b.b-index) (sym c.is_ascii_digit.ensures.value ∙ c.if-not-is_ascii_digit.false))))
+    (all_on _ _ c.loop-b-test.true c.loop-b.invariant.0 (sym c.digit.ensures ∙ c.if-not-digit.false), rw (said_on _ _ c.loop-b-test.true) (omega (arith, digit_bounds (hand c.args.s.now c.args.at c.args.n c.loop-b.b-index) (sym c.digit.ensures ∙ c.if-not-digit.false))))
 
 pub returns : goal.returns
 returns c =

@@ -21,7 +21,7 @@ long : (c : goal.After-is_known) → 24 ≤ length (text c)
 long c = simp length-drop (omega arith)
 
 kind : (c : goal.After-is_known) → c.from-kind.result ≡ kind_of (msg_type (text c))
-kind c = kind_is _ _ c.from-kind.ensures ∙ ap kind_of (c.at-2.ensures ∙ be_here c.args.at c.args.bytes.now 4)
+kind c = kind_is _ _ c.from-kind.ensures ∙ ap kind_of (c.at.ensures ∙ be_here c.args.at c.args.bytes.now 4)
 
 len_is : (c : goal.After-at-body_len) → c.at-body_len.result ≡ body_length (text (goal.at.After-at-body_len c).After-is_known)
 len_is c = c.at-body_len.ensures ∙ be_at c.args.at c.args.bytes.now 4 20
@@ -43,13 +43,13 @@ pub returns-then-left-lt24 : goal.returns-then-left-lt24
 returns-then-left-lt24 c = read_short _ (simp length-drop (omega arith))
 
 -- the third letter alone says that the word is none of the table's
-pub returns-then-at-ne48 : goal.returns-then-at-ne48
-returns-then-at-ne48 c =
+pub returns-then-bytes-at-ne48 : goal.returns-then-bytes-at-ne48
+returns-then-bytes-at-ne48 c =
     let s = c in
     let a = s.args.at in
     let b = s.args.bytes.now in
     let no_type : known (kind_of (msg_type (drop a b))) ≡ false =
-    ap known (ap kind_of (sym (be_here a b 4)) ∙ kind_none (be 4 a b) (λ e. c.if-at-ne48.true (c.at.ensures ∙ sym (third a b (c.type_inv.bytes (a + 2)).fits (c.type_inv.bytes (a + 3)).fits) ∙ e))) in
+    ap known (ap kind_of (sym (be_here a b 4)) ∙ kind_none (be 4 a b) (λ e. c.if-bytes-at-ne48.true (sym (third a b (c.type_inv.bytes (a + 2)).fits (c.type_inv.bytes (a + 3)).fits) ∙ e))) in
     read_measured _ 2 (simp length-drop (omega arith)) (measure_type _ _ no_type) (λ e. omega arith)
 
 pub returns-then-not-is_known : goal.returns-then-not-is_known

@@ -5,7 +5,7 @@ use mathlib.Core.Path.{sym, ap, ◌∙◌}
 use mathlib.Core.Bool.{not}
 use Prim.Native.Nat.{◌<◌}
 use native.Mathlib.Omega.{arith}
-use borrow.Author.Tests.{eqb-true, eqb-false}
+use borrow.Author.Tests.{eq-eqb, eqb-true, eqb-false}
 use Rattle.tick_map.specs.Bits.{Words}
 use Rattle.tick_map.proofs.Words.{list_lt}
 use Rattle.ledger.proofs.Seam.{rules_empty, rules_none, rules_all, rules_few}
@@ -24,16 +24,17 @@ returns-then-known-ge256 c =
 pub returns-then-empty : goal.returns-then-empty
 returns-then-empty c =
     let s = c in
-    rules_empty s.args.from s.args.known _ (list_lt _ (words (goal.at.returns-then-empty c).Start)) (eqb-true _ _ (sym c.empty.ensures ∙ c.if-empty.true))
+    c.if-empty.true ∙ rules_empty s.args.from s.args.known _ (list_lt _ (words (goal.at.returns-then-empty c).Start)) (eqb-true _ _ (sym c.empty.ensures ∙ c.if-empty.true))
 
-pub returns-then-known-eq0 : goal.returns-then-known-eq0
-returns-then-known-eq0 c =
-    let s = c in
-    rules_none s.args.from s.args.known _ (list_lt _ (words (goal.at.returns-then-known-eq0 c).Start)) (eqb-false _ _ (sym c.empty.ensures ∙ c.if-empty.false)) c.if-known-eq0.true
-
-pub returns : goal.returns
-returns c =
+pub returns-then-known-ne0 : goal.returns-then-known-ne0
+returns-then-known-ne0 c =
     let s = c in
     let some : 0 < s.args.known = omega arith in
     let few : s.args.known < 256 = omega arith in
-    c.none_but.ensures ∙ rules_few s.args.from s.args.known _ (list_lt _ (words (goal.at.returns c).Start)) some few
+    c.none_but.ensures ∙ rules_few s.args.from s.args.known _ (list_lt _ (words (goal.at.returns-then-known-ne0 c).Start)) some few
+
+pub returns-else-known-ne0 : goal.returns-else-known-ne0
+returns-else-known-ne0 c =
+    let s = c in
+    ap not (eq-eqb _ _ c.if-known-ne0.false)
+    ∙ rules_none s.args.from s.args.known _ (list_lt _ (words (goal.at.returns-else-known-ne0 c).Start)) (eqb-false _ _ (sym c.empty.ensures ∙ c.if-empty.false)) c.if-known-ne0.false

@@ -31,7 +31,7 @@ given : (c : goal.After-line_sizes-sizes) → let l = c.loop-line in let cs = la
 given c r = c.give_line.ensures ∙ ap (λ (cs : List Column). laid (c.loop-line.a + 2) (row_bytes (line_values cs (drop c.loop-line.p c.args.s.now))) c.put.new.d) r
 
 next : (c : goal.After-line_sizes-sizes) → let l = c.loop-line in let t = type_at l.p c.args.s.now in t ≤ 4 → c.put.new.d ≡ laid_if_room l.a (bytes_of 2 (type_number t)) l.out → columns c.rows_of.result.first c.rows_of.result.last ≡ layout_of t →
-    GiveLeft c.args.s.now (l.p + c.line_sizes-sizes.result.text) (l.a + c.line_sizes-sizes.result.values) c.give_line.new.out (laid 38 (lines_bytes (values_of c.args.s.now).lines) c.args.out.now)
+    GiveLeft c.args.s.now (l.p + c.line_sizes-sizes.result.bytes) (l.a + c.line_sizes-sizes.result.values) c.give_line.new.out (laid 38 (lines_bytes (values_of c.args.s.now).lines) c.args.out.now)
 next c h t r =
     let l = c.loop-line in
     rw (c.line_sizes-sizes.ensures.0.0, c.line_sizes-sizes.ensures.1.0, c.in-Line.ensures) (give_next c.args.s.now l.p l.a l.out _ l.invariant.1 h c.put.new.d c.give_line.new.out t (given c r))

@@ -8,7 +8,7 @@ use Rattle.market_values.proofs.values_size.Goals as goal
 use Rattle.market_values.proofs.values_size.Goals.{After-line_sizes-sizes}
 
 -- the state after one line
-next : (c : goal.After-line_sizes-sizes) → SizeLeft c.args.s.now (c.loop-line.p + c.line_sizes-sizes.result.text) (c.loop-line.n + c.line_sizes-sizes.result.values)
+next : (c : goal.After-line_sizes-sizes) → SizeLeft c.args.s.now (c.loop-line.p + c.line_sizes-sizes.result.bytes) (c.loop-line.n + c.line_sizes-sizes.result.values)
 next c =
     let l = c.loop-line in
     let t = c.in-Line.ensures in
