@@ -2,7 +2,7 @@
 -- tables of what is given and what is then wrong. A stream is six words (place, seeking, closed,
 -- how many bytes wait, frames, refused), the ledger's nine, and the bytes that wait.
 -- Assumes nothing.
-use mathlib.Core.Path.{◌≡◌, refl, ap, ap₂}
+use mathlib.Core.Path.{◌≡◌, refl, ap₂}
 use Rattle.terms.specs.Letters.{spelled}
 use Rattle.terms.specs.Paper.{Paper}
 use Rattle.terms.specs.Refusals.{refusal_of}
@@ -35,7 +35,6 @@ use Rattle.record.specs.Record.{first_half, second_half, record_of, blank_of}
 use Rattle.reading.specs.Seen.{seen_of, says_of}
 use Rattle.walk_spec.specs.Offers.{calls_by, offering, offer_of}
 use Rattle.walk_spec.specs.Walk.{made_of, record_by, book_by, accepts, refuses}
-use Rattle.stream_spec.specs.declared.Stream.{Stream}
 use Rattle.stream_spec.specs.State as State
 use Rattle.stream_spec.specs.Tally as Tally
 use Rattle.stream_spec.specs.Calls as Calls

@@ -27,6 +27,7 @@ use terms::Refusal;
 
 // How many bytes wait. A flag above 1 is none, and stands for more of them than the state
 // rules let wait.
+#[tactic(auto, unfolding(host_stream_spec::specs::Lent::waiting_in))]
 fn waiting_in(seeking: u64, closed: u64, waiting: u64) -> usize
     ensures { result ≡ waiting_in seeking closed waiting }
 {
@@ -38,6 +39,7 @@ fn waiting_in(seeking: u64, closed: u64, waiting: u64) -> usize
 }
 
 // How the stream stands that they stand for, sound or not.
+#[tactic(auto, unfolding(host_stream_spec::specs::Lent::stream_in))]
 fn standing_in(state: &[u64; 6], ledger: &[u64; 9]) -> Standing
     ensures { (kept : List ℕ) → whole result kept ≡ stream_in (lent state.now ledger.now kept) }
 {

@@ -3,12 +3,12 @@ use Prim.Native.Nat.{ℕ}
 use mathlib.Core.Path.{◌≡◌, refl, sym, ap, ap₂, ◌∙◌}
 use mathlib.Core.Bool.{Bool, true, false}
 use mathlib.Core.Logic.{⊎_elim}
-use mathlib.Core.List.{List, [], ◌∷◌, ◌++◌}
+use mathlib.Core.List.{List, [], ◌++◌}
 use native.Mathlib.Omega.{arith}
 use lib.Dec.{eqb}
 use lib.ListN.{length, get_or, take}
-use borrow.Author.Tests.{eq-eqb, eqb-true, eqb-false, ne_eqb}
-use Rattle.terms.specs.Paper.{pick, one_number}
+use borrow.Author.Tests.{eqb-true, eqb-false, ne_eqb}
+use Rattle.terms.specs.Paper.{pick}
 use Rattle.terms.specs.Cases.{two}
 use Rattle.octets.specs.Octets.{laid, Bytes}
 use Rattle.octets.specs.Overlays.{take_front}
@@ -21,12 +21,12 @@ use Rattle.stream_spec.specs.Trace.{Calls, none, ◌▸◌}
 use Rattle.stream_spec.proofs.Rules.{rules_facts}
 use Rattle.stream_spec.proofs.Cuttings.{bytes_more}
 use Rattle.stream_clean_spec.specs.declared.Sums.{Sums}
-use Rattle.stream_clean_spec.specs.Wash.{no_sums, plus, sums_of}
+use Rattle.stream_clean_spec.specs.Wash.{no_sums, plus}
 use Rattle.stream_clean_spec.specs.Calls.{counts_in, reads_for, washed_for, sums_for, wash_behind, number_to, next_for, next_of, answer_for, answer_to, leaves_for, leaves}
 use Rattle.stream_clean_spec.specs.LayLaws.{washed_length}
-use Rattle.stream_clean_spec.specs.Trace.{after, accepted, written, counted, taken, ended}
+use Rattle.stream_clean_spec.specs.Trace.{after, accepted, written, counted, taken}
 use Rattle.stream_clean_spec.proofs.Arrives.{cleaned_as_it_arrives, cleaned_whole}
-use Rattle.host_words.specs.Told.{Tells, told_by, seen}
+use Rattle.host_words.specs.Told.{told_by, seen}
 use Rattle.host_stream_spec.specs.Lent.{Lent, lent_of, stream_in}
 use Rattle.host_stream_spec.specs.Calls.{kept_beside}
 use Rattle.host_stream_spec.specs.Washes.{wash_told, wash_after, WashCalled, Washes, opening, one_more, wash_heard, wash_counted, HostWashes}

@@ -11,7 +11,7 @@ use mir.Syntax.{Dict}
 use Rattle.std.specs.Prelude.{Result, Ok, Err}
 use Rattle.terms.specs.declared.Refusal.{Refusal}
 use Rattle.terms.specs.declared.Refusal.TheVariants.{More, Sum}
-use Rattle.terms.specs.Paper.{Paper, answer, pick}
+use Rattle.terms.specs.Paper.{Paper, answer}
 use Rattle.terms.specs.Refusals.{refusal_of}
 use Rattle.terms.specs.Counters.{session_of, tick_of, channel_of}
 use Rattle.terms.specs.RuledOut.{Row, ◌never◌, ◌only◌, Kept, RulesOut, ruled, bools, lists, papers, beside}
@@ -35,7 +35,7 @@ use Rattle.walk_laws.specs.Account as Account
 use Rattle.walk_laws.specs.Frames.{joined, each_of}
 use Rattle.record.specs.declared.Record.{Record}
 use Rattle.record.specs.Record.{first_half, second_half, record_of, blank_of}
-use Rattle.record.specs.Examples.{record_a, record_fF, record_b}
+use Rattle.record.specs.Examples.{record_a, record_b}
 use Rattle.reading.specs.Seen.{seen_of, says_of}
 use Rattle.walk_spec.specs.Offers.{calls_by, offering, offer_of}
 use Rattle.walk_spec.specs.Walk.{made_of, record_by, book_by, accepts, refuses}

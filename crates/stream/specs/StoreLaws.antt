@@ -1,23 +1,22 @@
 -- The lent store: bytes cleared, moved to its front and kept, with zeros behind them; and bytes in
 -- two parts.
-use Rattle.std.specs.Prelude.{ℕ, ◌+◌, ◌-◌, ◌≤◌, ◌<◌, ◌≡◌, refl, true, false, ◌&&◌, List, [], ◌∷◌, ◌++◌, eqb, leb, length, take, drop, get_or, set, replicate}
+use Rattle.std.specs.Prelude.{ℕ, ◌+◌, ◌-◌, ◌≤◌, ◌<◌, ◌≡◌, refl, true, false, ◌&&◌, List, [], ◌∷◌, ◌++◌, eqb, leb, length, take, drop, get_or, replicate}
 use Rattle.std.proofs.Math.Path.{sym}
-use Rattle.std.proofs.Common.{ap, ap₂, ◌∙◌, ⊎_elim, append_assoc, arith, zero-add, length-append, length-drop, take-append-drop, length-take-le, take_all, drop_at, get_or-append-add, get_or-drop}
+use Rattle.std.proofs.Common.{ap, ap₂, ◌∙◌, ⊎_elim, append_assoc, arith, length-append, length-drop, take-append-drop, length-take-le, take_all, drop_at}
 use Rattle.std.specs.Int.Bits.{bit_or, or_zero_l, or_add_and}
 use Rattle.std.proofs.lemmas.Nat.{and_le_r}
-use Rattle.std.proofs.lemmas.List.{length-replicate, get_or-replicate, replicate-append-replicate, drop-append-le}
+use Rattle.std.proofs.lemmas.List.{length-replicate, replicate-append-replicate, drop-append-le}
 use Rattle.std.proofs.Math.Seq.{drop-drop, drop-append-add}
-use borrow.Author.Tests.{eqb-true, ne_eqb, le-leb, lt-leb, leb-true}
-use Rattle.terms.specs.Cases.{same, less}
+use borrow.Author.Tests.{eqb-true, ne_eqb, le-leb, leb-true}
+use Rattle.terms.specs.Cases.{same}
 use Rattle.std.specs.List.{copy_within}
 use borrow.Rule.Slice.PartMut.{put_mid}
 use Rattle.octets.specs.Octets.{laid}
-use Rattle.octets.specs.Overlays.{laid_nil, laid_front, laid_more, laid_all, laid_next, length_laid}
-use Rattle.octets.specs.Papers.{laid_if_room, lay_next}
+use Rattle.octets.specs.Overlays.{laid_front, laid_next, length_laid}
 use Rattle.ledger_spec.proofs.Tests.{both}
 use Rattle.stream_spec.specs.State.{head_of, all_zero}
 use Rattle.stream_spec.specs.StateLaws.{zero_step}
-use Rattle.stream_spec.specs.Window.{take_drop, padded, laid_in}
+use Rattle.stream_spec.specs.Window.{take_drop, padded}
 use Rattle.stream_spec.specs.CutLaws.{head_take}
 use Rattle.stream.specs.Standing.{store_of, blank_to, has_rest, rest_of}
 

@@ -2,14 +2,14 @@
 // the closed walk's, however the bytes are cut.
 #![tactic(auto)]
 
-ghost use Rattle.std.specs.Prelude.{◌≡◌, true, false, List, ◌++◌, ℕ, ◌+◌, ◌-◌, ◌*◌, ◌/◌, ◌≤◌, ◌<◌, ◌^◌, leb, length, take, drop, replicate};
+ghost use Rattle.std.specs.Prelude.{◌≡◌, ◌++◌, ◌+◌, ◌-◌, ◌*◌, ◌/◌, ◌≤◌, ◌<◌, ◌^◌, leb, length, take, drop};
 ghost use Rattle.octets.specs.Octets.{laid, Bytes};
 ghost use Rattle.walk_spec.specs.Tables.{written_from};
 ghost use Rattle.stream_spec.specs.Tally.{tally_with, tally_right, ledger_right};
 ghost use Rattle.reading.specs.Seen.{seen_of};
 ghost use Rattle.stream_spec.specs.State.{last_place, all_zero, sound_of};
 ghost use Rattle.stream_spec.specs.Run.{waits_at, passed_over, stride_of, accounted_of, RanIs};
-ghost use Rattle.stream_spec.specs.Calls.{Feed, Close, may_take, given_of, answer_for, next_for, leaves_for, answer_to, next_of, leaves, fed_paper, refused_by};
+ghost use Rattle.stream_spec.specs.Calls.{Feed, Close, may_take, given_of, answer_for, next_for, leaves_for, answer_to, next_of, leaves, fed_paper};
 ghost use Rattle.terms.specs.Verdicts.{verdict_number};
 ghost use Rattle.stream.specs.Standing.{whole, fed_of, stands_behind, blank_to, has_rest, rest_of, RanOver, Ready};
 ghost use Rattle.stream.specs.Pushed.{PushedIs};

@@ -1,5 +1,5 @@
 -- A frame in two parts, one behind the other: what is laid of it. Assumes nothing.
-use Prim.Native.Nat.{ℕ, ◌+◌, ◌-◌, ◌≤◌, ◌<◌}
+use Prim.Native.Nat.{ℕ, ◌+◌, ◌-◌, ◌≤◌}
 use mathlib.Core.Path.{◌≡◌, sym, ap, ◌∙◌}
 use mathlib.Core.List.{List, ◌++◌, append-nil}
 use native.Mathlib.Omega.{arith}
@@ -9,14 +9,13 @@ use mathlib.Core.Bool.{true, false}
 use lib.Dec.{leb}
 use borrow.Rule.Slice.PartMut.{put_mid, mid_of, mid_len}
 use Rattle.octets.specs.Octets.{laid}
-use Rattle.octets.specs.Overlays.{length_laid, mid_laid, laid_again, laid_append}
+use Rattle.octets.specs.Overlays.{mid_laid, laid_again, laid_append}
 use Rattle.octets.specs.Papers.{laid_if_room, laid_there, laid_kept}
 use Rattle.private.specs.Scrub.{scrubbed}
 use Rattle.private.proofs.Laws.{length_always}
 use Rattle.scrub.proofs.Parts.{back}
 use Rattle.clean_spec.specs.Laid.{nothing_laid}
 use Rattle.clean_spec.specs.Turns.{scrubbed_none}
-use Rattle.stream_spec.specs.Window.{laid_in}
 use Rattle.stream_clean.specs.declared.Taken.{Taken}
 use Rattle.stream_clean.specs.Taken.{TakenIs}
 

@@ -4,30 +4,29 @@ use Prim.Native.Nat.{ℕ, ◌+◌, ◌-◌, ◌≤◌, ◌<◌, ◌^◌}
 use mathlib.Core.Path.{◌≡◌, refl, sym, ap, ◌∙◌}
 use mathlib.Core.Bool.{Bool, true, false}
 use mathlib.Core.List.{List, [], ◌∷◌}
-use native.Mathlib.Nat.{add-zero}
 use native.Mathlib.Omega.{arith}
 use lib.ListN.{length, take, drop}
-use borrow.Author.Tests.{ne_eqb, eqb-true}
+use borrow.Author.Tests.{eqb-true}
 use Rattle.terms.specs.Paper.{answer, pick}
 use Rattle.terms.specs.Cases.{clash}
 use Rattle.octets.specs.Papers.{laid_if_room}
 use Rattle.frame_spec.specs.Frame.{msg_type, read_of}
 use Rattle.private.specs.Scrub.{scrubbed}
 use Rattle.private.specs.Into.{into_answer}
-use Rattle.clean_spec.specs.Laid.{laid_reads, laid_long, nothing_laid}
+use Rattle.clean_spec.specs.Laid.{laid_reads, nothing_laid}
 use Rattle.clean_spec.specs.Turns.{scrubbed_none, size_inside}
 use Rattle.reading.specs.declared.Seen.{Seen}
 use Rattle.reading.specs.Seen.{seen_of, seen_number}
-use Rattle.reading.proofs.SeenLaws.{seen_frame, seen_answer, seen_size, seen_blank}
+use Rattle.reading.proofs.SeenLaws.{seen_frame, seen_answer, seen_blank}
 use Rattle.walk_spec.specs.Walk.{accepts}
 use Rattle.stream_spec.specs.Run.{waits_at, passed_over, stride_of}
 use Rattle.stream_spec.specs.RunLaws.{passed}
 use Rattle.stream_clean_spec.specs.declared.Sums.{Sums}
-use Rattle.stream_clean_spec.specs.Wash.{unjudged_by, plus}
-use Rattle.stream_clean_spec.specs.Runs.{one_by, Right, unjudged_most}
+use Rattle.stream_clean_spec.specs.Wash.{unjudged_by}
+use Rattle.stream_clean_spec.specs.Runs.{Right, unjudged_most}
 use Rattle.stream_clean.specs.declared.Taken.{Taken}
 use Rattle.stream_clean.specs.Taken.{taken_of}
-use Rattle.clean_spec.specs.Kept.{size_of, kept_number, kept_size, laid_seen}
+use Rattle.clean_spec.specs.Kept.{size_of, kept_size, laid_seen}
 use Rattle.std.specs.Prelude.{⊤, Result, Ok, Err, is_ok, ◌&&◌}
 use Rattle.std.specs.Result.{result_unwrap_or, result_and}
 use Rattle.std.specs.Int.{from_bool}

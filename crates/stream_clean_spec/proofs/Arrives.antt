@@ -3,35 +3,34 @@
 -- not refused are a row of a stream's own calls, with room enough. Assumes nothing.
 use Prim.Native.Nat.{ℕ, zero, suc, ◌+◌, ◌*◌, ◌/◌, ◌≤◌}
 use mathlib.Core.Path.{◌≡◌, refl, sym, ap, ap₂, ◌∙◌}
-use mathlib.Core.Bool.{Bool, true, false, not, ◌&&◌}
+use mathlib.Core.Bool.{Bool, true, false, not}
 use mathlib.Core.Logic.{⊎_elim}
 use mathlib.Core.List.{List, [], ◌∷◌, ◌++◌, append-nil}
 use native.Mathlib.Omega.{arith}
-use lib.Dec.{eqb, leb}
+use lib.Dec.{eqb}
 use lib.ListN.{length, take, drop}
 use lib.Seq.{drop-drop}
-use borrow.Author.Tests.{eqb-true, eq-eqb, ne_eqb, le-leb}
-use Rattle.terms.specs.Paper.{Paper, answer, pick}
-use Rattle.terms.specs.Cases.{two, same, clash}
+use borrow.Author.Tests.{eqb-true, eq-eqb, le-leb}
+use Rattle.terms.specs.Paper.{Paper, pick}
+use Rattle.terms.specs.Cases.{two}
 use Rattle.ledger_spec.specs.State.{or_else}
 use Rattle.octets.specs.Octets.{laid}
 use Rattle.octets.specs.Overlays.{take_front}
 use Rattle.private.specs.Scrub.{scrubbed}
 use Rattle.walk_laws.specs.Walk.{Says, frame, more, bad, Sight, Mode, within, seeking, next, found, noted, sights_of}
 use Rattle.walk_laws.specs.Waits.{Got, ran_of, ran_append}
-use Rattle.walk_laws.specs.WaitLaws.{mode_of}
 use Rattle.walk_laws.specs.Closing.{final_of, final_seen, final_after, ran_below}
 use Rattle.walk_laws.specs.Cuts as Cuts
 use Rattle.walk_laws.specs.Frames.{joined, each_of}
 use Rattle.reading.specs.declared.Seen.{Seen}
 use Rattle.reading.specs.Seen.{seen_of, seen_number, says_of}
-use Rattle.walk_spec.specs.Walk.{sights, accepts, frames_of}
-use Rattle.clean_spec.specs.Clean.{frames_in, clean_in, clean_of, found_by, found_in, found_of, fits_in, clean_answer}
+use Rattle.walk_spec.specs.Walk.{accepts, frames_of}
+use Rattle.clean_spec.specs.Clean.{frames_in, clean_in, clean_of, found_by, found_in, fits_in, clean_answer}
 use Rattle.clean_spec.specs.Turns.{adds}
 use Rattle.stream_spec.specs.declared.Stream.{Stream}
 use Rattle.stream_spec.specs.declared.Tally.{Tally}
 use Rattle.stream_spec.specs.Tally.{fresh_tally}
-use Rattle.stream_spec.specs.State.{last_place, head_of, meant_by, value_of, waits_right, sound_of, opened}
+use Rattle.stream_spec.specs.State.{last_place, meant_by, value_of, waits_right, sound_of, opened}
 use Rattle.stream_spec.specs.StateLaws.{sound_checked, checked_sound}
 use Rattle.stream_spec.proofs.Rules.{opening_sound}
 use Rattle.stream_spec.specs.Calls as Plain
@@ -39,7 +38,7 @@ use Rattle.stream_spec.specs.Calls.{Call, Feed, Close, cut_of, closes, feed_of, 
 use Rattle.stream_spec.specs.CallLaws as PlainLaws
 use Rattle.stream_spec.specs.Trace as Trace
 use Rattle.stream_spec.specs.Trace.{Asked, Calls, none, ◌▸◌}
-use Rattle.stream_spec.specs.Words.{wait_at, readings}
+use Rattle.stream_spec.specs.Words.{readings}
 use Rattle.stream_spec.proofs.Cuttings.{every_cutting, closing_call, stands_for}
 use Rattle.stream_clean_spec.specs.declared.Sums.{Sums}
 use Rattle.stream_spec.specs.declared.Fed.{Fed}
@@ -49,9 +48,9 @@ use Rattle.terms.specs.declared.Refusal.{Refusal}
 use Rattle.stream_clean_spec.specs.CallLaws.{Promised}
 use Rattle.stream_clean_spec.specs.Wash as Wash
 use Rattle.stream_clean_spec.specs.Wash.{Cut, says_by, washed, no_sums, plus, one_of, seeks_after, sums_of, unjudged_by}
-use Rattle.stream_clean_spec.specs.Calls.{counts_in, got_of, reads_for, washed_for, sums_for, with_tally, wash_behind, number_for, number_to, next_for, next_of, leaves_for, answer_for, summed_paper, washed_paper, wrote}
-use Rattle.stream_clean_spec.specs.LayLaws.{plus_none, none_plus, plus_assoc, washed_append, washed_length}
-use Rattle.stream_clean_spec.specs.CutLaws.{plain, plain_of, plain_append, same_run, cut_kept, Stands, reads_behind, seeks_behind, sums_run, other_tally}
+use Rattle.stream_clean_spec.specs.Calls.{counts_in, reads_for, washed_for, sums_for, with_tally, wash_behind, number_for, number_to, next_for, next_of, leaves_for, answer_for, summed_paper, washed_paper, wrote}
+use Rattle.stream_clean_spec.specs.LayLaws.{plus_none, washed_append, washed_length}
+use Rattle.stream_clean_spec.specs.CutLaws.{plain, same_run, cut_kept, Stands, reads_behind, seeks_behind, sums_run, other_tally}
 use Rattle.stream_clean_spec.specs.Trace.{after, accepted, written, counted, taken, ended, Row, opening, one_more, heard, heard_counts, unjudged_of, Arrives, Cleaned}
 
 -- ======== THE CALLS NOT REFUSED, as a stream's own calls

@@ -13,7 +13,7 @@ use Rattle.terms.specs.Letters.{spelled}
 use Rattle.terms.specs.Cases.{two, same}
 use Rattle.octets.specs.Papers.{laid_if_room}
 use Rattle.private.specs.Scrub.{scrubbed}
-use Rattle.walk_laws.specs.Walk.{Says, frame, more, bad, noted, found}
+use Rattle.walk_laws.specs.Walk.{Says, frame, bad, noted, found}
 use Rattle.walk_laws.specs.Waits.{halt, behind}
 use Rattle.walk_laws.specs.WaitLaws.{mode_of, notes, ran_at, ran_end, ran_more, ran_frame, ran_bad}
 use Rattle.reading.specs.declared.Seen.{Seen}

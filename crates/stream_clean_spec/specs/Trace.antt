@@ -1,15 +1,15 @@
 -- A row of calls on a stream just opened, refusals among them; what its calls wrote, counted and
 -- took; and the theorem's sentences.
-use Rattle.std.specs.Prelude.{ℕ, ◌+◌, ◌≤◌, ◌≡◌, Bool, true, false, not, ◌&&◌, List, [], ◌∷◌, ◌++◌, eqb, leb, length, take, drop}
-use Rattle.terms.specs.Paper.{Paper, answer, pick}
+use Rattle.std.specs.Prelude.{ℕ, ◌+◌, ◌≤◌, ◌≡◌, Bool, true, false, ◌&&◌, List, [], ◌∷◌, ◌++◌, eqb, length, take, drop}
+use Rattle.terms.specs.Paper.{answer, pick}
 use Rattle.ledger_spec.specs.State.{or_else}
 use Rattle.walk_laws.specs.Walk.{Sight}
 use Rattle.reading.specs.declared.Seen.{Seen}
-use Rattle.walk_spec.specs.Walk.{sights, frames_of}
-use Rattle.clean_spec.specs.Clean.{clean_in, clean_of, found_in, found_of, clean_answer}
+use Rattle.walk_spec.specs.Walk.{frames_of}
+use Rattle.clean_spec.specs.Clean.{clean_in, clean_of, found_in, clean_answer}
 use Rattle.stream_spec.specs.declared.Stream.{Stream}
 use Rattle.stream_spec.specs.declared.Fed.{Fed}
-use Rattle.stream_spec.specs.State.{last_place, head_of, sound_of, opened}
+use Rattle.stream_spec.specs.State.{head_of, sound_of, opened}
 use Rattle.stream_spec.specs.Calls.{Call, cut_of, closes}
 use Rattle.stream_spec.specs.Trace.{Asked, Calls, none, ◌▸◌}
 use Rattle.stream_spec.specs.Words.{wait_at, readings}

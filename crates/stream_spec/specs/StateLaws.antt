@@ -1,11 +1,11 @@
 -- The state rules: the test that the code computes, check by check, and that it passes exactly
 -- where the facts hold.
-use Rattle.std.specs.Prelude.{ℕ, suc, ◌+◌, ◌-◌, ◌≤◌, ◌<◌, ◌≡◌, refl, Bool, true, false, ◌&&◌, not, List, eqb, leb, length, get_or, take, drop, replicate, Result, Ok, Err, is_ok}
+use Rattle.std.specs.Prelude.{ℕ, suc, ◌+◌, ◌≤◌, ◌<◌, ◌≡◌, refl, Bool, true, false, ◌&&◌, not, List, eqb, leb, length, get_or, take, drop, replicate, Result, Ok, Err, is_ok}
 use Rattle.std.proofs.Common.{sym, ap, ap₂, ◌∙◌, ⊎_elim, arith, add-one, drop_of_length-le, drop-cons}
 use Rattle.std.proofs.Math.Nat.{add-zero}
 use borrow.Author.Tests.{eq-eqb, ne_eqb, lt-leb, le-leb, leb-true}
 use Rattle.terms.specs.Paper.{pick, one_number}
-use Rattle.terms.specs.Cases.{two, less, clash}
+use Rattle.terms.specs.Cases.{two, clash}
 use Rattle.terms.specs.Refusals.{refusal_pos}
 use Rattle.terms.specs.declared.Refusal.{Refusal}
 use Rattle.ledger_spec.specs.State as Book
@@ -40,17 +40,6 @@ zero_step blank i s h = rw (drop-cons s i 0 h, add-one) (and_assoc blank (eqb (g
 pub zero_end : (blank : Bool) (i : ℕ) (s : List ℕ) (z : Bool) → length s ≤ i → blank && all_zero (drop i s) ≡ z → blank ≡ z
 unfolding all_zero
 zero_end blank i s z h e = sym (and_true blank) ∙ (rw (drop_of_length-le s h) at e)
-
--- PLACES
-
-pub fits_is : (p n m : ℕ) → p ≤ last_place → n ≤ last_place - p → leb m (last_place - p - n) ≡ leb (p + (n + m)) last_place
-fits_is p n m h k =
-    ⊎_elim (λ (l : last_place - p - n < m). lt-leb m (last_place - p - n) l ∙ sym (lt-leb (p + (n + m)) last_place (omega arith)))
-    (λ (l : m ≤ last_place - p - n). le-leb m (last_place - p - n) l ∙ sym (le-leb (p + (n + m)) last_place (omega arith)))
-    (less (last_place - p - n) m)
-
-pub fits_not : (p n m : ℕ) → last_place - p < n → false ≡ leb (p + (n + m)) last_place
-fits_not p n m h = sym (lt-leb (p + (n + m)) last_place (omega arith))
 
 -- THE LEDGER AND THE COUNTS
 

@@ -3,7 +3,6 @@ use native.Mathlib.Omega.{arith}
 use borrow.Author.Tests.{lt-ltb, le-ltb}
 use Rattle.host_words.specs.Told.{tells_done, tells_refused}
 use Rattle.host_captures.specs.Captures.{record_told, record_told_lem}
-use borrow.Author.Rules.{rules}
 use Rattle.host_captures.proofs.rk_record.Goals as goal
 
 pub returns-then-bytes-lt64 : goal.returns-then-bytes-lt64

@@ -1,6 +1,6 @@
 -- `rk_walk`: the walk's paper is told; words and records are those after it. Assumes nothing.
 use mathlib.Core.Path.{◌≡◌, refl, sym, ap, ◌∙◌}
-use Rattle.std.specs.Prelude.{ℕ, Result, Ok, Err}
+use Rattle.std.specs.Prelude.{Result, Ok, Err}
 use Rattle.terms.specs.Paper.{one_number}
 use Rattle.terms.specs.Verdicts.{verdict_number}
 use Rattle.terms.specs.declared.Refusal.{Refusal}

@@ -1,7 +1,6 @@
 -- `rk_stream_clean`: the stream's call that cleans a cut, told and kept. Assumes nothing.
 use Rattle.stream_spec.specs.Calls.{Feed}
 use Rattle.host_stream.proofs.Settled.{lent_washed}
-use borrow.Author.Rules.{rules}
 use Rattle.host_stream.proofs.rk_stream_clean.Goals as goal
 
 pub returns : goal.returns

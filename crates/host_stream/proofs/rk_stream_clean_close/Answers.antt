@@ -1,7 +1,6 @@
 -- `rk_stream_clean_close`: the stream's closing call that cleans, told and kept. Assumes nothing.
 use Rattle.stream_spec.specs.Calls.{Close}
 use Rattle.host_stream.proofs.Settled.{lent_washed}
-use borrow.Author.Rules.{rules}
 use Rattle.host_stream.proofs.rk_stream_clean_close.Goals as goal
 
 pub returns : goal.returns

@@ -1,7 +1,6 @@
 -- `rk_stream_close`: the stream's closing call, told and kept. Assumes nothing.
 use Rattle.stream_spec.specs.Calls.{Close}
 use Rattle.host_stream.proofs.Settled.{lent_settled}
-use borrow.Author.Rules.{rules}
 use Rattle.host_stream.proofs.rk_stream_close.Goals as goal
 
 pub returns : goal.returns

@@ -1,7 +1,6 @@
 -- `rk_stream_feed`: the stream's call with a cut, told and kept. Assumes nothing.
 use Rattle.stream_spec.specs.Calls.{Feed}
 use Rattle.host_stream.proofs.Settled.{lent_settled}
-use borrow.Author.Rules.{rules}
 use Rattle.host_stream.proofs.rk_stream_feed.Goals as goal
 
 pub returns : goal.returns

@@ -1,5 +1,4 @@
 -- `close`: the closing call, which brings no byte. Assumes nothing.
-use borrow.Author.Rules.{rules}
 use Rattle.stream.proofs.close.Goals as goal
 
 pub returns : goal.returns

@@ -1,6 +1,5 @@
 -- `drawn`: the run, and what it leaves is kept. Assumes nothing.
 use native.Mathlib.Omega.{arith}
-use borrow.Author.Rules.{rules}
 use Rattle.stream.specs.Pushed.{ran_inside, ran_pushed}
 use Rattle.stream.proofs.drawn.Goals as goal
 

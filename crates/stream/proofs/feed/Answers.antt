@@ -1,5 +1,4 @@
 -- `feed`: a call with a cut, which is not the closing one. Assumes nothing.
-use borrow.Author.Rules.{rules}
 use Rattle.stream.proofs.feed.Goals as goal
 
 pub returns : goal.returns

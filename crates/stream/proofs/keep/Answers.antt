@@ -1,8 +1,5 @@
 -- `keep`: the first bytes are cleared, and others laid there. Assumes nothing.
-use mathlib.Core.Path.{sym, ap, ap₂, ◌∙◌}
-use mathlib.Core.List.{◌++◌}
-use lib.ListN.{length, drop}
-use borrow.Author.Rules.{rules}
+use mathlib.Core.Path.{sym}
 use Rattle.octets.specs.Overlays.{laid_front}
 use Rattle.stream.specs.Standing.{blank_to}
 use Rattle.stream.specs.StoreLaws.{cleared}

@@ -6,8 +6,6 @@ use Prim.Native.Nat.{◌+◌, ◌-◌, ◌≤◌}
 use mathlib.Core.Path.{◌≡◌, refl, sym, ap, ◌∙◌}
 use mathlib.Core.Bool.{true}
 use lib.ListN.{length, take, drop, length-drop}
-use borrow.Author.Tests.{not-true, not-false}
-use borrow.Author.Rules.{rules}
 use Rattle.stream.specs.Standing.{has_rest}
 use Rattle.stream.specs.StoreLaws.{copied, tail_whole, rest_there, rest_none, rest_laid, rest_kept}
 use Rattle.stream.proofs.keep_rest.Goals as goal

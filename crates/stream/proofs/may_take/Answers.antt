@@ -1,7 +1,5 @@
 -- `may_take`: the checks in their order. Assumes nothing.
-use mathlib.Core.Path.{◌≡◌, sym, ◌∙◌}
-use borrow.Author.Rules.{rules}
-use borrow.Author.Tests.{not-true, not-false}
+use mathlib.Core.Path.{sym, ◌∙◌}
 use Rattle.stream_spec.specs.CallLaws.{may_13, may_19, may_29, may_0}
 use Rattle.stream.proofs.may_take.Goals as goal
 

@@ -1,7 +1,6 @@
 -- `over`: a run over the two parts. Assumes nothing.
 use mathlib.Core.Path.{refl, sym}
 use native.Mathlib.Omega.{arith}
-use borrow.Author.Rules.{rules}
 use Rattle.stream_spec.specs.Window.{given_written}
 use Rattle.stream.specs.Standing.{whole}
 use Rattle.stream.specs.Pushed.{few, waiting_long, waiting_is, ready_run}

@@ -1,7 +1,6 @@
-use borrow.Author.Rules.{rules}
 use native.Mathlib.Omega.{arith}
-use Prim.Native.Nat.{ℕ, ◌+◌, ◌-◌, ◌≤◌, ◌<◌}
-use mathlib.Core.Path.{◌≡◌, refl, sym, ap, ◌∙◌}
+use Prim.Native.Nat.{ℕ, ◌+◌, ◌≤◌, ◌<◌}
+use mathlib.Core.Path.{◌≡◌, refl, sym, ◌∙◌}
 use mathlib.Core.Bool.{false, not}
 use lib.Dec.{eqb}
 use Rattle.std.specs.Prelude.{⊤, Result, Ok, Err, is_err}
@@ -12,7 +11,7 @@ use mathlib.Core.List.{List, ◌++◌}
 use lib.ListN.{length, length-append}
 use Rattle.reading.specs.Seen.{seen_number}
 use Rattle.stream_spec.specs.Run.{stride_of, waits_at, passed_over}
-use Rattle.stream_spec.specs.RunLaws.{Left, left_start, left_over_lem, left_note, left_wait, left_end, seen_at}
+use Rattle.stream_spec.specs.RunLaws.{left_start, left_over_lem, left_note, left_wait, left_end, seen_at}
 use Rattle.stream.proofs.run.Goals as goal
 use Rattle.stream.proofs.run.Goals.{After-passes, After-waits, At-loop-p, Else-passes, Else-waits, In-loop-p, Start}
 

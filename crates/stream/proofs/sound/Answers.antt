@@ -1,15 +1,13 @@
 -- `sound`: check by check, as the test has them. Assumes nothing.
 use native.Mathlib.Omega.{arith}
-use Prim.Native.Nat.{ℕ, ◌+◌, ◌-◌, ◌≤◌}
+use Prim.Native.Nat.{ℕ, ◌+◌, ◌-◌}
 use mathlib.Core.Path.{◌≡◌, sym, ap, ◌∙◌}
 use mathlib.Core.List.{List}
 use mathlib.Core.Bool.{true}
 use Rattle.stream_spec.specs.Run.{waits_at}
 use lib.Dec.{leb}
 use lib.ListN.{length, take, drop}
-use lib.Seq.{length-take-le}
 use borrow.Author.Tests.{not-true, not-false}
-use borrow.Author.Rules.{rules}
 use Rattle.stream_spec.specs.Tally.{tally_right}
 use Rattle.stream_spec.specs.State.{last_place, all_zero}
 use Rattle.stream_spec.specs.StateLaws.{sound_long, sound_blank, sound_tally, sound_places, sound_none, sound_closed, sound_waits}

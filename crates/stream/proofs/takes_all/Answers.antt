@@ -1,10 +1,8 @@
 -- `takes_all`: no bytes give more records than `roomy` asks room for; else a run counted them.
 -- Assumes nothing.
-use native.Mathlib.Omega.{arith}
 use Prim.Native.Nat.{ℕ, ◌/◌}
 use mathlib.Core.Path.{sym, ap, ◌∙◌}
 use lib.Dec.{leb}
-use borrow.Author.Rules.{rules}
 use Rattle.stream_spec.specs.CallLaws.{fits_roomy}
 use Rattle.stream.specs.Pushed.{ran_counted}
 use Rattle.stream.proofs.takes_all.Goals as goal

@@ -1,5 +1,4 @@
 -- `added`: what is counted of a reading. Assumes nothing.
-use mathlib.Core.Path.{◌∙◌}
 use Rattle.stream_clean_spec.specs.Wash.{plus}
 use Rattle.stream_clean.proofs.Readings.{counts_one, counts_found}
 use Rattle.stream_clean.proofs.added.Goals as goal

@@ -1,5 +1,5 @@
 -- `call`: what goes before the room, and then the room. Assumes nothing.
-use mathlib.Core.Path.{◌≡◌, refl, sym, ◌∙◌}
+use mathlib.Core.Path.{refl, sym, ◌∙◌}
 use lib.ListN.{length}
 use Rattle.terms.specs.declared.Refusal.TheVariants.{Room}
 use Rattle.stream_clean_spec.specs.CallLaws.{number_refused, number_8, refused_call}

@@ -1,5 +1,4 @@
 -- `clean_end`: the closing call, which brings no byte. Assumes nothing.
-use borrow.Author.Rules.{rules}
 use Rattle.stream_clean.proofs.clean_end.Goals as goal
 
 pub returns : goal.returns

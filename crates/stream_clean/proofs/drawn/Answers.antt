@@ -1,7 +1,6 @@
 -- `drawn`: the run, and what it leaves is kept. Assumes nothing.
 use native.Mathlib.Omega.{arith}
 use Prim.Native.Nat.{◌+◌, ◌≤◌}
-use mathlib.Core.Path.{sym, ◌∙◌}
 use lib.ListN.{length}
 use Rattle.stream.specs.Standing.{Ready}
 use Rattle.stream.specs.Pushed as Pushed

@@ -1,5 +1,4 @@
 -- `lay_both`: one part behind the other, and both scrubbed. Assumes nothing.
-use Prim.Native.Nat.{◌+◌}
 use mathlib.Core.Path.{refl}
 use Rattle.stream.specs.StoreLaws.{copied}
 use Rattle.stream_clean.proofs.Across.{laid_both}

@@ -1,5 +1,4 @@
 -- `scrub_part`: the part is lent, scrubbed and back. Assumes nothing.
-use borrow.Author.Rules.{rules}
 use Rattle.stream_clean.proofs.Across.{scrubbed_back}
 use Rattle.stream_clean.proofs.scrub_part.Goals as goal
 

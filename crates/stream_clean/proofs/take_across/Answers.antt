@@ -1,6 +1,5 @@
 -- `take_across`: what is seen tells how many bytes are laid. Assumes nothing.
 use native.Mathlib.Omega.{arith}
-use mathlib.Core.Path.{ap, ◌∙◌}
 use mathlib.Core.List.{◌++◌}
 use lib.ListN.{length-append}
 use Rattle.clean_spec.specs.Turns.{size_inside}

@@ -1,6 +1,5 @@
 -- `take_in`: by which part the place lies in. Assumes nothing.
-use borrow.Author.Rules.{rules}
-use Rattle.stream.specs.StoreLaws.{both_before, both_behind}
+use Rattle.stream.specs.StoreLaws.{both_behind}
 use Rattle.stream_clean.proofs.Across.{taken_as}
 use Rattle.stream_clean.proofs.take_in.Goals as goal
 

@@ -1,6 +1,5 @@
 -- `takes_all`: what is given is no longer than the bytes that wait and the cut; else the pass
 -- counted it. Assumes nothing.
-use borrow.Author.Rules.{rules}
 use native.Mathlib.Omega.{arith}
 use mathlib.Core.Path.{◌≡◌, sym}
 use lib.ListN.{length, take}

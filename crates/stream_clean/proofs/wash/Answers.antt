@@ -1,6 +1,5 @@
-use borrow.Author.Rules.{rules}
 use native.Mathlib.Omega.{arith}
-use Prim.Native.Nat.{ℕ, ◌+◌, ◌-◌, ◌≤◌, ◌<◌}
+use Prim.Native.Nat.{ℕ, ◌+◌, ◌≤◌, ◌<◌}
 use mathlib.Core.Path.{◌≡◌, refl, sym, ap, ◌∙◌}
 use mathlib.Core.Bool.{Bool, false, not}
 use lib.Dec.{eqb}
@@ -16,8 +15,7 @@ use Rattle.reading.specs.declared.Seen.{Seen}
 use Rattle.reading.specs.Seen.{seen_of, seen_number}
 use Rattle.stream_spec.specs.Run.{waits_at, passed_over, stride_of}
 use Rattle.stream_clean_spec.specs.Wash.{unjudged_by, plus}
-use Rattle.stream_clean_spec.specs.LayLaws.{laid_length}
-use Rattle.stream_clean_spec.specs.Runs.{one_by, Left, left_start, left_over_lem, left_far, left_note, left_wait, left_end}
+use Rattle.stream_clean_spec.specs.Runs.{one_by, left_start, left_over_lem, left_far, left_note, left_wait, left_end}
 use Rattle.stream_clean.specs.declared.Taken.{Taken}
 use Rattle.stream_clean.specs.Taken.{taken_of}
 use Rattle.stream_clean.proofs.Readings.{wait_laid, pass_laid, stride_is, add_fits}
