@@ -1,5 +1,5 @@
--- The reader as an iterator: it gives nothing exactly where a step answers 20, and each entry brings
--- it nearer to the body's end. Assumes nothing.
+-- The reader as an iterator: it gives nothing exactly where a step answers 20, and each entry
+-- brings it nearer to the body's end. Assumes nothing.
 use Rattle.std.proofs.Common.{◌≡◌, ℕ, ◌-◌, ◌<◌, true, false, List, length, sym, ◌∙◌, ⊎_elim, arith, Result, Ok, Err, refl}
 use Rattle.std.specs.Prelude.{⊤}
 use Rattle.std.specs.Result.{result_ok}

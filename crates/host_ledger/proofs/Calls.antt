@@ -34,7 +34,8 @@ module _ (w : List ℕ) {l next : Ledger} {given call : Call} (le : l ≡ ledger
       → (n ≡ (call_told w call).number) × (row ≡ words_after w call)
   answers pe ne e = (ne ∙ one_number (pe ∙ paper_is), words_are (ne ∙ one_number pe) e)
 
-  -- one that tells something, refused: m is the number answered, n the one that the words are kept by
+  -- one that tells something, refused: m is the number answered, n the one that the words are kept
+  -- by
   pub refuses : (why : Refusal) (was : List ℕ) {m n : ℕ} {row : List ℕ} → refusal (number_of why) ≡ answer_to (book_of l) given → m ≡ number_of why → n ≡ number_of why → row ≡ kept_by n next w
       → Tells (call_told w call) was m was × (row ≡ words_after w call)
   refuses why was pe me ne e = (tells_why _ was why _ me (one_number (pe ∙ paper_is)), words_are (ne ∙ one_number pe) e)

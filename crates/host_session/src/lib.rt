@@ -91,8 +91,8 @@ fn type_of(kind: Kind) -> u64
     }
 }
 
-// What is told of a call that is not refused: the MsgType to send, 0 for nothing, its MsgSeqNum, and
-// whether the line was called dead.
+// What is told of a call that is not refused: the MsgType to send, 0 for nothing, its MsgSeqNum,
+// and whether the line was called dead.
 fn outcome_words(outcome: Outcome) -> [u64; 3]
     ensures { result ≡ type_number (sent_kind outcome.message) ∷ sent_number outcome.message ∷ one outcome.dead ∷ [] }
 {

@@ -309,8 +309,8 @@ fn m102_ok(b: &[u8]) -> bool
     }
 }
 
-// A check of a body that holds n bytes takes a way of its own: there the compiler knows that none of
-// its fields lies past the end, and loads each of them without asking.
+// A check of a body that holds n bytes takes a way of its own: there the compiler knows that none
+// of its fields lies past the end, and loads each of them without asking.
 fn known_long<F: Fn(&[u8]) -> bool>(b: &[u8], n: usize, check: F) -> bool
     requires { F.IsAlwaysCallable check }
     ensures { FnReturnsAt F.Fn check b.now result }

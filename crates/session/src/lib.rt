@@ -493,7 +493,8 @@ fn by_kind(kind: Row, number: SessionNumber, bytes: &[u8]) -> Event
     }
 }
 
-// What the bytes at the front are to a session, and how many of them a frame takes, if one was read.
+// What the bytes at the front are to a session, and how many of them a frame takes, if one was
+// read.
 #[derive(Clone, Copy, Debug, PartialEq, Eq)]
 pub struct Told {
     pub event: Event,

@@ -95,8 +95,8 @@ fn first(s: &[u8], b: u8) -> Option<usize>
     s.iter().position(|&x| x == b)
 }
 
-// The field at a place of the fields of a message, if one stands there. A tag ends at the first `=`;
-// a place at or beyond the end has none.
+// The field at a place of the fields of a message, if one stands there. A tag ends at the first
+// `=`; a place at or beyond the end has none.
 pub fn field_at(fields: &[u8], place: usize) -> Option<Field>
     ensures { field_paper result ≡ field_at place fields.now }
 {

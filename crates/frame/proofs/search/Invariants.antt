@@ -1,5 +1,5 @@
--- `search`. Of the places: from `at` on there is to be found what was to be found from `from` on, and
--- nothing is found yet. Of a frame's bytes: v is the sum of those passed. Assumes nothing.
+-- `search`. Of the places: from `at` on there is to be found what was to be found from `from` on,
+-- and nothing is found yet. Of a frame's bytes: v is the sum of those passed. Assumes nothing.
 use Rattle.std.proofs.Common.{◌≡◌, ◌-◌, take, drop, None}
 use Rattle.frame_spec.specs.Search.{first_of}
 use Rattle.octets.specs.Octets.{sum8}

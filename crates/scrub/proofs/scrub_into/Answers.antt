@@ -1,6 +1,6 @@
 -- `scrub_into`: reading's refusal is passed on; of a frame that reads, its paper tells the type and
--- the length that it is laid and scrubbed by. Without room nothing is laid; with room the frame lies
--- there, and its last byte is the sum that it is scrubbed by. Assumes nothing.
+-- the length that it is laid and scrubbed by. Without room nothing is laid; with room the frame
+-- lies there, and its last byte is the sum that it is scrubbed by. Assumes nothing.
 use Rattle.std.proofs.Common.{◌≡◌, ℕ, ◌+◌, ◌-◌, ◌≤◌, List, [], ◌∷◌, length, take, drop, get_or, refl, sym, ap, ◌∙◌, arith}
 use Rattle.std.proofs.lemmas.Result.{err_from_is_err_and}
 use Rattle.terms.specs.Paper.{Paper, answer, one_number}
