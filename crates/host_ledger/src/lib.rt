@@ -32,13 +32,17 @@ pub fn rk_ledger_tick(state: &mut [u64; 9], channel: u16, number: u64, told: &mu
         ChannelNumber::new(channel),
         TickNumber::new(number),
     );
-    host_words::keep(state, terms::number_of(ticked.answer), ticked.next);
     match ticked.answer {
         Ok(passed) => {
+            host_words::keep(state, 0, ticked.next);
             *told = [passed.first.value(), passed.count];
             0
         }
-        Err(why) => u32::from(why),
+        Err(why) => {
+            let answer = u32::from(why);
+            host_words::keep(state, answer, ticked.next);
+            answer
+        }
     }
 }
 
