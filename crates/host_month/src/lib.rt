@@ -62,8 +62,8 @@ fn fronted(channels: [u16; 32]) -> [u64; 226]
 }
 
 // The words of a page.
-fn words_of(page: &Month) -> [u64; 226]
-    ensures { result ≡ words_of (page_in page.now) }
+fn words_of(page: Month) -> [u64; 226]
+    ensures { result ≡ words_of (page_in page) }
 {
     let mut words = fronted(page.channels);
     words[32] = page.named as u64;
@@ -79,7 +79,7 @@ pub fn rk_month_start(channels: &[u16], state: &mut [u64; 226]) -> u32
     let started = Month::started(channels);
     match started.answer {
         Ok(()) => {
-            *state = words_of(&started.page);
+            *state = words_of(started.page);
             0
         }
         Err(why) => u32::from(why),
@@ -95,7 +95,7 @@ pub fn rk_month_add(state: &mut [u64; 226], capture: &[u8], told: &mut [u64; 192
     let added = month_in(state).added(capture);
     match added.answer {
         Ok(figures) => {
-            *state = words_of(&added.page);
+            *state = words_of(added.page);
             *told = figures;
             0
         }

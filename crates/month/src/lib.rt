@@ -101,9 +101,9 @@ fn all_zero(sums: &[u64]) -> bool
 }
 
 // Whether the sums of unnamed places are 0.
-fn sums_right(sums: &[u64; 192], named: usize) -> bool
+fn sums_right(sums: [u64; 192], named: usize) -> bool
     requires { named ≤ 32 }
-    ensures { result ≡ sums_right sums.now named }
+    ensures { result ≡ sums_right sums named }
 {
     all_zero(&sums[6 * named..])
 }
@@ -324,8 +324,8 @@ fn figures_of(rows: &[Row; 32], named: usize) -> [u64; 192]
 }
 
 // Each sum with its figure added, where each fits 64 bits.
-fn summed(sums: &[u64; 192], figures: &[u64; 192]) -> Option<[u64; 192]>
-    ensures { result ≡ pick (all_below (sum_fits_in sums.now figures.now) figures_in_all) (Some (tabled (sum_in sums.now figures.now) figures_in_all)) None }
+fn summed(sums: [u64; 192], figures: [u64; 192]) -> Option<[u64; 192]>
+    ensures { result ≡ pick (all_below (sum_fits_in sums figures) figures_in_all) (Some (tabled (sum_in sums figures) figures_in_all)) None }
 {
     let mut next: [u64; 192] = [0; 192];
     for k in 0..192 {
@@ -356,18 +356,18 @@ impl Month {
     }
 
     // Whether the page keeps its rules.
-    fn sound(&self) -> bool
-        ensures { result ≡ sound_of (page_in self.now) }
+    fn sound(self) -> bool
+        ensures { result ≡ sound_of (page_in self) }
     {
         if self.named > 32 || self.taken > 500 {
             return false;
         }
-        channels_right(self.channels, self.named) && sums_right(&self.sums, self.named)
+        channels_right(self.channels, self.named) && sums_right(self.sums, self.named)
     }
 
     // The channels of a page that does.
-    fn names(&self) -> Option<Named>
-        ensures { MatchOption result (sound_of (page_in self.now) ≡ false) (λ n. (sound_of (page_in self.now) ≡ true) × ((n.channels ≡ self.now.channels) × (n.count ≡ self.now.named))) }
+    fn names(self) -> Option<Named>
+        ensures { MatchOption result (sound_of (page_in self) ≡ false) (λ n. (sound_of (page_in self) ≡ true) × ((n.channels ≡ self.channels) × (n.count ≡ self.named))) }
     {
         if !self.sound() {
             return None;
@@ -401,7 +401,7 @@ impl Month {
             return self.refused(Refusal::Captures);
         }
         let figures = figures_of(&pass(capture, &names), self.named);
-        let Some(sums) = summed(&self.sums, &figures) else {
+        let Some(sums) = summed(self.sums, figures) else {
             return self.refused(Refusal::Sums);
         };
         let channels = self.channels;

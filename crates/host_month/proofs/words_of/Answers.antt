@@ -5,4 +5,4 @@ use Rattle.host_month.proofs.WordLaws.{words_are}
 use Rattle.host_month.proofs.words_of.Goals as goal
 
 pub returns : goal.returns
-returns c = words_are (page_in c.args.page.now) _ c.fronted-words.ensures (search rules) _ c.copy_from_slice.ensures.after
+returns c = words_are (page_in c.args.page) _ c.fronted-words.ensures (search rules) _ c.copy_from_slice.ensures.after

@@ -6,4 +6,4 @@ use Rattle.month.proofs.AddLaws.{naming_of}
 use Rattle.month.proofs.Month.names.Goals as goal
 
 pub invariant_of-result : goal.invariant_of-result
-invariant_of-result c = record { naming = naming_of (page_in c.args.self.now) (rules_facts _ (sym c.sound.ensures ∙ c.if-not-sound.false)) }
+invariant_of-result c = record { naming = naming_of (page_in c.args.self) (rules_facts _ (sym c.sound.ensures ∙ c.if-not-sound.false)) }
