@@ -7,7 +7,7 @@ ghost use Rattle.std.specs.Prelude.{◌≡◌, min};
 ghost use Rattle.month_spec.specs.Calls.{start_number, answer_to};
 ghost use Rattle.month.specs.State.{page_in, month_of};
 ghost use Rattle.host_words.specs.Told.{Tells};
-ghost use Rattle.host_month.specs.Words.{channels_in, sums_in, page_words, Fronted, words_of, start_words, words_after};
+ghost use Rattle.host_month.specs.Words.{channels_in, sums_in, page_words, Fronted, Laid, words_of, start_words, words_after};
 
 use month::Month;
 
@@ -22,8 +22,10 @@ fn channels_in(words: &[u64; 226]) -> [u16; 32]
     ensures { result ≡ channels_in words.now }
 {
     let mut channels: [u16; 32] = [0; 32];
-    for i in 0..32 {
+    let mut i: usize = 0;
+    while i < 32 {
         channels[i] = channel_in(words[i]);
+        i += 1;
     }
     channels
 }
@@ -32,7 +34,11 @@ fn sums_in(words: &[u64; 226]) -> [u64; 192]
     ensures { result ≡ sums_in words.now }
 {
     let mut sums: [u64; 192] = [0; 192];
-    sums.copy_from_slice(&words[34..]);
+    let mut k: usize = 0;
+    while k < 192 {
+        sums[k] = words[34 + k];
+        k += 1;
+    }
     sums
 }
 
@@ -50,13 +56,34 @@ fn month_in(words: &[u64; 226]) -> Month
     }
 }
 
+fn wide(channel: u16) -> u64
+    ensures { result ≡ channel }
+{
+    channel as u64
+}
+
 // The channels at the front of the words, and zeros.
 fn fronted(channels: [u16; 32]) -> [u64; 226]
     ensures { Fronted channels result }
 {
     let mut words: [u64; 226] = [0; 226];
-    for i in 0..32 {
-        words[i] = u64::from(channels[i]);
+    let mut i: usize = 0;
+    while i < 32 {
+        words[i] = wide(channels[i]);
+        i += 1;
+    }
+    words
+}
+
+// The words with the sums behind the first 34.
+fn laid(front: [u64; 226], sums: [u64; 192]) -> [u64; 226]
+    ensures { Laid front sums result }
+{
+    let mut words: [u64; 226] = front;
+    let mut k: usize = 0;
+    while k < 192 {
+        words[34 + k] = sums[k];
+        k += 1;
     }
     words
 }
@@ -65,10 +92,11 @@ fn fronted(channels: [u16; 32]) -> [u64; 226]
 fn words_of(page: Month) -> [u64; 226]
     ensures { result ≡ words_of (page_in page) }
 {
-    let mut words = fronted(page.channels);
+    let channels = page.channels;
+    let sums = page.sums;
+    let mut words: [u64; 226] = laid(fronted(channels), sums);
     words[32] = page.named as u64;
     words[33] = page.taken as u64;
-    words[34..].copy_from_slice(&page.sums);
     words
 }
 

@@ -1,4 +1,8 @@
-use Rattle.month.proofs.Fill.{fill_start, fill_end, zero_at, zeros_long}
+use Prim.Native.Nat.{ℕ, ◌+◌, ◌-◌, min}
+use mathlib.Core.Path.{◌≡◌, refl, sym, ap, ◌∙◌}
+use lib.ListN.{get_or}
+use borrow.Author.Rules.{rules}
+use Rattle.month.proofs.Fill.{Filled, fill_start, fill_step, fill_end, zero_at, zeros_long}
 use Rattle.host_month.specs.Words.{channels_in}
 use Rattle.host_month.proofs.channels_in.Goals as goal
 
