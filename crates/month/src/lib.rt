@@ -3,14 +3,14 @@
 // the next one beside its answer.
 #![tactic(auto)]
 
-ghost use Rattle.std.specs.Prelude.{◌≡◌, true, false, ◌&&◌, [], ◌∷◌, ◌+◌, ◌≤◌, ◌<◌, eqb, leb, get_or, set, take, length, Some, None, IfOk, IfSome, MatchOption, unwrap_or, position};
+ghost use Rattle.std.specs.Prelude.{◌≡◌, true, false, ◌&&◌, [], ◌∷◌, ◌+◌, ◌≤◌, ◌<◌, eqb, get_or, set, take, length, Some, None, IfOk, IfSome, MatchOption, unwrap_or, position};
 ghost use Rattle.std.specs.List.{list_all};
 ghost use Rattle.terms.specs.Paper.{pick};
 ghost use Rattle.terms.specs.Verdicts.{verdict_number};
 ghost use Rattle.ledger_spec.specs.Words.{one};
 ghost use Rattle.walk_spec.specs.CallLaws.{is_tick};
 ghost use Rattle.month_spec.specs.Figures.{is_resend, reads_in};
-ghost use Rattle.month_spec.specs.Page.{highest, places, place_in, channels_right, sums_right, sound_of, figures_in_all, tabled, all_below};
+ghost use Rattle.month_spec.specs.Page.{places, place_in, channels_right, sums_right, sound_of, figures_in_all, tabled, all_below};
 ghost use Rattle.month_spec.specs.Calls.{naming_number, answer_to, next_of, start_number, start_page};
 ghost use Rattle.month.specs.Naming.{Naming, Hints, Hinted};
 ghost use Rattle.month.specs.State.{page_in, month_of, empty_with, refused_with, added_paper, sum_in, sum_fits_in};
@@ -323,36 +323,15 @@ fn figures_of(rows: &[Row; 32], named: usize) -> [u64; 192]
     told
 }
 
-// Whether a sum fits 64 bits with its figure added.
-fn has_room(sum: u64, figure: u64) -> bool
-    ensures { result ≡ leb (sum + figure) highest }
-{
-    figure <= u64::MAX - sum
-}
-
-// Whether every sum does. It is asked before any is added: an Option of all sums would be copied
-// more than once, and a call has no stack for that.
-fn fits(sums: [u64; 192], figures: [u64; 192]) -> bool
-    ensures { result ≡ all_below (sum_fits_in sums figures) figures_in_all }
-{
-    for k in 0..192 {
-        if !has_room(sums[k], figures[k]) {
-            return false;
-        }
-    }
-    true
-}
-
-// Each sum with its figure added, where each fits.
-fn summed(sums: [u64; 192], figures: [u64; 192]) -> [u64; 192]
-    requires { all_below (sum_fits_in sums figures) figures_in_all ≡ true }
-    ensures { result ≡ tabled (sum_in sums figures) figures_in_all }
+// Each sum with its figure added, where each fits 64 bits.
+fn summed(sums: [u64; 192], figures: [u64; 192]) -> Option<[u64; 192]>
+    ensures { result ≡ pick (all_below (sum_fits_in sums figures) figures_in_all) (Some (tabled (sum_in sums figures) figures_in_all)) None }
 {
     let mut next: [u64; 192] = [0; 192];
     for k in 0..192 {
-        next[k] = sums[k] + figures[k];
+        next[k] = sums[k].checked_add(figures[k])?;
     }
-    next
+    Some(next)
 }
 
 // ---- the page's calls
@@ -422,15 +401,15 @@ impl Month {
             return self.refused(Refusal::Captures);
         }
         let figures = figures_of(&pass(capture, &names), self.named);
-        if !fits(self.sums, figures) {
+        let Some(sums) = summed(self.sums, figures) else {
             return self.refused(Refusal::Sums);
-        }
+        };
         let channels = self.channels;
         let page = Month {
             channels,
             named: self.named,
             taken: self.taken + 1,
-            sums: summed(self.sums, figures),
+            sums,
         };
         Added {
             answer: Ok(figures),

@@ -3,7 +3,7 @@ use Rattle.std.proofs.Common.{◌≡◌, sym, ◌∙◌}
 use Rattle.month_spec.specs.Calls.{figures_told}
 use Rattle.month_spec.proofs.Rules.{rules_facts}
 use Rattle.month.specs.State.{page_in}
-use Rattle.month.proofs.AddLaws.{figures_are, fits_same, page_counted, leaves_13, leaves_27, leaves_28, leaves_0}
+use Rattle.month.proofs.AddLaws.{figures_are, fits_same, sums_none, sums_some, page_counted, leaves_13, leaves_27, leaves_28, leaves_0}
 use Rattle.month.proofs.Month.added.Goals as goal
 use Rattle.month.proofs.Month.added.Goals.{After-figures_of-figures}
 
@@ -18,18 +18,15 @@ returns-in_default c = leaves_13 _ _ _ c.in_default.ensures c.refused.ensures
 pub returns-then-self-ge500 : goal.returns-then-self-ge500
 returns-then-self-ge500 c = leaves_27 _ _ _ c.in-Some.ensures.0 c.if-self-ge500.true c.refused-then-self-ge500.ensures
 
-pub returns-then-not-fits : goal.returns-then-not-fits
-returns-then-not-fits c =
+pub returns-in_default-summed : goal.returns-in_default-summed
+returns-in_default-summed c =
     leaves_28 _ _ _ c.in-Some.ensures.0 c.if-self-ge500.false
-    (sym (fits_same (page_in c.args.self) c.args.capture.now _ (figures (goal.at.returns-then-not-fits c).After-figures_of-figures)) ∙ sym c.fits.ensures ∙ c.if-not-fits.true)
-    c.refused-then-not-fits.ensures
-
-pub summed-requires : goal.summed-requires
-summed-requires c = sym c.fits.ensures ∙ c.if-not-fits.false
+    (sym (fits_same (page_in c.args.self) c.args.capture.now _ (figures (goal.at.returns-in_default-summed c).After-figures_of-figures)) ∙ sums_none _ _ c.in_default-summed.ensures)
+    c.refused-in_default-summed.ensures
 
 pub returns : goal.returns
 returns c =
     let f = figures (goal.at.returns c).After-figures_of-figures in
+    let sums = sums_some _ _ _ c.in-Some-summed.ensures in
     leaves_0 c.args.self c.args.capture.now _ _ c.in-Some.ensures.0 c.if-self-ge500.false
-    (sym (fits_same (page_in c.args.self) c.args.capture.now _ f) ∙ sym c.fits.ensures ∙ c.if-not-fits.false) f
-    (page_counted (page_in c.args.self) c.args.capture.now _ f _ c.summed.ensures)
+    (sym (fits_same (page_in c.args.self) c.args.capture.now _ f) ∙ sums.0) f (page_counted (page_in c.args.self) c.args.capture.now _ f _ sums.1)
