@@ -61,8 +61,8 @@ abbrev pub reader_of_wrong : List (Row (List ℕ) Opening)
 reader_of_wrong =
     body 1 never opening 0 (body 1) 72  -- the reader starts at 72
     ∷ body 1 only opening 0 (body 1) 73
-    ∷ body 2 never opening 6 (2 ∷ []) 73  -- a reader beside a refusal, with the refused body's first byte
-    ∷ body 2 only opening 6 [] 0
+    ∷ body 2 never opening 0 (body 2) 73  -- a reader over a refused body
+    ∷ body 2 only opening 6 [] 0  -- refused, and no reader: it shows as no bytes at 0
     ∷ []
 
 -- what opening shows, by its number
