@@ -12,7 +12,7 @@ use Rattle.terms.specs.Refusals.{number_of, refusal_pos}
 use Rattle.reading.specs.Seen.{seen_number}
 use Rattle.walk_spec.specs.Offers.{calls_for, calls_by}
 use Rattle.walk_spec.specs.OfferLaws.{calls_refused, calls_of_lem}
-use Rattle.walk_step.specs.OfferedLaws.{verdict_paper, verdict_mapped, offer_none, offer_one}
+use Rattle.walk_step.specs.OfferedLaws.{verdict_paper, verdict_mapped, offers_none, offers_one}
 use Rattle.walk_step.proofs.offer.Goals as goal
 use Rattle.walk_step.proofs.offer.Goals.{Start, After-from}
 
@@ -41,22 +41,22 @@ calls_other Unknown channel n f g = refl
 pub returns-in-Err : goal.returns-in-Err
 returns-in-Err c =
     let e : seen_number c.args.seen ≡ number_of c.in-Err.why = ap verdict_number c.in-Err.is in
-    offer_none _ (words (goal.at.returns-in-Err c).Start) c.args.seen _ (calls_refused _ (λ z. refusal_pos c.in-Err.why (sym e ∙ z))) (sym e)
+    offers_none _ (words (goal.at.returns-in-Err c).Start) c.args.seen _ (calls_refused _ (λ z. refusal_pos c.in-Err.why (sym e ∙ z))) (sym e)
 
 pub returns-in-P001 : goal.returns-in-P001
 unfolding answer_to
 returns-in-P001 c =
-    offer_one _ (words (goal.at.returns-in-P001 c).Start) c.args.seen _ _ _ (calls (goal.at.returns-in-P001 c).After-from _ c.in-P001.is)
+    offers_one _ (words (goal.at.returns-in-P001 c).Start) c.args.seen _ _ _ (calls (goal.at.returns-in-P001 c).After-from _ c.in-P001.is)
     (verdict_paper c.announce.result.answer ∙ one_number c.announce.ensures.0) c.announce.ensures.1
 
 pub returns-in-M201 : goal.returns-in-M201
 unfolding answer_to
 returns-in-M201 c =
-    offer_one _ (words (goal.at.returns-in-M201 c).Start) c.args.seen _ _ _ (calls (goal.at.returns-in-M201 c).After-from _ c.in-M201.is)
+    offers_one _ (words (goal.at.returns-in-M201 c).Start) c.args.seen _ _ _ (calls (goal.at.returns-in-M201 c).After-from _ c.in-M201.is)
     (verdict_mapped _ _ _ c.map.ensures.cases ∙ one_number c.tick-ticked.ensures.0) c.tick-ticked.ensures.1
 
 pub returns-in_default-from : goal.returns-in_default-from
 returns-in_default-from c =
     let d = (goal.at.returns-in_default-from c).After-from in
-    offer_none _ (words (goal.at.returns-in_default-from c).Start) c.args.seen _
+    offers_none _ (words (goal.at.returns-in_default-from c).Start) c.args.seen _
     (calls d _ refl ∙ calls_other _ _ _ c.in_default-from.not-P001 c.in_default-from.not-M201) (sym (zero d))
