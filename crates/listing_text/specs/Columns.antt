@@ -5,7 +5,7 @@ use Rattle.std.proofs.Common.{sym, ap, ◌∙◌, arith, length-append, le-leb}
 use Rattle.terms.specs.Paper.{Paper, answer}
 use Rattle.std.specs.Prelude.{Result, Ok}
 use Rattle.terms.specs.declared.Refusal.{Refusal}
-use Rattle.octets.specs.Papers.{written_paper, written_one, room_for, room_there}
+use Rattle.octets.specs.Papers.{written_paper, written_one, Refuses, room_for, room_there}
 use Rattle.digits.specs.Digits.{width_of}
 use Rattle.digits.specs.Widths.{width_of_lem, width_most}
 use Rattle.record.specs.Stored.{Stored, stored_length}
@@ -16,6 +16,9 @@ few_digits w v p h k = width_most w (width_of_lem v h) p k
 module _ (at n len : ℕ) (w : Result ℕ Refusal) (h : at + n ≤ len) (p : written_paper w ≡ room_for at n len) where
   all_written : written_paper w ≡ answer 0 (n ∷ [])
   all_written = p ∙ room_there at n len (le-leb (at + n) len h)
+
+  pub not_refused : Refuses w → ⊥
+  not_refused r = omega (arith, ap (λ (y : Paper). length y.values) (ap written_paper (sym r.1) ∙ all_written))
 
   pub all_ok : w ≡ Ok n
   all_ok = written_one w (Ok n) all_written

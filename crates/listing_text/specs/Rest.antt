@@ -1,10 +1,11 @@
 -- The lines still to be laid once those of the first k records are: the loops go by them.
 use Prim.Native.Nat.{ℕ, suc, ◌+◌, ◌*◌, ◌/◌, ◌-◌, ◌≤◌, ◌<◌}
 use Rattle.std.specs.Prelude.{◌≡◌, refl, Bool, false, List, [], ◌++◌, leb}
-use Rattle.std.proofs.Common.{sym, ap, ◌∙◌, zero-add}
+use Rattle.std.proofs.Common.{sym, ap, ◌∙◌, ⊎_elim, zero-add, le-leb}
 use native.Mathlib.Omega.{arith}
 use Rattle.std.proofs.Math.ListN.{length, length-append}
 use Rattle.std.proofs.lemmas.Bool.{lt-leb}
+use Rattle.terms.specs.Cases.{less}
 use Rattle.octets.specs.Octets.{laid}
 use Rattle.octets.specs.Overlays.{laid_append, laid_none, room_test}
 use Rattle.record.specs.Record.{record_at}
@@ -79,6 +80,13 @@ module _ (s : List ℕ) where
               rw (t.whole, t.ends) (sym (laid_append at (line_of (record_at (64 * k) s)) (rest_of (k + 1)) d room)
               ∙ ap (λ (x : List ℕ). laid at x d) (sym (rest_step k h)) ∙ g.same);
         }
+
+-- ROOM for so many lines, however long, and m bytes more
+pub room_roomy : (room k m : ℕ) → m ≤ room → leb k ((room - m) / 127) ≡ leb (127 * k + m) room
+room_roomy room k m h =
+    ⊎_elim (λ (l : (room - m) / 127 < k). lt-leb k ((room - m) / 127) l ∙ sym (lt-leb (127 * k + m) room (omega arith)))
+    (λ (l : k ≤ (room - m) / 127). le-leb k ((room - m) / 127) l ∙ sym (le-leb (127 * k + m) room (omega arith)))
+    (less ((room - m) / 127) k)
 
 -- THE WHOLE LISTING: the lines and the last line
 
