@@ -1,11 +1,11 @@
 -- The state rules: the test that the code computes, check by check, and that it passes exactly
 -- where the facts hold.
-use Rattle.std.specs.Prelude.{ℕ, suc, ◌+◌, ◌≤◌, ◌<◌, ◌≡◌, refl, Bool, true, false, ◌&&◌, not, List, eqb, leb, length, get_or, take, drop, replicate, Result, Ok, Err, is_ok}
+use Rattle.std.specs.Prelude.{ℕ, suc, ◌+◌, ◌-◌, ◌≤◌, ◌<◌, ◌≡◌, refl, Bool, true, false, ◌&&◌, not, List, eqb, leb, length, get_or, take, drop, replicate, Result, Ok, Err, is_ok}
 use Rattle.std.proofs.Common.{sym, ap, ap₂, ◌∙◌, ⊎_elim, arith, add-one, drop_of_length-le, drop-cons}
 use Rattle.std.proofs.Math.Nat.{add-zero}
 use borrow.Author.Tests.{eq-eqb, ne_eqb, lt-leb, le-leb, leb-true}
 use Rattle.terms.specs.Paper.{pick, one_number}
-use Rattle.terms.specs.Cases.{two, clash}
+use Rattle.terms.specs.Cases.{two, less, clash}
 use Rattle.terms.specs.Refusals.{refusal_pos}
 use Rattle.terms.specs.declared.Refusal.{Refusal}
 use Rattle.ledger_spec.specs.State as Book
@@ -41,6 +41,17 @@ pub zero_end : (blank : Bool) (i : ℕ) (s : List ℕ) (z : Bool) → length s �
 unfolding all_zero
 zero_end blank i s z h e = sym (and_true blank) ∙ (rw (drop_of_length-le s h) at e)
 
+-- PLACES
+
+pub fits_is : (p n m : ℕ) → p ≤ last_place → n ≤ last_place - p → leb m (last_place - p - n) ≡ leb (p + (n + m)) last_place
+fits_is p n m h k =
+    ⊎_elim (λ (l : last_place - p - n < m). lt-leb m (last_place - p - n) l ∙ sym (lt-leb (p + (n + m)) last_place (omega arith)))
+    (λ (l : m ≤ last_place - p - n). le-leb m (last_place - p - n) l ∙ sym (le-leb (p + (n + m)) last_place (omega arith)))
+    (less (last_place - p - n) m)
+
+pub fits_not : (p n m : ℕ) → last_place - p < n → false ≡ leb (p + (n + m)) last_place
+fits_not p n m h = sym (lt-leb (p + (n + m)) last_place (omega arith))
+
 -- THE LEDGER AND THE COUNTS
 
 -- a count is refused exactly where the book is broken
@@ -58,6 +69,13 @@ held_ok l (Err w) p =
     ⊎_elim (λ (t : Book.sound_of (book_of l) ≡ true). absurd (refusal_pos w (one_number p ∙ held_number (book_of l) ∙ rw t)))
     (λ (f : Book.sound_of (book_of l) ≡ false). sym f)
     (two (Book.sound_of (book_of l)))
+
+module _ (l : Ledger) (k : ℕ) where
+  pub held_done : (a : Result ℕ Refusal) → a ≡ Ok k → count_paper a ≡ answer_to (book_of l) (Ask Held) → Book.sound_of (book_of l) ≡ true
+  held_done a e p = sym (held_ok l a p) ∙ ap is_ok e
+
+  pub held_refused : (a : Result ℕ Refusal) (w : Refusal) → a ≡ Err w → count_paper a ≡ answer_to (book_of l) (Ask Held) → Book.sound_of (book_of l) ≡ false
+  held_refused a w e p = sym (held_ok l a p) ∙ ap is_ok e
 
 pub ledger_other : (l : Ledger) → (l.channel.0 ≡ 100 → ⊥) → false ≡ ledger_right l
 unfolding ledger_right
