@@ -1,22 +1,23 @@
 -- The lent store: bytes cleared, moved to its front and kept, with zeros behind them; and bytes in
 -- two parts.
-use Rattle.std.specs.Prelude.{ℕ, ◌+◌, ◌-◌, ◌≤◌, ◌<◌, ◌≡◌, refl, true, false, ◌&&◌, List, [], ◌∷◌, ◌++◌, eqb, leb, length, take, drop, get_or, replicate}
+use Rattle.std.specs.Prelude.{ℕ, ◌+◌, ◌-◌, ◌≤◌, ◌<◌, ◌≡◌, refl, true, false, ◌&&◌, List, [], ◌∷◌, ◌++◌, eqb, leb, length, take, drop, get_or, set, replicate}
 use Rattle.std.proofs.Math.Path.{sym}
-use Rattle.std.proofs.Common.{ap, ap₂, ◌∙◌, ⊎_elim, append_assoc, arith, length-append, length-drop, take-append-drop, length-take-le, take_all, drop_at}
+use Rattle.std.proofs.Common.{ap, ap₂, ◌∙◌, ⊎_elim, append_assoc, arith, zero-add, length-append, length-drop, take-append-drop, length-take-le, take_all, drop_at, get_or-append-add, get_or-drop}
 use Rattle.std.specs.Int.Bits.{bit_or, or_zero_l, or_add_and}
 use Rattle.std.proofs.lemmas.Nat.{and_le_r}
-use Rattle.std.proofs.lemmas.List.{length-replicate, replicate-append-replicate, drop-append-le}
+use Rattle.std.proofs.lemmas.List.{length-replicate, get_or-replicate, replicate-append-replicate, drop-append-le}
 use Rattle.std.proofs.Math.Seq.{drop-drop, drop-append-add}
-use borrow.Author.Tests.{eqb-true, ne_eqb, le-leb, leb-true}
-use Rattle.terms.specs.Cases.{same}
+use borrow.Author.Tests.{eqb-true, ne_eqb, le-leb, lt-leb, leb-true}
+use Rattle.terms.specs.Cases.{same, less}
 use Rattle.std.specs.List.{copy_within}
 use borrow.Rule.Slice.PartMut.{put_mid}
 use Rattle.octets.specs.Octets.{laid}
-use Rattle.octets.specs.Overlays.{laid_front, laid_next, length_laid}
+use Rattle.octets.specs.Overlays.{laid_nil, laid_front, laid_more, laid_all, laid_next, length_laid}
+use Rattle.octets.specs.Papers.{laid_if_room}
 use Rattle.ledger_spec.proofs.Tests.{both}
 use Rattle.stream_spec.specs.State.{head_of, all_zero}
 use Rattle.stream_spec.specs.StateLaws.{zero_step}
-use Rattle.stream_spec.specs.Window.{take_drop, padded}
+use Rattle.stream_spec.specs.Window.{take_drop, padded, laid_in}
 use Rattle.stream_spec.specs.CutLaws.{head_take}
 use Rattle.stream.specs.Standing.{store_of, blank_to, has_rest, rest_of}
 
@@ -42,7 +43,43 @@ blank_step all i s h = rw (or_blank all (get_or s i 0)) (zero_step (eqb all 0) i
 blank_are : (n : ℕ) (s : List ℕ) → all_zero (drop n s) ≡ true → drop n s ≡ replicate (length s - n) 0
 blank_are n s z = zeros_are (drop n s) z ∙ rw (length-drop n s)
 
--- CLEARED AND MOVED
+-- CLEARED, a byte at a time
+
+pub clear_start : (a e : ℕ) (d : List ℕ) → d ≡ laid a (take (a - a) (replicate (e - a) 0)) d
+clear_start a e d = let z : a - a ≡ 0 = omega arith in sym (ap (λ (i : ℕ). laid a (take i (replicate (e - a) 0)) d) z ∙ laid_nil a d)
+
+-- one byte more is 0
+pub clear_more : (a e i : ℕ) (d w : List ℕ) → a ≤ i → i < e → e ≤ length d → w ≡ laid a (take (i - a) (replicate (e - a) 0)) d → set w i 0 ≡ laid a (take (i + 1 - a) (replicate (e - a) 0)) d
+clear_more a e i d w h k l q =
+    let n = length-replicate {A = ℕ} (e - a) 0 in
+    let p = laid_more a (i - a) (replicate (e - a) 0) d w (omega (arith, n)) (omega (arith, n)) q in
+    let x : a + (i - a) ≡ i = omega arith in
+    let y : i - a + 1 ≡ i + 1 - a = omega arith in
+    rw (x, y, get_or-replicate {A = ℕ} (e - a) (i - a) 0 0 (omega arith)) at p
+
+pub clear_all : (a e i : ℕ) (d : List ℕ) → e ≤ i → laid a (take (i - a) (replicate (e - a) 0)) d ≡ laid a (replicate (e - a) 0) d
+clear_all a e i d h = laid_all a (i - a) (replicate (e - a) 0) d (omega (arith, length-replicate {A = ℕ} (e - a) 0))
+
+-- MOVED, a byte at a time
+
+-- a byte that is moved is still the one that was there
+still : (a i : ℕ) (d w : List ℕ) → a + i < length d → w ≡ laid 0 (take i (drop a d)) d → get_or w (a + i) 0 ≡ get_or (drop a d) i 0
+still a i d w h q =
+    let l : length (take i (drop a d)) ≡ i = length-take-le i (drop a d) (omega (arith, length-drop a d)) in
+    let x : a + i ≡ length (take i (drop a d)) + a = omega (arith, l) in
+    let y : i + a ≡ a + i = omega arith in
+    ap (λ (s : List ℕ). get_or s (a + i) 0) (q ∙ laid_front (take i (drop a d)) d)
+    ∙ ap (λ (n : ℕ). get_or (take i (drop a d) ++ drop (length (take i (drop a d))) d) n 0) x
+    ∙ get_or-append-add (take i (drop a d)) (drop (length (take i (drop a d))) d) a 0
+    ∙ rw (l, get_or-drop i d a 0, get_or-drop a d i 0, y)
+
+pub down_more : (a m i : ℕ) (d w : List ℕ) → i < m → a + m ≤ length d → w ≡ laid 0 (take i (drop a d)) d → set w i (get_or w (a + i) 0) ≡ laid 0 (take (i + 1) (drop a d)) d
+down_more a m i d w h k q =
+    let l = length-drop a d in
+    let p = laid_more 0 i (drop a d) d w (omega (arith, l)) (omega (arith, l)) q in
+    ap (λ (b : ℕ). set w i b) (still a i d w (omega arith) q) ∙ (rw (zero-add i) at p)
+
+-- CLEARED AND MOVED, in one
 
 -- the first bytes of a store, filled with 0
 pub cleared : (n : ℕ) (d z : List ℕ) → n ≤ length d → z ≡ replicate (length (take n d)) 0 → z ++ drop n d ≡ blank_to n d
@@ -116,6 +153,13 @@ module _ (a e : ℕ) (d : List ℕ) (h : a ≤ e) (k : e ≤ length d) where
       sym (ap (λ (i : ℕ). laid 0 (drop i (take e d)) (blank_to e d)) z ∙ over_blank (take e d) d e (omega (arith, l)) ∙ rw (n, take-append-drop e d))
 
 -- other bytes in place of the first n
+pub kept_instead : (n : ℕ) (s d v w : List ℕ) → n ≤ length d → length s ≤ length d → v ≡ laid 0 (replicate (n - 0) 0) d → w ≡ laid_if_room 0 s v → w ≡ laid 0 s (blank_to n d)
+kept_instead n s d v w h k p q =
+    let m : n - 0 ≡ n = omega arith in
+    let f : v ≡ blank_to n d = rw m at p in
+    let l : length v ≡ length d = ap length f ∙ length_laid 0 (replicate n 0) d (omega (arith, length-replicate {A = ℕ} n 0)) in
+    laid_in 0 s v w (omega (arith, k, l)) q ∙ rw f
+
 -- FROM A PLACE ON, in one part and in two
 
 pub tail_whole : (i : ℕ) (l : List ℕ) → take (length l - i) (drop i l) ≡ drop i l
@@ -129,7 +173,26 @@ both_behind p a b h = let i : p ≡ length a + (p - length a) = omega arith in s
 
 -- WHAT WAITS BEHIND A RUN
 
+same_test : (a b c d : ℕ) → (a ≤ b → c ≤ d) → (b < a → d < c) → leb a b ≡ leb c d
+same_test a b c d y n = ⊎_elim (λ (l : b < a). lt-leb a b l ∙ sym (lt-leb c d (n l))) (λ (l : a ≤ b). le-leb a b l ∙ sym (le-leb c d (y l))) (less b a)
+
 module _ (room n at m : ℕ) where
+  pub rest_lacks : room < n → false ≡ has_rest room n at m
+  unfolding has_rest
+  rest_lacks h = sym (rw (lt-leb n room h))
+
+  pub rest_before : n ≤ room → at ≤ n → leb m (room - (n - at)) ≡ has_rest room n at m
+  unfolding has_rest
+  rest_before h k = same_test m (room - (n - at)) (n + m) (at + room) (λ l. omega arith) (λ l. omega arith) ∙ sym (rw (le-leb n room h, le-leb at (n + m) (omega arith)))
+
+  pub rest_past : n ≤ room → n < at → m < at - n → false ≡ has_rest room n at m
+  unfolding has_rest
+  rest_past h k l = sym (rw (le-leb n room h, lt-leb at (n + m) (omega arith)))
+
+  pub rest_behind : n ≤ room → n < at → at - n ≤ m → leb (m - (at - n)) room ≡ has_rest room n at m
+  unfolding has_rest
+  rest_behind h k l = same_test (m - (at - n)) room (n + m) (at + room) (λ i. omega arith) (λ i. omega arith) ∙ sym (rw (le-leb n room h, le-leb at (n + m) (omega arith)))
+
   pub rest_there : has_rest room n at m ≡ true → (n ≤ room) × ((at ≤ n + m) × (n + m ≤ at + room))
   unfolding has_rest
   rest_there e = let p = both (leb n room) _ e in let q = both (leb at (n + m)) _ p.1 in (leb-true _ _ p.0, (leb-true _ _ q.0, leb-true _ _ q.1))
