@@ -124,7 +124,12 @@ fn run(
             continue;
         }
         let after = walk_step::offer(tally.ledger, seen);
-        walk_step::note(out, count, walk_step::made(base + p as u64, seen, after));
+        let answer = terms::number_of(after.answer);
+        walk_step::note(
+            out,
+            count,
+            walk_step::made(base + p as u64, seen, answer, after.next),
+        );
         p += stride(seen);
         seeking = seen.answer.is_err();
         count += 1;

@@ -1,5 +1,5 @@
 -- The loop of a run: behind what is done, what is left gives what the whole run gives.
-use Rattle.std.specs.Prelude.{⊤, ℕ, ◌+◌, ◌≤◌, ◌<◌, ◌≡◌, refl, Bool, true, false, not, List, [], ◌∷◌, eqb, drop}
+use Rattle.std.specs.Prelude.{ℕ, ◌+◌, ◌≤◌, ◌<◌, ◌≡◌, refl, Bool, true, false, not, List, [], ◌∷◌, eqb, drop}
 use Rattle.std.proofs.Math.Path.{sym, ap}
 use Rattle.std.proofs.Common.{◌∙◌, ⊎_elim, arith, length-drop, drop_of_length-le, eqb-true}
 use Rattle.std.proofs.Math.ListN.{length}
@@ -13,8 +13,7 @@ use Rattle.walk_laws.specs.WaitLaws.{mode_of, notes, ran_at, ran_end, ran_more, 
 use Rattle.walk_laws.specs.Closing.{final}
 use Rattle.walk_laws.specs.Account.{Account, account_of}
 use Rattle.reading.specs.declared.Seen.{Seen}
-use Rattle.ledger.specs.declared.Called.{Called}
-use Rattle.terms.specs.Verdicts.{verdict_number}
+use Rattle.ledger.specs.declared.Ledger.{Ledger}
 use Rattle.reading.specs.Seen.{seen_of, seen_number, says_of}
 use Rattle.reading.specs.SeenLaws.{says_frame, says_more, says_bad}
 use Rattle.reading.proofs.SeenLaws.{seen_fits}
@@ -94,12 +93,12 @@ seen_at seeking closing base p w x h e n t =
     (two (eqb (seen_number x) 0))
 
 -- one reading's record and tally, as the code makes them
-module _ (t : Tally) (place : ℕ) (x : Seen) (o : Called ⊤) (ae : verdict_number o.answer ≡ (offer_of (book_of t.ledger) x).number) (oe : o.next ≡ ledger_of (offer_of (book_of t.ledger) x).book) where
-  made_is : (m : Record) → m ≡ made_of place x (verdict_number o.answer) o.next.floor o.next.top → m ≡ record_at t (record { place = place; read = x })
+module _ (t : Tally) (place : ℕ) (x : Seen) (n : ℕ) (o : Ledger) (ae : n ≡ (offer_of (book_of t.ledger) x).number) (oe : o ≡ ledger_of (offer_of (book_of t.ledger) x).book) where
+  made_is : (m : Record) → m ≡ made_of place x n o.floor o.top → m ≡ record_at t (record { place = place; read = x })
   unfolding record_at record_by ledger_of
   made_is m me = me ∙ rw (ae, oe)
 
-  tally_is : (t' : Tally) → t' ≡ tally_with t (seen_number x) o.next → t' ≡ tally_after t (record { place = place; read = x })
+  tally_is : (t' : Tally) → t' ≡ tally_with t (seen_number x) o → t' ≡ tally_after t (record { place = place; read = x })
   unfolding tally_after book_by
   tally_is t' te = te ∙ rw oe
 
@@ -163,16 +162,16 @@ module _ (w out₀ : List ℕ) (base : ℕ) (seek closing : Bool) (t₀ : Tally)
         ends = rw q at z.ends;
       }
 
-  pub left_note : (x : Seen) (o : Called ⊤) (m : Record) (t' : Tally) (out' : List ℕ) → p < length w → x ≡ seen_of (drop p w) → waits_at closing (seen_number x) ≡ false → passed_over seeking (seen_number x) ≡ false
-      → (verdict_number o.answer ≡ (offer_of (book_of t.ledger) x).number) × (o.next ≡ ledger_of (offer_of (book_of t.ledger) x).book)
-      → m ≡ made_of (base + p) x (verdict_number o.answer) o.next.floor o.next.top → t' ≡ tally_with t (seen_number x) o.next → out' ≡ noted_at count m out
+  pub left_note : (x : Seen) (n : ℕ) (o : Ledger) (m : Record) (t' : Tally) (out' : List ℕ) → p < length w → x ≡ seen_of (drop p w) → waits_at closing (seen_number x) ≡ false → passed_over seeking (seen_number x) ≡ false
+      → (n ≡ (offer_of (book_of t.ledger) x).number) × (o ≡ ledger_of (offer_of (book_of t.ledger) x).book)
+      → m ≡ made_of (base + p) x n o.floor o.top → t' ≡ tally_with t (seen_number x) o → out' ≡ noted_at count m out
       → Left w out₀ base seek closing t₀ k out' (p + stride_of x) (not (eqb (seen_number x) 0)) (count + 1) t'
   unfolding account_of written_from
-  left_note x o m t' out' h e n v oe me te g =
-      let s = seen_at seeking closing base p w x h e n v in
+  left_note x n o m t' out' h e nw v oe me te g =
+      let s = seen_at seeking closing base p w x h e nw v in
       let q = s.0 in
-      let f = made_is t (base + p) x o oe.0 oe.1 m me in
-      let u = tally_is t (base + p) x o oe.0 oe.1 t' te in
+      let f = made_is t (base + p) x n o oe.0 oe.1 m me in
+      let u = tally_is t (base + p) x n o oe.0 oe.1 t' te in
       record {
         inside = s.1.1;
         few = omega (arith, z.few, s.1.0);

@@ -24,9 +24,6 @@ use Rattle.walk_laws.specs.Account as Account
 use Rattle.walk_laws.specs.Account.{Account, first, account_of}
 use Rattle.walk_laws.specs.Literal.{from_of, sight_at, from_end}
 use Rattle.reading.specs.declared.Seen.{Seen}
-use Rattle.ledger.specs.declared.Called.{Called}
-use Rattle.terms.specs.Verdicts.{verdict_number}
-use Rattle.std.specs.Prelude.{⊤}
 use Rattle.walk.specs.declared.Passed.{Passed}
 use Rattle.reading.specs.Seen.{seen_of, seen_number, says_of}
 use Rattle.walk_spec.specs.Offers.{calls_for, calls_by, offering, offer_of}
@@ -122,10 +119,10 @@ left_start s out l e =
     }
 
 -- one turn of the loop, from the book after some calls
-module _ (s : List ℕ) (p r : ℕ) (calls : Calls) (l : Ledger) (x : Seen) (o : Called ⊤) (m : Record)
+module _ (s : List ℕ) (p r : ℕ) (calls : Calls) (l : Ledger) (x : Seen) (n : ℕ) (o : Ledger) (m : Record)
     (le : l ≡ ledger_of (book_after calls)) (xe : x ≡ seen_of (drop p s))
-    (ae : verdict_number o.answer ≡ (offer_of (book_of l) x).number) (oe : o.next ≡ ledger_of (offer_of (book_of l) x).book)
-    (me : m ≡ made_of p x (verdict_number o.answer) o.next.floor o.next.top) (g : Goes s p r) where
+    (ae : n ≡ (offer_of (book_of l) x).number) (oe : o ≡ ledger_of (offer_of (book_of l) x).book)
+    (me : m ≡ made_of p x n o.floor o.top) (g : Goes s p r) where
   book_is : book_of l ≡ book_after calls
   book_is = ap book_of le ∙ book_of_lem (book_after calls) (agrees 100 (omega arith) calls).rules.places
 
@@ -136,17 +133,17 @@ module _ (s : List ℕ) (p r : ℕ) (calls : Calls) (l : Ledger) (x : Seen) (o :
   unfolding offer_of
   next_book = book_added 100 calls (seen_number x) (calls_by x)
 
-  ledger_is : o.next ≡ ledger_of (offer_of (book_after calls) x).book
+  ledger_is : o ≡ ledger_of (offer_of (book_after calls) x).book
   ledger_is = oe ∙ ap (λ (b : Book). ledger_of (offer_of b x).book) book_is
 
-  number_is : verdict_number o.answer ≡ (offer_of (book_after calls) x).number
+  number_is : n ≡ (offer_of (book_after calls) x).number
   number_is = ae ∙ ap (λ (b : Book). (offer_of b x).number) book_is
 
-  floor_is : o.next.floor ≡ tick_of (offer_of (book_after calls) x).book.floor
+  floor_is : o.floor ≡ tick_of (offer_of (book_after calls) x).book.floor
   unfolding ledger_of
   floor_is = ap (λ (k : Ledger). k.floor) ledger_is
 
-  top_is : o.next.top ≡ tick_of (offer_of (book_after calls) x).book.top
+  top_is : o.top ≡ tick_of (offer_of (book_after calls) x).book.top
   unfolding ledger_of
   top_is = ap (λ (k : Ledger). k.top) ledger_is
 
@@ -154,23 +151,23 @@ module _ (s : List ℕ) (p r : ℕ) (calls : Calls) (l : Ledger) (x : Seen) (o :
   unfolding record_by
   made_is = me ∙ rw (number_is, floor_is, top_is, xe)
 
-  ledger_next : o.next ≡ ledger_of (book_after more)
+  ledger_next : o ≡ ledger_of (book_after more)
   ledger_next = ledger_is ∙ ap ledger_of next_book
 
   left_next : left_of (book_after calls) p s ≡ first (m ∷ []) (left_of (book_after more) r s)
   unfolding account_of book_by
   left_next = rw (g.rest, ← made_is, ← xe, next_book)
 
-pub left_step : {s out₀ out out' : List ℕ} {p r records frames k : ℕ} {l l' : Ledger} {x : Seen} {m : Record} (o : Called ⊤) (w : Left s out₀ out p records frames l)
-    → l' ≡ l → x ≡ seen_of (drop p s) → (verdict_number o.answer ≡ (offer_of (book_of l') x).number) × (o.next ≡ ledger_of (offer_of (book_of l') x).book)
-    → m ≡ made_of p x (verdict_number o.answer) o.next.floor o.next.top → out' ≡ noted_at records m out → Goes s p r → k ≡ accepts (seen_number x)
-    → Left s out₀ out' r (records + 1) (frames + k) (carried_of o.next.floor o.next.top o.next.map)
+pub left_step : {s out₀ out out' : List ℕ} {p r records frames k : ℕ} {l l' : Ledger} {x : Seen} {m : Record} (n : ℕ) (o : Ledger) (w : Left s out₀ out p records frames l)
+    → l' ≡ l → x ≡ seen_of (drop p s) → (n ≡ (offer_of (book_of l') x).number) × (o ≡ ledger_of (offer_of (book_of l') x).book)
+    → m ≡ made_of p x n o.floor o.top → out' ≡ noted_at records m out → Goes s p r → k ≡ accepts (seen_number x)
+    → Left s out₀ out' r (records + 1) (frames + k) (carried_of o.floor o.top o.map)
 unfolding written_from
-left_step {s} {out₀} {out} {out'} {p} {r} {records} {frames} {k} {l} {l'} {x} {m} o w le xe oe me n g ke =
+left_step {s} {out₀} {out} {out'} {p} {r} {records} {frames} {k} {l} {l'} {x} {m} n o w le xe oe me ne g ke =
     let read = frames_next s p r x xe g in
-    let next = left_next s p r w.calls l' x o m (le ∙ w.ledger_is) xe oe.0 oe.1 me g in
-    let whole = ledger_next s p r w.calls l' x o m (le ∙ w.ledger_is) xe oe.0 oe.1 me g in
-    let book = next_book s p r w.calls l' x o m (le ∙ w.ledger_is) xe oe.0 oe.1 me g in
+    let next = left_next s p r w.calls l' x n o m (le ∙ w.ledger_is) xe oe.0 oe.1 me g in
+    let whole = ledger_next s p r w.calls l' x n o m (le ∙ w.ledger_is) xe oe.0 oe.1 me g in
+    let book = next_book s p r w.calls l' x n o m (le ∙ w.ledger_is) xe oe.0 oe.1 me g in
     let kept = offer_kept (book_after w.calls) x in
     let calm : (book_after (added w.calls (calls_by x))).pending ≡ nothing = ap (λ (b : Book). b.pending) (sym book) ∙ kept.0 ∙ w.quiet in
     let own : (book_after (added w.calls (calls_by x))).channel ≡ 100 = ap (λ (b : Book). b.channel) (sym book) ∙ kept.1 ∙ w.ours in
@@ -178,12 +175,12 @@ left_step {s} {out₀} {out} {out'} {p} {r} {records} {frames} {k} {l} {l'} {x} 
       inside = g.inside;
       few = omega (arith, g.further, w.few);
       frames_few = omega (arith, w.frames_few, accepts_one (seen_number x) k ke);
-      room = ap length n ∙ noted_length records m out ∙ w.room;
+      room = ap length ne ∙ noted_length records m out ∙ w.room;
       calls = added w.calls (calls_by x);
-      ledger_is = sym (carried_is o.next _ whole own calm) ∙ whole;
+      ledger_is = sym (carried_is o _ whole own calm) ∙ whole;
       quiet = calm;
       ours = own;
-      written = rw n (rw next at w.written);
+      written = rw ne (rw next at w.written);
       counted = omega (arith, rw next at w.counted);
       read = omega (arith, ke, rw read at w.read);
       ends = rw next at w.ends;

@@ -72,7 +72,12 @@ fn pass(capture: &[u8], out: &mut [u8]) -> Passed
     while p < capture.len() {
         let seen = reading::see(capture, p);
         let after = walk_step::offer(carried(floor, top, map), seen);
-        walk_step::note(out, records, walk_step::made(p as u64, seen, after));
+        let answer = terms::number_of(after.answer);
+        walk_step::note(
+            out,
+            records,
+            walk_step::made(p as u64, seen, answer, after.next),
+        );
         p = walk_step::onward(capture, p, seen.size);
         records += 1;
         frames += usize::from(seen.answer.is_ok());

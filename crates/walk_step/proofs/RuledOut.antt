@@ -81,9 +81,11 @@ made_wrong =
     (7, (tick, (12, (4, 5)))) never (7 ∷ spelled "M201" ∷ 0 ∷ 2 ∷ 3 ∷ 100 ∷ 45 ∷ 4 ∷ 5 ∷ [])  -- the reading's answer for the ledger's
     ∷ (7, (tick, (12, (4, 5)))) never (7 ∷ spelled "M201" ∷ 12 ∷ 2 ∷ 3 ∷ 100 ∷ 45 ∷ 5 ∷ 5 ∷ [])  -- the top where the floor belongs
     ∷ (7, (tick, (12, (4, 5)))) only (7 ∷ spelled "M201" ∷ 12 ∷ 2 ∷ 3 ∷ 100 ∷ 45 ∷ 4 ∷ 5 ∷ [])
+    ∷ (7, (tick, (4000000000, (4, 5)))) never (7 ∷ spelled "M201" ∷ 0 ∷ 2 ∷ 3 ∷ 100 ∷ 45 ∷ 4 ∷ 5 ∷ [])  -- a number that no refusal has told as 0
+    ∷ (7, (tick, (4000000000, (4, 5)))) only (7 ∷ spelled "M201" ∷ 4000000000 ∷ 2 ∷ 3 ∷ 100 ∷ 45 ∷ 4 ∷ 5 ∷ [])
     ∷ []
 
-pub made_rules_out : RulesOut (Kept _ made-kinds.ps made-kinds.r made.Post) (λ c. (c.args.0, (c.args.1.0, (verdict_number c.args.1.1.0.answer, (c.args.1.1.0.next.floor.0, c.args.1.1.0.next.top.0))))) (λ c. noted c.result) made_wrong
+pub made_rules_out : RulesOut (Kept _ made-kinds.ps made-kinds.r made.Post) (λ c. (c.args.0, (c.args.1.0, (c.args.1.1.0, (c.args.1.1.1.0.floor.0, c.args.1.1.1.0.top.0))))) (λ c. noted c.result) made_wrong
 unfolding made_of
 made_rules_out = ruled lists (λ (i : ℕ × (Seen × (ℕ × (ℕ × ℕ)))). noted (made_of i.0 i.1.0 i.1.1.0 (tick_of i.1.1.1.0) (tick_of i.1.1.1.1))) (λ c p. ap noted p) _ refl
 

@@ -44,21 +44,21 @@ pub fn offer(ledger: Ledger, seen: Seen) -> Called<()>
     }
 }
 
-// The record of a reading: what was seen, the answer, and the ledger's floor and top
-// after the offer.
-pub fn made(place: u64, seen: Seen, after: Called<()>) -> Record
-    ensures { result ≡ made_of place seen (verdict_number after.answer) after.next.floor after.next.top }
+// The record of a reading: what was seen, the answer's number, and the ledger's floor and top
+// after the offer. Any number is told as it is.
+pub fn made(place: u64, seen: Seen, answer: u32, after: Ledger) -> Record
+    ensures { result ≡ made_of place seen answer after.floor after.top }
 {
     Record {
         place,
         msg_type: seen.msg_type,
-        answer: terms::number_of(after.answer),
+        answer,
         seq: seen.seq,
         tick: seen.tick,
         channel: seen.channel,
         body_len: seen.body_len,
-        floor: after.next.floor,
-        top: after.next.top,
+        floor: after.floor,
+        top: after.top,
     }
 }
 

@@ -64,8 +64,8 @@ loop-p-smaller c = omega (arith, c.stride-p.ensures, (far (goal.at.loop-p-smalle
 pub loop-p-preserved : goal.loop-p-preserved
 loop-p-preserved c =
     rw (c.stride-p.ensures, c.is_err-seeking.ensures.value, refused_by _)
-    (left_note _ _ _ _ _ _ _ _ _ _ _ _ c.loop-p.invariant _ _ _ _ _ (inside (goal.at.loop-p-preserved c).In-loop-p) c.see_at-seen.ensures (not-waiting (goal.at.loop-p-preserved c).Else-waits) (passing (goal.at.loop-p-preserved c).After-passes ∙ c.if-passes.false)
-    c.offer-after.ensures c.made.ensures c.counted-tally.ensures c.note.ensures)
+    (left_note _ _ _ _ _ _ _ _ _ _ _ _ c.loop-p.invariant _ _ _ _ _ _ (inside (goal.at.loop-p-preserved c).In-loop-p) c.see_at-seen.ensures (not-waiting (goal.at.loop-p-preserved c).Else-waits) (passing (goal.at.loop-p-preserved c).After-passes ∙ c.if-passes.false)
+    (c.number_of-answer.ensures ∙ c.offer-after.ensures.0, c.offer-after.ensures.1) c.made.ensures c.counted-tally.ensures c.note.ensures)
 
 pub returns-after-loop-p : goal.returns-after-loop-p
 returns-after-loop-p c =

@@ -18,7 +18,7 @@ loop-p-smaller c = let g = goes (goal.at.loop-p-smaller c).After-onward-p in ome
 
 pub loop-p-preserved : goal.loop-p-preserved
 loop-p-preserved c =
-    left_step c.offer-after.result c.loop-p.invariant c.carried.ensures c.see-seen.ensures c.offer-after.ensures c.made.ensures c.note.ensures
+    left_step c.number_of-answer.result c.offer-after.result.next c.loop-p.invariant c.carried.ensures c.see-seen.ensures (c.number_of-answer.ensures ∙ c.offer-after.ensures.0, c.offer-after.ensures.1) c.made.ensures c.note.ensures
     (goes (goal.at.loop-p-preserved c).After-onward-p) (c.from-frames.ensures ∙ ap from_bool c.is_ok.ensures.value ∙ accepts_is c.see-seen.result.answer)
 
 pub returns : goal.returns
