@@ -13,7 +13,7 @@ use Rattle.std.specs.List.{copy_within}
 use borrow.Rule.Slice.PartMut.{put_mid}
 use Rattle.octets.specs.Octets.{laid}
 use Rattle.octets.specs.Overlays.{laid_nil, laid_front, laid_more, laid_all, laid_next, length_laid}
-use Rattle.octets.specs.Papers.{laid_if_room}
+use Rattle.octets.specs.Papers.{laid_if_room, lay_next}
 use Rattle.ledger_spec.proofs.Tests.{both}
 use Rattle.stream_spec.specs.State.{head_of, all_zero}
 use Rattle.stream_spec.specs.StateLaws.{zero_step}
@@ -210,15 +210,28 @@ module _ (n at : ℕ) (cut d : List ℕ) where
     held : length (take n d) ≡ n
     held = length-take-le n d (rest_there (length d) n at (length cut) t).0
 
-    -- from a place among the n bytes on: the cut is laid behind what is left of them
-    pub rest_laid : at ≤ n → (v w : List ℕ) → v ≡ laid 0 (drop at (take n d)) (blank_to n d) → w ≡ laid (n - at) cut v → w ≡ rest_of n at cut d
+    left : length (drop at (take n d)) ≡ n - at
+    left = length-drop at (take n d) ∙ rw held
+
+    blanked : length (blank_to n d) ≡ length d
+    blanked = length_laid 0 (replicate n 0) d (omega (arith, length-replicate {A = ℕ} n 0, (rest_there (length d) n at (length cut) t).0))
+
+    rest_behind_left : at ≤ n → (w : List ℕ) → w ≡ laid 0 (drop at (take n d) ++ cut) (blank_to n d) → w ≡ rest_of n at cut d
+    rest_behind_left h w q =
+        q ∙ ap (λ (s : List ℕ). laid 0 s (blank_to n d)) (sym (drop-append-le at (take n d) cut (omega (arith, held)))) ∙ sym rest_is
+
+    -- from a place among the n bytes on: the cut is laid behind what is left of them, where it has
+    -- room, and it has
+    pub rest_laid : at ≤ n → (v w : List ℕ) → v ≡ laid 0 (drop at (take n d)) (blank_to n d) → w ≡ laid_if_room (n - at) cut v → w ≡ rest_of n at cut d
     rest_laid h v w p q =
         let b = rest_there (length d) n at (length cut) t in
-        let l : length (drop at (take n d)) ≡ n - at = length-drop at (take n d) ∙ rw held in
-        let m : length (blank_to n d) ≡ length d = length_laid 0 (replicate n 0) d (omega (arith, length-replicate {A = ℕ} n 0, b.0)) in
-        laid_next (n - at) (drop at (take n d)) cut (blank_to n d) v w q p l (omega (arith, m, b.0))
-        ∙ ap (λ (s : List ℕ). laid 0 s (blank_to n d)) (sym (drop-append-le at (take n d) cut (omega (arith, held))))
-        ∙ sym rest_is
+        rest_behind_left h w (lay_next (n - at) (drop at (take n d)) cut (blank_to n d) v w q p left (omega (arith, blanked, b.1.1, b.0)))
+
+    -- or it is copied there
+    pub rest_copied : at ≤ n → (v w : List ℕ) → v ≡ laid 0 (drop at (take n d)) (blank_to n d) → w ≡ laid (n - at) cut v → w ≡ rest_of n at cut d
+    rest_copied h v w p q =
+        let b = rest_there (length d) n at (length cut) t in
+        rest_behind_left h w (laid_next (n - at) (drop at (take n d)) cut (blank_to n d) v w q p left (omega (arith, blanked, b.0)))
 
     -- from a place of the cut on
     pub rest_kept : n < at → (s w : List ℕ) → s ≡ drop (at - n) cut → w ≡ laid 0 s (blank_to n d) → w ≡ rest_of n at cut d

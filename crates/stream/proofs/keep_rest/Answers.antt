@@ -7,7 +7,7 @@ use mathlib.Core.Path.{◌≡◌, refl, sym, ap, ◌∙◌}
 use mathlib.Core.Bool.{true}
 use lib.ListN.{length, take, drop, length-drop}
 use Rattle.stream.specs.Standing.{has_rest}
-use Rattle.stream.specs.StoreLaws.{copied, tail_whole, rest_there, rest_none, rest_laid, rest_kept}
+use Rattle.stream.specs.StoreLaws.{copied, tail_whole, rest_there, rest_none, rest_copied, rest_kept}
 use Rattle.stream.proofs.keep_rest.Goals as goal
 use Rattle.stream.proofs.keep_rest.Goals.{Else-not-has_rest}
 
@@ -30,7 +30,7 @@ shift-requires c = (c.if-at-n.true, (bounds (goal.at.shift-requires c).Else-not-
 pub returns-then-at-n : goal.returns-then-at-n
 returns-then-at-n c =
     let s = c.args in
-    rest_laid _ _ _ _ (there (goal.at.returns-then-at-n c).Else-not-has_rest) c.if-at-n.true _ _ c.shift.ensures
+    rest_copied _ _ _ _ (there (goal.at.returns-then-at-n c).Else-not-has_rest) c.if-at-n.true _ _ c.shift.ensures
     (copied (s.n - s.at) _ _ _ _ c.copy_from_slice.ensures.after refl)
 
 pub overflow_add-end : goal.overflow_add-end
