@@ -85,12 +85,22 @@ fn counted(tally: Tally, answer: Result<(), Refusal>, after: Ledger) -> Tally
     }
 }
 
+// What is read at a place of the bytes of a, with b behind them. It is called and not inlined: few
+// places lie in a, and the loop over places carries less without this code.
+#[inline(never)]
+fn see_before(a: &[u8], b: &[u8], p: usize) -> Seen
+    requires { p < length a.now }
+    ensures { result ≡ seen_of (drop p (a.now ++ b.now)) }
+{
+    reading_parts::see(&a[p..], b)
+}
+
 // What is read at a place of the bytes of a and, behind them, of b.
 fn see_at(a: &[u8], b: &[u8], p: usize) -> Seen
     ensures { result ≡ seen_of (drop p (a.now ++ b.now)) }
 {
     if p < a.len() {
-        return reading_parts::see(&a[p..], b);
+        return see_before(a, b, p);
     }
     reading::see(b, p - a.len())
 }
@@ -157,13 +167,24 @@ fn behind(st: Standing, ran: Ran, n: usize, closing: bool) -> Standing
     }
 }
 
+// The m bytes from a on are stored at the front. Byte by byte: the C library's memmove, which
+// `copy_within` becomes, is no name that the library needs from outside.
+fn down(w: &mut [u8], a: usize, m: usize)
+    requires { a + m ≤ length w.old }
+    ensures { w.new ≡ laid 0 (take m (drop a w.old)) w.old }
+{
+    for i in 0..m {
+        w[i] = w[a + i];
+    }
+}
+
 // The bytes from a to e move to the front, and those behind them, up to e, become 0.
 fn shift(kept: &mut [u8], a: usize, e: usize)
     requires { (a ≤ e) × (e ≤ length kept.old) }
     ensures { kept.new ≡ laid 0 (drop a (take e kept.old)) (blank_to e kept.old) }
 {
     if 0 < a {
-        kept.copy_within(a..e, 0);
+        down(kept, a, e - a);
         kept[e - a..e].fill(0);
     }
 }
