@@ -125,6 +125,12 @@ decimal_said t h =
 
 -- FROM THE FRONT
 
+-- eighteen digits leave room for one more
+pub said_room : (t : List ℕ) (i : ℕ) → i ≤ length t → i ≤ 18 → all_digits (take i t) ≡ true → said_by (take i t) < 10 ^ 18
+said_room t i h k d =
+    let l : length (take i t) ≡ i = length-take-le i t h in
+    omega (arith, rw l at (said_below (take i t) d), pow-le-pow_right {n = 10} (lit< tt) {i = i} {j = 18} k)
+
 module _ (t : List ℕ) (i : ℕ) (within : i < length t) where
   piece_more : take (i + 1) t ≡ take i t ++ (get_or t i 0 ∷ [])
   piece_more = rw add-one (take-suc t i 0 within)
@@ -135,12 +141,6 @@ module _ (t : List ℕ) (i : ℕ) (within : i < length t) where
 
   pub said_on : said_by (take (i + 1) t) ≡ said_by (take i t) * 10 + (get_or t i 0 - 48)
   said_on = rw piece_more (said_more (take i t) (get_or t i 0))
-
-  -- eighteen digits leave room for one more
-  pub said_room : length t ≤ 19 → all_digits (take i t) ≡ true → said_by (take i t) < 10 ^ 18
-  said_room k d =
-      let l : length (take i t) ≡ i = length-take-le i t (omega arith) in
-      omega (arith, rw l at (said_below (take i t) d), pow-le-pow_right {n = 10} (lit< tt) {i = i} {j = 18} (omega arith))
 
   -- a byte that is none
   pub said_stops : is_digit (get_or t i 0) ≡ false → all_digits t ≡ false

@@ -1,7 +1,7 @@
 -- Two parts, one behind the other: their first bytes, bytes laid together, and what the front of
 -- both says of all.
-use Rattle.std.specs.Prelude.{◌≡◌, ℕ, zero, suc, ◌+◌, ◌-◌, ◌%◌, ◌^◌, ◌<◌, ◌≤◌, min, ◌⊎◌, List, [], ◌∷◌, ◌++◌, length, take, drop, ◌≢◌, refl}
-use Rattle.std.proofs.Common.{sym, ap, ◌∙◌, inl, inr, ⊎_elim, arith, add-zero, length-append, length-take, length-drop, take-append-drop, drop_of_length-le, take_all, take-take, length-take-le, le-leb}
+use Rattle.std.specs.Prelude.{◌≡◌, ℕ, zero, suc, ◌+◌, ◌-◌, ◌%◌, ◌^◌, ◌<◌, ◌≤◌, min, false, ◌⊎◌, List, [], ◌∷◌, ◌++◌, length, take, drop, ◌≢◌, nat_lt, refl}
+use Rattle.std.proofs.Common.{sym, ap, ◌∙◌, inl, inr, ⊎_elim, arith, add-zero, length-append, length-take, length-drop, take-append-drop, drop_of_length-le, take_all, take-take, length-take-le, le-leb, le-ltb, lt-ltb}
 use Rattle.std.proofs.lemmas.Bool.{lt-leb}
 use Rattle.terms.specs.Cases.{less}
 use Rattle.terms.specs.Paper.{Paper, refusal, one_number}
@@ -57,6 +57,14 @@ drop_both at n m a b h k =
 -- the sum of both parts' shares
 pub sum_both : (n m x y : ℕ) (a b : List ℕ) → m ≡ n - length a → x ≡ sum8 (take n a) → y ≡ sum8 (take m b) → (x + y) % 2 ^ 8 ≡ sum8 (take n (a ++ b))
 sum_both n m x y a b h p q = rw (take_parts n a b, sum8_append, p, q, h)
+
+-- whether bytes are missing of w, asked without the sum
+pub none_lacks : (a b w : ℕ) → w ≤ a → false ≡ nat_lt (a + b) w
+none_lacks a b w h = sym (le-ltb (a + b) w (omega arith))
+
+pub some_lack : (a b w : ℕ) → a < w → nat_lt b (w - a) ≡ nat_lt (a + b) w
+some_lack a b w h =
+    ⊎_elim (λ (l : b < w - a). lt-ltb b (w - a) l ∙ sym (lt-ltb (a + b) w (omega arith))) (λ (l : w - a ≤ b). le-ltb b (w - a) l ∙ sym (le-ltb (a + b) w (omega arith))) (less b (w - a))
 
 -- BYTES LAID TOGETHER
 

@@ -16,11 +16,11 @@ record_drop : (at : ℕ) (s : List ℕ) → record_at 0 (drop at s) ≡ record_a
 unfolding record_at
 record_drop at s = simp (numeral_drop, add-zero)
 
-record_part : (at : ℕ) (s : List ℕ) → record_at 0 (take (length s - at) (drop at s)) ≡ record_at at s
+pub record_part : (at : ℕ) (s : List ℕ) → record_at 0 (take (length s - at) (drop at s)) ≡ record_at at s
 record_part at s = rw (take_all (length s - at) (drop at s) (simp length-drop (omega arith))) (record_drop at s)
 
 -- two places past the end read alike: nothing stands there
-record_past : (at e : ℕ) (s : List ℕ) → length s ≤ at → length s ≤ e → record_at at s ≡ record_at e s
+pub record_past : (at e : ℕ) (s : List ℕ) → length s ≤ at → length s ≤ e → record_at at s ≡ record_at e s
 record_past at e s h k = sym (record_drop at s) ∙ ap (record_at 0) (drop_of_length-le s h ∙ sym (drop_of_length-le s k)) ∙ record_drop e s
 
 -- what stands from the place on, or from the end on where the place is beyond it

@@ -1,6 +1,6 @@
 -- A row of bytes laid part by part, each just behind the one before.
 use Rattle.std.specs.Prelude.{ℕ, ◌+◌, ◌-◌, ◌≤◌, ◌≡◌, List, [], ◌∷◌, ◌++◌, length, take, set}
-use Rattle.std.proofs.Common.{sym, ap, ◌∙◌, arith, length-append, le-leb}
+use Rattle.std.proofs.Common.{sym, ap, ◌∙◌, arith, length-append, le-leb, take_all}
 use Rattle.terms.specs.Paper.{Paper}
 use Rattle.octets.specs.Octets.{bytes_of, laid}
 use Rattle.octets.specs.Numerals.{length_digits}
@@ -58,3 +58,14 @@ module _ {bs d e : List ℕ} {n : ℕ} (s : Stored 0 bs d e n) where
 
   pub laid_on : (at : ℕ) (out left : List ℕ) → left ≡ laid_if_room at (take n e) out → left ≡ laid_if_room at bs out
   laid_on at out left h = rw stored_front at h
+
+  -- where they fill what they were laid over, all of it is laid on
+  module _ (full : length d ≡ n) where
+    stored_whole : e ≡ bs
+    stored_whole = sym (take_all n e (omega (arith, full, stored_length s))) ∙ stored_front
+
+    pub room_whole : (at len : ℕ) (p : Paper) → p ≡ room_for at (length e) len → p ≡ room_for at n len
+    room_whole at len p h = let l : length e ≡ n = omega (arith, full, stored_length s) in rw l at h
+
+    pub laid_whole : (at : ℕ) (out left : List ℕ) → left ≡ laid_if_room at e out → left ≡ laid_if_room at bs out
+    laid_whole at out left h = rw stored_whole at h

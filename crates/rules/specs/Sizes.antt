@@ -6,7 +6,7 @@ use Rattle.terms.specs.Paper.{pick}
 use Rattle.terms.specs.Cases.{less}
 use Rattle.octets.specs.Octets.{be}
 use Rattle.octets.specs.Numerals.{numeral_take, numeral_drop}
-use Rattle.rules.specs.Fields.{entry_size, entry_ok, entries_ok, m102_fixed_ok, m102_ok}
+use Rattle.rules.specs.Fields.{entry_size, entry_ok, entries_ok, pair_ok, m102_values_ok, m102_fixed_ok, m102_ok}
 
 pub entries_more : (n w : ℕ) (b : List ℕ) → entries_ok (n + 1) w b ≡ (entries_ok n w b && entry_ok w (73 + n * w) b)
 unfolding entries_ok
@@ -23,6 +23,9 @@ size_small s = size_either (eqb s (spelled "MD001"))
 -- n entries of w bytes, of at most 65,535 and 19
 pub entries_small : (n w : ℕ) → n ≤ 65535 → w ≤ 19 → n * w ≤ 65535 * 19
 entries_small n w k l = le_trans (mul-le-mul_left n l) (mul-le-mul_right {m = n} {n = 65535} 19 k)
+
+pub entry_small : (i n w : ℕ) → i < n → n ≤ 65535 → w ≤ 19 → i * w ≤ 65535 * 19
+entry_small i n w h k l = entries_small i w (omega arith) l
 
 -- THE ENTRIES OF A BODY THAT THEY FILL
 
@@ -108,3 +111,6 @@ m102_entries b n w h k x y = rw (h, k, x, y)
 -- the same parts, of equal numbers
 pub same_whole : (n m w x : ℕ) → n ≡ m → w ≡ x → 73 + n * w ≡ 73 + m * x
 same_whole n m w x p q = rw (p, q)
+
+pub same_both : (p q : Bool) (t s u v : ℕ) (b : List ℕ) → p ≡ pair_ok t s → t ≡ u → s ≡ v → q ≡ m102_values_ok b → (p && q) ≡ (pair_ok u v && m102_values_ok b)
+same_both p q t s u v b h x y k = rw (h, x, y, k)

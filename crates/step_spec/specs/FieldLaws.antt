@@ -2,7 +2,7 @@
 use Prim.Native.Nat.{ℕ, zero, suc, ◌+◌, ◌-◌, ◌<◌, ◌≤◌}
 use Rattle.std.specs.Prelude.{◌≡◌, Bool, false, ◌&&◌, ◌⊎◌, eqb, ltb, drop}
 use Rattle.std.proofs.Math.Path.{refl, sym, ap}
-use Rattle.std.proofs.Common.{◌∙◌, add-one, add-zero, lit≤, drop_of_length-le, length-take-le, take-add, drop_at, drop-drop, take_all, get_or-take, get_or-drop}
+use Rattle.std.proofs.Common.{◌∙◌, add-one, add-zero, lit<, lit≤, drop_of_length-le, length-take-le, take-add, drop_at, drop-drop, take_all, get_or-take, get_or-drop}
 use Rattle.std.proofs.Math.Bool.{true}
 use mathlib.Core.List.{List, [], ◌∷◌}
 use Rattle.std.proofs.Math.Logic.{inl, inr, ⊎_elim}
@@ -14,13 +14,13 @@ use borrow.Author.Tests.{lt-ltb, le-ltb, le-leb, ltb-true, eqb-true}
 use Rattle.terms.specs.Paper.{Paper, answer, refusal, pick, one_number}
 use Rattle.terms.specs.Cases.{two, less, clash, and_false}
 use Rattle.digits.specs.Laws.{both}
-use Rattle.digits.specs.Digits.{decimal_at, digits_at, all_digits, said_by, number}
+use Rattle.digits.specs.Digits.{decimal_at, digits_at, all_digits, said_by, number, nothing}
 use Rattle.digits.specs.Texts.{Says, given_decimal, decimal_lacks}
 use Rattle.octets.specs.Octets.{numeral}
 use Rattle.step_tags.specs.Table.{row_of, has}
-use Rattle.step_tags.specs.Forms.{form_ok, is_unreal}
+use Rattle.step_tags.specs.Forms.{form_ok, some, is_unreal}
 use Rattle.step_spec.specs.Pieces.{SOH, equals, until_of, pieces}
-use Rattle.step_spec.specs.PieceLaws.{until_le, pieces_cut, pieces_last}
+use Rattle.step_spec.specs.PieceLaws.{part, until_le, pieces_cut, pieces_last}
 use Rattle.step_spec.specs.Fields.{is_field, tag_of, value_of, fits, all_below, begins52, unreal_in, field_front}
 
 -- the piece at the front
@@ -180,6 +180,44 @@ unreal_front s p =
 
 -- WHAT THE LOOPS FIND
 
+-- from a place to the end
+pub until_all : (b at : ℕ) (s : List ℕ) → until_of b (part s at (length s)) ≡ until_of b (drop at s)
+until_all b at s = ap (until_of b) (take_all (length s - at) (drop at s) (simp length-drop (omega arith)))
+
+-- the first SOH behind the place at stands at `end`, and the first `=` before it at `mark`
+module _ (at : ℕ) (s : List ℕ) (end mark : ℕ) (e : end ≡ at + until_of SOH (drop at s)) (m : mark ≡ at + until_of equals (piece (drop at s))) where
+  piece_long : length (piece (drop at s)) ≡ until_of SOH (drop at s)
+  piece_long = length-take-le (until_of SOH (drop at s)) (drop at s) (until_le SOH (drop at s))
+
+  moved : decimal_at 0 (until_of equals (piece (drop at s))) (piece (drop at s)) ≡ decimal_at at (mark - at) s
+  moved =
+      let k : mark - at ≡ until_of equals (piece (drop at s)) = omega arith in
+      decimal_same at (until_of SOH (drop at s)) s (until_le SOH (drop at s)) (until_of equals (piece (drop at s))) (omega (arith, piece_long, until_le equals (piece (drop at s)))) ∙ rw k
+
+  pub no_mark : mark ≡ end → field_front at (drop at s) ≡ refusal 26
+  unfolding is_field
+  no_mark h = field_none at (drop at s) (rw (le-ltb (until_of equals (piece (drop at s))) (length (piece (drop at s))) (omega (arith, piece_long))))
+
+  pub no_tag : nothing ≡ decimal_at at (mark - at) s → field_front at (drop at s) ≡ refusal 26
+  unfolding is_field some
+  no_tag h = field_none at (drop at s) (rw (moved ∙ sym h) (and_false (ltb (until_of equals (piece (drop at s))) (length (piece (drop at s))))))
+
+  module _ (tag : ℕ) (found : end < length s) (some-mark : mark < end) (h : number tag ≡ decimal_at at (mark - at) s) where
+    field_good : is_field (piece (drop at s)) ≡ true
+    unfolding is_field some
+    field_good = rw (lt-ltb (until_of equals (piece (drop at s))) (length (piece (drop at s))) (omega (arith, piece_long)), moved ∙ sym h)
+
+    tag_good : tag_of (piece (drop at s)) ≡ tag
+    unfolding tag_of
+    tag_good = ap (λ (p : Paper). get_or p.values 0 0) (moved ∙ sym h)
+
+    value_long : length (value_of (piece (drop at s))) ≡ end - mark - 1
+    unfolding value_of
+    value_long = length-drop (until_of equals (piece (drop at s)) + 1) (piece (drop at s)) ∙ omega (arith, piece_long)
+
+    pub field_found : answer 0 (tag ∷ (mark + 1) ∷ (end - mark - 1) ∷ (end + 1) ∷ []) ≡ field_front at (drop at s)
+    field_found = sym (field_there at (drop at s) (simp length-drop (omega arith)) field_good ∙ rw (tag_good, value_long, ← m, ← e))
+
 -- the value of a field lies within the bytes
 pub value_room : (at : ℕ) (s : List ℕ) (tag v n next : ℕ) → FieldIs at (drop at s) tag v n next → v + n < length s
 unfolding value_of is_field
@@ -198,6 +236,16 @@ short_52 p h = rw (get_or-eq_default p 0 {n = 2} (omega arith)) (and_false (eqb 
 
 pub long_52 : (p : List ℕ) → begins52 p ≡ true → 3 ≤ length p
 long_52 p h = ⊎_elim (λ (l : length p < 3). absurd (clash h (short_52 p l))) (λ (l : 3 ≤ length p). l) (less (length p) 3)
+
+module _ (at u : ℕ) (s : List ℕ) (three : 3 ≤ u) where
+  byte_at : (k : ℕ) → k < 3 → get_or (take u (drop at s)) k 0 ≡ get_or s (at + k) 0
+  byte_at k h = get_or-take u (drop at s) k 0 (omega arith) ∙ get_or-drop at s k 0
+
+  pub there_52 : begins52 (take u (drop at s)) ≡ ((eqb (get_or s at 0) 53 && eqb (get_or s (at + 1) 0) 50) && eqb (get_or s (at + 2) 0) equals)
+  there_52 = rw (byte_at 0 (lit< tt), byte_at 1 (lit< tt), byte_at 2 (lit< tt), add-zero at)
+
+  pub behind_52 : u ≤ length (drop at s) → drop 3 (take u (drop at s)) ≡ take (u - 3) (drop (at + 3) s)
+  behind_52 room = ap (λ (n : ℕ). drop 3 (take n (drop at s))) (split_of u 3 three) ∙ drop_take 3 (u - 3) (drop at s) (omega arith) ∙ rw drop-drop
 
 -- `52=` is the tag 52
 until_52 : (r : List ℕ) → until_of equals (53 ∷ 50 ∷ 61 ∷ r) ≡ 2
@@ -238,3 +286,6 @@ pub unreal_end : (s : List ℕ) → length s ≤ 0 → false ≡ unreal_in (piec
 unfolding unreal_in pieces
 unreal_end [] h = refl
 unreal_end (x ∷ xs) h = absurd (omega arith)
+
+pub unreal_none : (s : List ℕ) → 0 < length s → begins52 (piece s) ≡ false → length s ≤ until_of SOH s → false ≡ unreal_in (pieces s)
+unreal_none s p e h = unreal_end (drop (suc (until_of SOH s)) s) (simp length-drop (omega arith)) ∙ unreal_next s p e

@@ -1,5 +1,5 @@
--- A literal at the front, and the type's byte.
-use Prim.Native.Nat.{ℕ, ◌+◌, ◌<◌, ◌≤◌}
+-- A literal at the front, byte by byte and as a whole, and the type's byte.
+use Prim.Native.Nat.{ℕ, suc, ◌+◌, ◌-◌, ◌<◌, ◌≤◌}
 use Rattle.std.specs.Prelude.{◌≡◌, refl, true, false, List, [], ◌∷◌, ◌++◌, eqb, length, get_or, drop}
 use Rattle.std.proofs.Common.{ap, ◌∙◌, ⊎_elim, eq-eqb, ne_eqb, eqb-true}
 use Rattle.std.proofs.Math.Numerals.{add-one}
@@ -9,9 +9,35 @@ use Rattle.std.proofs.Math.Seq.{drop-cons}
 use Rattle.terms.specs.Paper.{refusal, pick}
 use Rattle.terms.specs.Cases.{two}
 use Rattle.digits.specs.Digits.{is_digit}
+use Rattle.step_spec.specs.PieceLaws.{part, part_cons}
 use Rattle.step_tags.specs.Table.{among, types}
 use Rattle.step_spec.specs.Pieces.{SOH}
 use Rattle.step_spec.specs.Frame.{front, digit_run, kind_check, verdict_of, accepted, step_read_of}
+
+-- A LITERAL, BYTE BY BYTE
+
+module _ (why : ℕ) (ls s : List ℕ) (i at : ℕ) where
+  pub front_end : length ls ≤ i → front why (drop i ls) (drop (at + i) s) ≡ 0
+  unfolding front
+  front_end h = rw (drop_of_length-le ls {i = i} h)
+
+  module _ (h : i < length ls) where
+    pub front_short : length s ≤ at + i → front why (drop i ls) (drop (at + i) s) ≡ 1
+    unfolding front
+    front_short k = rw (drop-cons ls i 0 h, drop_of_length-le s {i = at + i} k)
+
+    module _ (k : at + i < length s) where
+      cut : front why (drop i ls) (drop (at + i) s) ≡ pick (eqb (get_or s (at + i) 0) (get_or ls i 0)) (front why (drop (i + 1) ls) (drop (at + (i + 1)) s)) why
+      unfolding front
+      cut =
+          let e : at + (i + 1) ≡ suc (at + i) = omega arith in
+          rw (e, add-one i, drop-cons ls i 0 h, drop-cons s (at + i) 0 k)
+
+      pub front_fails : (get_or s (at + i) 0 ≡ get_or ls i 0 → ⊥) → front why (drop i ls) (drop (at + i) s) ≡ why
+      front_fails ne = cut ∙ rw (ne_eqb _ _ ne)
+
+      pub front_on : get_or s (at + i) 0 ≡ get_or ls i 0 → front why (drop i ls) (drop (at + i) s) ≡ front why (drop (i + 1) ls) (drop (at + (i + 1)) s)
+      front_on e = cut ∙ rw (eq-eqb _ _ e)
 
 -- A LITERAL IN FRONT
 
@@ -39,6 +65,28 @@ unfolding front
 front_length why [] s ne h = omega arith
 front_length why (l ∷ ls) [] ne h = absurd (omega arith)
 front_length why (l ∷ ls) (x ∷ xs) ne h = omega (arith, front_length why ls xs ne (front_step why l x ls xs h ne).1)
+
+-- DIGITS, BYTE BY BYTE
+
+module _ (x : ℕ) (xs : List ℕ) where
+  run_stop : is_digit x ≡ false → digit_run (x ∷ xs) ≡ 0
+  unfolding digit_run
+  run_stop e = rw e
+
+  run_on : is_digit x ≡ true → digit_run (x ∷ xs) ≡ suc (digit_run xs)
+  unfolding digit_run
+  run_on e = rw e
+
+module _ (s : List ℕ) (i to : ℕ) (h : i < to) (k : to ≤ length s) where
+  pub digits_stop : is_digit (get_or s i 0) ≡ false → digit_run (part s i to) ≡ 0
+  digits_stop e = rw (part_cons 0 s i to h k) (run_stop (get_or s i 0) (part s (i + 1) to) e)
+
+  pub digits_next : is_digit (get_or s i 0) ≡ true → digit_run (part s i to) ≡ suc (digit_run (part s (i + 1) to))
+  digits_next e = rw (part_cons 0 s i to h k) (run_on (get_or s i 0) (part s (i + 1) to) e)
+
+pub digits_past : (s : List ℕ) (i to : ℕ) → to ≤ i → digit_run (part s i to) ≡ 0
+unfolding digit_run
+digits_past s i to h = let e : to - i ≡ 0 = omega arith in rw e
 
 -- READING, BY ITS VERDICT
 

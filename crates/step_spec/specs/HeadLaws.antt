@@ -1,7 +1,7 @@
 -- Each check of reading from the facts that decide it.
 use Rattle.std.specs.Prelude.{ℕ, ◌+◌, ◌-◌, ◌<◌, ◌≤◌, min, ◌≡◌, get_or, take, drop}
 use Rattle.std.proofs.Math.Path.{refl}
-use Rattle.std.proofs.Common.{sym, ◌∙◌, ⊎_elim, arith, length-drop, take_all, drop-drop, get_or-drop, length-take-le}
+use Rattle.std.proofs.Common.{sym, ◌∙◌, ⊎_elim, arith, length-drop, take_all, drop-drop, get_or-take, get_or-drop, length-take-le}
 use mathlib.Core.List.{List, [], ◌∷◌}
 use Rattle.std.proofs.Math.ListN.{length}
 use borrow.Author.Tests.{le-leb, lt-leb}
@@ -10,10 +10,11 @@ use Rattle.terms.specs.Cases.{less}
 use Rattle.terms.specs.Checks.{or_else, else_on, else_off, else_both}
 use Rattle.octets.specs.Octets.{laid}
 use Rattle.octets.specs.Papers.{laid_if_room, laid_there}
-use Rattle.digits.specs.Digits.{decimal_of}
+use Rattle.digits.specs.Digits.{decimal_at, decimal_of}
 use Rattle.digits.specs.Laws.{length_decimal}
 use Rattle.step_spec.specs.Fields.{judge_of}
-use Rattle.step_spec.specs.Frame.{front, window, body_start, body_length, body_end, frame_length, long_check, kind_check, type_check, type_tag, head_of, sum_check, trailer_of, kind, fields, verdict_of, accepted, step_read_of}
+use Rattle.step_spec.specs.FieldLaws.{decimal_same}
+use Rattle.step_spec.specs.Frame.{front, digit_run, window, length_check, body_start, body_length, body_end, frame_length, long_check, kind_check, type_check, type_tag, head_of, sum_check, trailer_of, kind, fields, verdict_of, accepted, step_read_of}
 use Rattle.step_spec.specs.FrontLaws.{kind_length, reads_off, reads_on}
 
 -- the window as a part of the bytes
@@ -28,6 +29,12 @@ module _ (s : List ℕ) (at : ℕ) (room : at + 13 ≤ length s) where
   module _ (to : ℕ) (e : to ≡ min (at + 13 + 10) (length s)) where
     pub window_length : length (window (drop at s)) ≡ to - (at + 13)
     window_length = rw (window_part to e) (length-take-le _ _ (simp length-drop (omega arith)))
+
+    pub window_byte : (k : ℕ) → at + 13 + k < to → get_or (window (drop at s)) k 0 ≡ get_or s (at + 13 + k) 0
+    window_byte k h = rw (window_part to e) (get_or-take (to - (at + 13)) (drop (at + 13) s) k 0 (omega arith) ∙ get_or-drop (at + 13) s k 0)
+
+    pub window_number : (k : ℕ) → at + 13 + k ≤ to → decimal_at 0 k (window (drop at s)) ≡ decimal_at (at + 13) k s
+    window_number k h = rw (window_part to e) (decimal_same (at + 13) (to - (at + 13)) s (simp length-drop (omega arith)) k (omega arith))
 
 -- LENGTH AND TYPE
 
@@ -83,6 +90,11 @@ module _ (s : List ℕ) where
       read_frame e = reads_on s (else_on _ _ h ∙ else_on _ _ m ∙ e)
 
 -- WHAT A PASSED CHECK SAYS OF THE LENGTH
+
+pub length_empty : (w : List ℕ) → length w ≤ 0 → length_check w ≡ 1
+unfolding length_check digit_run
+length_empty [] h = refl
+length_empty (x ∷ xs) h = absurd (omega arith)
 
 pub type_room : (s : List ℕ) → 5 ≤ body_length s → type_check s ≡ 0 → body_start s + 5 ≤ length s
 type_room s five h = omega (arith, kind_length _ (else_both _ _ (sym (type_is s five) ∙ h)).1, length-drop (body_start s + 3) s)

@@ -1,6 +1,6 @@
 -- Where the first delimiter stands, and what it cuts off.
-use Rattle.std.specs.Prelude.{ℕ, suc, ◌<◌, ◌≤◌, ◌≡◌, refl, true, false, List, [], ◌∷◌, ◌⊎◌, eqb, length, get_or, take, drop}
-use Rattle.std.proofs.Common.{ap, ◌∙◌, inl, inr, ⊎_elim, arith, eqb-true}
+use Rattle.std.specs.Prelude.{ℕ, suc, ◌+◌, ◌-◌, ◌<◌, ◌≤◌, ◌≡◌, refl, true, false, List, [], ◌∷◌, ◌⊎◌, eqb, length, get_or, take, drop}
+use Rattle.std.proofs.Common.{ap, ◌∙◌, inl, inr, ⊎_elim, add-one, arith, drop-cons, eqb-true, eq-eqb, ne_eqb}
 use Rattle.terms.specs.Cases.{two}
 use Rattle.step_spec.specs.Pieces.{SOH, until_of, on_first, pieces, closed, closed_by}
 
@@ -107,3 +107,25 @@ open_rest (x ∷ xs) h = inl (open_step x xs (open_rest xs) h)
 
 pub not_closed : (s : List ℕ) → 0 < length s → length s ≤ until_of SOH s → closed s ≡ false
 not_closed s p h = ⊎_elim (λ (e : closed s ≡ false). e) (λ (e : s ≡ []). absurd (omega (arith, ap length e))) (open_rest s h)
+
+-- FROM ONE PLACE TO ANOTHER
+
+-- the bytes of s from the place i on, before the place to
+abbrev pub part : List ℕ → ℕ → ℕ → List ℕ
+part s i to = take (to - i) (drop i s)
+
+module _ (b : ℕ) (s : List ℕ) (i to : ℕ) (h : i < to) (k : to ≤ length s) where
+  pub part_cons : part s i to ≡ get_or s i 0 ∷ part s (i + 1) to
+  part_cons =
+      let e : to - i ≡ suc (to - (i + 1)) = omega arith in
+      rw (e, drop-cons s i 0 (omega arith), add-one i)
+
+  pub until_stop : get_or s i 0 ≡ b → until_of b (part s i to) ≡ 0
+  until_stop e = rw part_cons (until_here b (get_or s i 0) (part s (i + 1) to) (eq-eqb (get_or s i 0) b e))
+
+  pub until_next : (get_or s i 0 ≡ b → ⊥) → until_of b (part s i to) ≡ suc (until_of b (part s (i + 1) to))
+  until_next e = rw part_cons (until_on b (get_or s i 0) (part s (i + 1) to) (ne_eqb (get_or s i 0) b e))
+
+pub until_past : (b : ℕ) (s : List ℕ) (i to : ℕ) → to ≤ i → until_of b (part s i to) ≡ 0
+unfolding until_of
+until_past b s i to h = let e : to - i ≡ 0 = omega arith in rw e

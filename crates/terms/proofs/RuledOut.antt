@@ -14,7 +14,7 @@ use Rattle.terms.specs.declared.SessionNumber.{SessionNumber}
 use Rattle.terms.specs.declared.TickNumber.{TickNumber}
 use Rattle.terms.specs.declared.ChannelNumber.{ChannelNumber}
 use Rattle.terms.specs.declared.Refusal.{Refusal}
-use Rattle.terms.specs.declared.Refusal.TheVariants.{Sum, Field, Time, Closed, Entries, Full, Open, Captures, Sums, Places, Early, Sequence, Over, Again}
+use Rattle.terms.specs.declared.Refusal.TheVariants.{Sum, Field, Time, Far, Closed, Entries, Full, Open, Captures, Sums, Places, Early, Sequence, Over, Again}
 use Rattle.terms.proofs.SessionNumber.new.Reads as session-new
 use Rattle.terms.proofs.SessionNumber.new.Kinds as session-new-kinds
 use Rattle.terms.proofs.SessionNumber.value.Reads as session-value
@@ -88,6 +88,8 @@ module _ (T : RattleType) (laws : Laws T) (drops : Dict) (held : T.Denot) where
       Ok held only 0
       ∷ Err Sum never 0  -- a refusal told as fine
       ∷ Err Sum only 5
+      ∷ Err Far never 0  -- a refusal taken for an answer
+      ∷ Err Far only 12
       ∷ []
 
   pub number_of_rules_out : RulesOut (Kept _ (answer-number-kinds.ps T laws) (answer-number-kinds.r T laws) (answer-number.Post T laws drops)) (λ c. c.args.0) (λ c. c.result) number_of_wrong

@@ -1,5 +1,5 @@
 -- Each byte more, or one that is no digit. Assumes nothing.
-use Rattle.std.proofs.Common.{◌≡◌, ◌+◌, ◌-◌, ◌∙◌, sym, refl, arith, get_or, take, drop, ℕ, List}
+use Rattle.std.proofs.Common.{◌≡◌, ◌+◌, ◌-◌, ◌^◌, ◌<◌, ◌≤◌, ◌∙◌, true, sym, refl, arith, get_or, length, take, drop, ℕ, List}
 use Rattle.octets.specs.Octets.{numeral}
 use Rattle.digits.specs.Digits.{all_digits, said_by}
 use Rattle.digits.specs.Laws.{all_on, said_on, said_room, said_stops, digit_bounds}
@@ -9,6 +9,10 @@ use Rattle.digits.proofs.said.Goals as goal
 -- the byte at hand
 abbrev hand : (s : List ℕ) (at n i : ℕ) → ℕ
 hand s at n i = get_or (take (at + n - at) (drop at s)) i 0
+
+-- the digits before the last of nineteen
+fewer : (t : List ℕ) (i : ℕ) → i < length t → length t ≤ 19 → all_digits (take i t) ≡ true → said_by (take i t) < 10 ^ 18
+fewer t i h k d = said_room t i (omega arith) (omega arith) d
 
 pub loop-b-init : goal.loop-b-init
 unfolding all_digits said_by numeral
@@ -20,10 +24,10 @@ returns-then-not-digit c =
     rw e at (sym (said_lacks _ (said_stops _ _ c.loop-b-test.true (sym c.digit.ensures ∙ c.if-not-digit.true))))
 
 pub overflow_mul-v : goal.overflow_mul-v
-overflow_mul-v c = omega (arith, said_room _ _ c.loop-b-test.true (omega arith) c.loop-b.invariant.0)
+overflow_mul-v c = omega (arith, fewer _ _ c.loop-b-test.true (omega arith) c.loop-b.invariant.0)
 
 pub overflow_add-v : goal.overflow_add-v
-overflow_add-v c = omega (arith, digit_bounds (hand c.args.s.now c.args.at c.args.n c.loop-b.b-index) (sym c.digit.ensures ∙ c.if-not-digit.false), said_room _ _ c.loop-b-test.true (omega arith) c.loop-b.invariant.0)
+overflow_add-v c = omega (arith, digit_bounds (hand c.args.s.now c.args.at c.args.n c.loop-b.b-index) (sym c.digit.ensures ∙ c.if-not-digit.false), fewer _ _ c.loop-b-test.true (omega arith) c.loop-b.invariant.0)
 
 pub loop-b-preserved : goal.loop-b-preserved
 loop-b-preserved c =
