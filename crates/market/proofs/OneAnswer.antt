@@ -12,6 +12,8 @@ use Rattle.market.proofs.due.Reads as due
 use Rattle.market.proofs.due.Kinds as due-kinds
 use Rattle.market.proofs.line_type.Reads as line-type
 use Rattle.market.proofs.line_type.Kinds as line-type-kinds
+use Rattle.market.proofs.LineType.rows.Reads as rows
+use Rattle.market.proofs.LineType.rows.Kinds as rows-kinds
 use Rattle.market.proofs.rows_of.Reads as rows_of_lem
 use Rattle.market.proofs.rows_of.Kinds as rows-of-kinds
 use Rattle.market.proofs.check.Reads as check
@@ -32,8 +34,11 @@ rows_one x y a b =
     ap (λ (f : ℕ). rows f x.last x.within) a
     ∙ subst (λ (l : ℕ). (w : l ≤ 58) → rows y.first x.last x.within ≡ rows y.first l w) b (λ w. ap (rows y.first x.last) (le_prop x.within w)) y.within
 
+pub LineType_rows_one_answer : OneAnswer _ rows-kinds.ps rows-kinds.r rows.Post
+LineType_rows_one_answer κs a x y s t p q = rows_one x y (p.1.0 ∙ sym q.1.0) (p.1.1 ∙ sym q.1.1)
+
 pub rows_of_one_answer : OneAnswer _ rows-of-kinds.ps rows-of-kinds.r rows_of_lem.Post
-rows_of_one_answer κs a x y s t p q = rows_one x y (p.1.0 ∙ sym q.1.0) (p.1.1 ∙ sym q.1.1)
+rows_of_one_answer κs a x y s t p q = rows_one x y (p.1.1.0 ∙ sym q.1.1.0) (p.1.1.1 ∙ sym q.1.1.1)
 
 pub check_one_answer : OneAnswer _ check-kinds.ps check-kinds.r check.Post
 check_one_answer κs a x y s t p q = verdict_one x y (p ∙ sym q)

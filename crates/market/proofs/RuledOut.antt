@@ -23,6 +23,8 @@ use Rattle.market.proofs.due.Reads as due
 use Rattle.market.proofs.due.Kinds as due-kinds
 use Rattle.market.proofs.line_type.Reads as line-type
 use Rattle.market.proofs.line_type.Kinds as line-type-kinds
+use Rattle.market.proofs.LineType.rows.Reads as rows
+use Rattle.market.proofs.LineType.rows.Kinds as rows-kinds
 use Rattle.market.proofs.rows_of.Reads as rows_of_lem
 use Rattle.market.proofs.rows_of.Kinds as rows-of-kinds
 use Rattle.market.proofs.check.Reads as check
@@ -67,6 +69,19 @@ pub line_type_rules_out : RulesOut (Kept _ line-type-kinds.ps line-type-kinds.r 
 unfolding type_at begins_at alike
 line_type_rules_out = ruled numbers (λ (i : List ℕ × ℕ). type_at i.1 i.0) (λ c p. p) _ refl
 
+-- ROWS: a line's type by its number; its first row, and the one behind its last
+abbrev pub LineType_rows_wrong : List (Row ℕ (List ℕ))
+LineType_rows_wrong =
+    1 only (9 ∷ 26 ∷ [])
+    ∷ 2 never (9 ∷ 26 ∷ [])  -- MD401's columns for every line
+    ∷ 3 only (36 ∷ 46 ∷ [])
+    ∷ 4 never (46 ∷ 57 ∷ [])  -- the last column left out
+    ∷ []
+
+pub LineType_rows_rules_out : RulesOut (Kept _ rows-kinds.ps rows-kinds.r rows.Post) (λ c. line_number c.args.0) (λ c. c.result.first ∷ c.result.last ∷ []) LineType_rows_wrong
+LineType_rows_rules_out =
+    ruled lists (λ (t : ℕ). first_of t ∷ last_of t ∷ []) (λ c p. ap₂ (λ (f : ℕ) (l : ℕ). f ∷ l ∷ []) p.1.0 p.1.1) _ refl
+
 -- ROWS_OF: the number of a line's type; its first row, and the one behind its last
 abbrev pub rows_of_wrong : List (Row ℕ (List ℕ))
 rows_of_wrong =
@@ -74,11 +89,13 @@ rows_of_wrong =
     ∷ 2 never (9 ∷ 26 ∷ [])  -- MD401's columns for every line
     ∷ 3 only (36 ∷ 46 ∷ [])
     ∷ 4 never (46 ∷ 57 ∷ [])  -- the last column left out
+    ∷ 0 only (46 ∷ 58 ∷ [])
+    ∷ 5 never (9 ∷ 26 ∷ [])  -- MD401's columns for a number that is no type's
     ∷ []
 
-pub rows_of_rules_out : RulesOut (Kept _ rows-of-kinds.ps rows-of-kinds.r rows_of_lem.Post) (λ c. line_number c.args.0) (λ c. c.result.first ∷ c.result.last ∷ []) rows_of_wrong
+pub rows_of_rules_out : RulesOut (Kept _ rows-of-kinds.ps rows-of-kinds.r rows_of_lem.Post) (λ c. c.args.0) (λ c. c.result.first ∷ c.result.last ∷ []) rows_of_wrong
 rows_of_rules_out =
-    ruled lists (λ (t : ℕ). first_of t ∷ last_of t ∷ []) (λ c p. ap₂ (λ (f : ℕ) (l : ℕ). f ∷ l ∷ []) p.1.0 p.1.1) _ refl
+    ruled lists (λ (t : ℕ). first_of t ∷ last_of t ∷ []) (λ c p. ap₂ (λ (f : ℕ) (l : ℕ). f ∷ l ∷ []) p.1.1.0 p.1.1.1) _ refl
 
 -- CHECK: files
 abbrev empty : List ℕ

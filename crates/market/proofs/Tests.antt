@@ -18,20 +18,15 @@ and_true : (b : Bool) → (b && true) ≡ b
 and_true true = refl
 and_true false = refl
 
-abbrev of : Bool → ℕ → Amount
-of b v = record { minus = b; units = v }
+abbrev of : ℕ → ℕ → Amount
+of m v = record { sign = m; units = v }
 
 -- the derived `==` of amounts is E
-module _ (E : Amount → Amount → Bool) (minus : (v k : ℕ) → E (of true v) (of false k) ≡ false) (plus : (v k : ℕ) → E (of false v) (of false k) ≡ eqb v k) (k : ℕ) where
-  one : (b : Bool) (v : ℕ) → E (of b v) (of false k) ≡ alike (amount_paper (Some (of b v))).values (0 ∷ k ∷ [])
-  unfolding alike
-  one true v = minus v k
-  one false v = plus v k ∙ sym (and_true (eqb v k))
-
-  pub counted : (r : Option Amount) → option_eq E r (Some (of false k)) ≡ alike (amount_paper r).values (0 ∷ k ∷ [])
+module _ (E : Amount → Amount → Bool) (each : (m v k : ℕ) → E (of m v) (of 0 k) ≡ (eqb m 0 && eqb v k)) (k : ℕ) where
+  pub counted : (r : Option Amount) → option_eq E r (Some (of 0 k)) ≡ alike (amount_paper r).values (0 ∷ k ∷ [])
   unfolding alike
   counted None = refl
-  counted (Some a) = one a.minus a.units
+  counted (Some a) = each a.sign a.units k ∙ ap (λ (b : Bool). eqb a.sign 0 && b) (sym (and_true (eqb a.units k)))
 
 pub summed : (n : ℕ) (r : Option ℕ) → option_eq eqb r (Some n) ≡ alike (decimal_paper r).values (n ∷ [])
 unfolding alike

@@ -79,17 +79,31 @@ pub struct Rows {
 // The rows of the header.
 pub const HEADER: Rows = Rows { first: 0, last: 9 };
 
-// The rows of a line's type.
-pub fn rows_of(line: LineType) -> Rows
-    ensures { (columns result.first result.last ≡ layout_of (line_number line)) × ((result.first ≡ first_of (line_number line)) × (result.last ≡ last_of (line_number line))) }
+impl LineType {
+    // The rows of a line's type.
+    pub fn rows(self) -> Rows
+        ensures { (columns result.first result.last ≡ layout_of (line_number self)) × ((result.first ≡ first_of (line_number self)) × (result.last ≡ last_of (line_number self))) }
+    {
+        let (first, last) = match self {
+            LineType::Md401 => (9, 26),
+            LineType::Md404 => (26, 36),
+            LineType::Md405 => (36, 46),
+            LineType::Md406 => (46, 58),
+        };
+        Rows { first, last }
+    }
+}
+
+// The rows of a line's type by its number, 1 to 4; any other number has those of 4.
+pub fn rows_of(t: u8) -> Rows
+    ensures { (columns result.first result.last ≡ layout_of t) × ((result.last ≤ 58) × ((result.first ≡ first_of t) × (result.last ≡ last_of t))) }
 {
-    let (first, last) = match line {
-        LineType::Md401 => (9, 26),
-        LineType::Md404 => (26, 36),
-        LineType::Md405 => (36, 46),
-        LineType::Md406 => (46, 58),
-    };
-    Rows { first, last }
+    match t {
+        1 => LineType::Md401.rows(),
+        2 => LineType::Md404.rows(),
+        3 => LineType::Md405.rows(),
+        _ => LineType::Md406.rows(),
+    }
 }
 
 // The byte that is due behind the column of row i, of a layout whose rows end before last:
@@ -229,7 +243,7 @@ fn count_ok(s: &[u8], k: usize) -> bool
     ensures { result ≡ count_ok k s.now }
 {
     let counted = Amount {
-        minus: false,
+        sign: 0,
         units: k as u64,
     };
     market_columns::number_at(s, 27, market_columns::column(3)) == Some(counted)
@@ -282,7 +296,7 @@ fn lines_at(s: &[u8], at: usize) -> Result<usize, Wrong>
     loop {
         match type_at(s, p) {
             Start::Line(line) => {
-                p = line_at(s, p, rows_of(line), Fault::Column)?;
+                p = line_at(s, p, line.rows(), Fault::Column)?;
                 k += 1;
             }
             Start::Trailer => return trailer_at(s, p, k),

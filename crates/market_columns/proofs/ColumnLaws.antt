@@ -40,10 +40,10 @@ module _ (x : List ℕ) where
   ok_text (C n) e = refl
   ok_text (U n) e = absurd (omega arith)
 
-  pub ok_name : (c : Column) → kind_of c ≡ 4 → column_ok c x ≡ true
+  pub ok_name : (c : Column) → (kind_of c ≡ 0 → ⊥) → (kind_of c ≡ 1 → ⊥) → (kind_of c ≡ 2 → ⊥) → (kind_of c ≡ 3 → ⊥) → column_ok c x ≡ true
   unfolding column_ok
-  ok_name (K t) e = absurd (omega arith)
-  ok_name (S n) e = absurd (omega arith)
-  ok_name (N n d) e = absurd (omega arith)
-  ok_name (C n) e = absurd (omega arith)
-  ok_name (U n) e = refl
+  ok_name (K t) a b c d = absurd (a refl)
+  ok_name (S n) a b c d = absurd (b refl)
+  ok_name (N n q) a b c d = absurd (c refl)
+  ok_name (C n) a b c d = absurd (d refl)
+  ok_name (U n) a b c d = refl

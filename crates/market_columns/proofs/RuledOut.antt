@@ -10,7 +10,7 @@ use Rattle.terms.specs.Paper.{Paper, pick}
 use Rattle.terms.specs.RuledOut.{Row, ◌never◌, ◌only◌, Kept, RulesOut, ruled, bools, lists, papers, beside}
 use Rattle.octets.specs.Octets.{numeral, digits_of, laid}
 use Rattle.digits.specs.Digits.{decimal_of, width_in, all_digits, said_by, said_if_digits, digits_at, decimal_at, nothing}
-use Rattle.market_columns.specs.Numbers.{amount, amount_paper, sign, spaces, decimals_at, joined, number_in, number_at, number_text, column_text, number_fits}
+use Rattle.market_columns.specs.Numbers.{amount, amount_paper, spaces, decimals_at, joined, number_in, number_at, number_text, column_text, number_fits}
 use Rattle.market_columns.specs.Columns.{Column, wide, kind_of, decimals_of, row_of, kind_number, FormIs, alike, column_ok, ok_at, is_fixed, fixed_text}
 use Rattle.market_columns.specs.Tables.{starts}
 use Rattle.market_columns.specs.declared.Form.{Form}
@@ -57,7 +57,7 @@ number_fits_wrong =
     ∷ (3, (3, (0, 5))) only false  -- no byte before the point
     ∷ []
 
-pub number_fits_rules_out : RulesOut (Kept _ number-fits-kinds.ps number-fits-kinds.r number_fits.Post) (λ c. let f = c.args.0 in let a = c.args.1.0 in (f.width, (f.decimals, (sign a.minus, a.units)))) (λ c. c.result) number_fits_wrong
+pub number_fits_rules_out : RulesOut (Kept _ number-fits-kinds.ps number-fits-kinds.r number_fits.Post) (λ c. let f = c.args.0 in let a = c.args.1.0 in (f.width, (f.decimals, (a.sign, a.units)))) (λ c. c.result) number_fits_wrong
 unfolding number_fits number_text decimal_of width_in digits_of
 number_fits_rules_out = ruled bools (λ (i : ℕ × (ℕ × (ℕ × ℕ))). number_fits i.0 i.1.0 i.1.1.0 i.1.1.1) (λ c p. p) _ refl
 
@@ -79,9 +79,10 @@ put_number_wrong =
     ∷ (replicate 9 7, (1, (8, (3, (0, 5))))) only put true (7 ∷ (32 ∷ 32 ∷ 32 ∷ 48 ∷ 46 ∷ 48 ∷ 48 ∷ 53 ∷ []))  -- decimals without zeros
     ∷ (replicate 8 7, (1, (8, (3, (0, 5))))) only put false (replicate 8 7)  -- no room
     ∷ (replicate 9 7, (1, (5, (3, (0, 10000))))) only put false (replicate 9 7)  -- too long for its column
+    ∷ (replicate 9 7, (1, (8, (3, (2, 5))))) only put false (replicate 9 7)  -- a sign that is neither 0 nor 1
     ∷ []
 
-pub put_number_rules_out : RulesOut (Kept _ put-number-kinds.ps put-number-kinds.r put-number.Post) (λ c. let f = c.args.1.1.0 in let a = c.args.1.1.1.0 in (c.args.0.now, (c.args.1.0, (f.width, (f.decimals, (sign a.minus, a.units)))))) (λ c. put c.result c.exit.0.now) put_number_wrong
+pub put_number_rules_out : RulesOut (Kept _ put-number-kinds.ps put-number-kinds.r put-number.Post) (λ c. let f = c.args.1.1.0 in let a = c.args.1.1.1.0 in (c.args.0.now, (c.args.1.0, (f.width, (f.decimals, (a.sign, a.units)))))) (λ c. put c.result c.exit.0.now) put_number_wrong
 unfolding number_fits number_text column_text decimal_of width_in digits_of laid
 put_number_rules_out =
     ruled (beside bools lists) (λ (i : List ℕ × (ℕ × (ℕ × (ℕ × (ℕ × ℕ))))). puts (number_fits i.1.1.0 i.1.1.1.0 i.1.1.1.1.0 i.1.1.1.1.1 && leb (i.1.0 + i.1.1.0) (length i.0)) (laid i.1.0 (column_text i.1.1.0 i.1.1.1.0 i.1.1.1.1.0 i.1.1.1.1.1) i.0) i.0) (λ c p. ap₂ put p.0 p.1) _ refl

@@ -2,15 +2,18 @@
 use Rattle.std.specs.Prelude.{ℕ, suc, ◌+◌, ◌-◌, ◌<◌, ◌≤◌, ◌≡◌, true, false, List, ◌∷◌, eqb, drop}
 use Rattle.std.proofs.Math.Path.{sym}
 use Rattle.std.proofs.Common.{ap, ◌∙◌, ⊎_elim, add-one, arith, lit<, drop_of_length-le, drop-cons}
-use Rattle.std.proofs.Math.ListN.{length, get_or, take, length-take}
-use Rattle.std.proofs.Math.Seq.{take_all}
+use Rattle.std.proofs.Math.ListN.{length, get_or, take, length-drop, length-take}
+use Rattle.std.proofs.Math.Seq.{take_all, get_or-take, get_or-drop}
 use borrow.Author.Tests.{le-leb, lt-leb, eq-eqb, ne_eqb}
 use Rattle.terms.specs.Paper.{Paper}
 use Rattle.terms.specs.Cases.{two, less, same, clash}
-use Rattle.market_columns.specs.Columns.{Column, md401, md404, md405, md406, alike}
-use Rattle.market_columns.specs.ColumnLaws.{alike_self, alike_is}
+use Rattle.market_columns.specs.Columns.{Column, md401, md404, md405, md406, alike, columns}
+use Rattle.market_columns.specs.ColumnLaws.{alike_self, alike_is, alike_not, same_more}
+use Rattle.market_columns.specs.Numbers.{number_at}
+use Rattle.market_columns.specs.Pieces.{column_length, column_byte}
+use Rattle.digits.specs.Digits.{nothing, digits_at}
 use Rattle.market_columns.specs.Tables.{length_of}
-use Rattle.market_spec.specs.File.{fault, fine, and_then, line_fault, begins_at, type_at, layout_of, marks, mark_ok, tail_fault, count_ok, sum_ok, closing, trailer_fault, lines_fault}
+use Rattle.market_spec.specs.File.{fault, fine, and_then, line_fault, words, word_of, begins_at, type_at, layout_of, marks, mark_ok, tail_fault, count_ok, sum_ok, closing, trailer_fault, lines_fault}
 
 -- ONE AFTER THE OTHER
 
@@ -43,6 +46,36 @@ module _ (word : List ℕ) (at : ℕ) (s : List ℕ) where
   begins_none : (take (length x) word ≡ x → ⊥) → begins_at word at s ≡ 0
   unfolding begins_at
   begins_none n = rw (⊎_elim (λ (t : alike (take (length x) word) x ≡ true). absurd (n (alike_is (take (length x) word) x t))) (λ (t : alike (take (length x) word) x ≡ false). t) (two (alike (take (length x) word) x)))
+
+  -- i of its bytes are passed
+  module _ (i : ℕ) where
+    pub word_cut : at ≤ length s → i < length word → take i word ≡ take i x → length s ≤ at + i → at + i ≤ length s → begins_at word at s ≡ 2
+    unfolding begins_at
+    word_cut h k e l m =
+        let n : length x ≡ i = length-take (length word) (drop at s) ∙ rw length-drop (omega arith) in
+        let p : take (length x) word ≡ x = rw n (e ∙ take_all i x (omega arith)) in
+        rw (p, alike_self x, ne_eqb (length x) (length word) (λ q. omega arith))
+
+    pub word_not : at + i < length s → i < length word → (get_or s (at + i) 0 ≡ get_or word i 0 → ⊥) → begins_at word at s ≡ 0
+    unfolding begins_at
+    word_not l k d =
+        let n : i < length x = rw (length-take, length-drop) (omega arith) in
+        let a : get_or (take (length x) word) i 0 ≡ get_or word i 0 = get_or-take (length x) word i 0 n in
+        let b : get_or x i 0 ≡ get_or s (at + i) 0 = get_or-take (length word) (drop at s) i 0 k ∙ get_or-drop at s i 0 in
+        rw (alike_not (take (length x) word) x i (λ q. d (sym b ∙ sym q ∙ a)))
+
+    pub word_more : at + i < length s → i < length word → take i word ≡ take i x → get_or s (at + i) 0 ≡ get_or word i 0 → take (i + 1) word ≡ take (i + 1) x
+    word_more l k e q =
+        let n : i < length x = rw (length-take, length-drop) (omega arith) in
+        let b : get_or x i 0 ≡ get_or s (at + i) 0 = get_or-take (length word) (drop at s) i 0 k ∙ get_or-drop at s i 0 in
+        same_more word x i k n e (sym q ∙ sym b)
+
+    pub word_whole : length word ≤ i → i ≤ length word → at + i ≤ length s → take i word ≡ take i x → begins_at word at s ≡ 1
+    unfolding begins_at
+    word_whole h k l e =
+        let n : length x ≡ length word = length-take (length word) (drop at s) ∙ rw length-drop (omega arith) in
+        let p : take (length x) word ≡ x = rw n (take_all (length word) word (omega arith) ∙ sym (take_all i word h) ∙ e ∙ take_all i x (omega arith)) in
+        rw (p, alike_self x, eq-eqb (length x) (length word) n)
 
   -- the word stands whole where it is the bytes there
   pub word_test : alike word x ≡ eqb (begins_at word at s) 1
@@ -141,6 +174,14 @@ each_layout P a b c d t =
 pub layout_some : (t : ℕ) → 1 ≤ length_of (layout_of t)
 layout_some = each_layout (λ cs. 1 ≤ length_of cs) (lit< tt) (lit< tt) (lit< tt) (lit< tt)
 
+pub count_lacks : (k : ℕ) (s : List ℕ) → number_at 27 5 0 s ≡ nothing → count_ok k s ≡ false
+unfolding alike
+count_lacks k s e = rw e
+
+pub sum_lacks : (at : ℕ) (s : List ℕ) → digits_at (at + 8) 3 s ≡ nothing → sum_ok at s ≡ false
+unfolding alike
+sum_lacks at s e = rw e
+
 pub close_sum : (k at : ℕ) (s : List ℕ) → count_ok k s ≡ true → sum_ok at s ≡ false → closing k at s ≡ fault 46 0
 close_sum k at s e f = rw (e, f)
 
@@ -155,3 +196,23 @@ module _ (i p : ℕ) (s : List ℕ) (h : i < 5) where
 pub marks_done : (i p : ℕ) (s : List ℕ) → 5 ≤ i → tail_fault (drop i marks) p s ≡ fine p
 unfolding tail_fault
 marks_done i p s h = rw (drop_of_length-le marks {i = i} h)
+
+-- a word, of the five
+pub word_length : (start w : ℕ) → start + w ≤ 27 → length (word_of start w) ≡ w
+word_length start w h = column_length words start w h
+
+pub word_byte : (start w i : ℕ) → i < w → get_or (word_of start w) i 0 ≡ get_or words (start + i) 0
+word_byte start w i h = column_byte words start w i h
+
+-- the layouts as rows
+pub layout_1 : (t : ℕ) → t ≡ 1 → columns 9 26 ≡ layout_of t
+layout_1 t a = rw a
+
+pub layout_2 : (t : ℕ) → t ≡ 2 → columns 26 36 ≡ layout_of t
+layout_2 t a = rw a
+
+pub layout_3 : (t : ℕ) → t ≡ 3 → columns 36 46 ≡ layout_of t
+layout_3 t a = rw a
+
+pub layout_4 : (t : ℕ) → (t ≡ 1 → ⊥) → (t ≡ 2 → ⊥) → (t ≡ 3 → ⊥) → columns 46 58 ≡ layout_of t
+layout_4 t a b c = rw (ne_eqb t 1 a, ne_eqb t 2 b, ne_eqb t 3 c)

@@ -58,6 +58,20 @@ taken_fault (c ∷ cs) p s =
 -- BY KIND
 
 module _ (x : List ℕ) where
+  pub size_fixed : (c : Column) → kind_of c ≤ 1 → size_of c ≡ 0
+  size_fixed (K t) e = refl
+  size_fixed (S n) e = refl
+  size_fixed (N n d) e = absurd (omega arith)
+  size_fixed (C n) e = absurd (omega arith)
+  size_fixed (U n) e = absurd (omega arith)
+
+  pub size_number : (c : Column) → kind_of c ≡ 2 → size_of c ≡ 9
+  size_number (K t) e = absurd (omega arith)
+  size_number (S n) e = absurd (omega arith)
+  size_number (N n d) e = refl
+  size_number (C n) e = absurd (omega arith)
+  size_number (U n) e = absurd (omega arith)
+
   pub size_text : (c : Column) → 2 < kind_of c → size_of c ≡ wide c
   size_text (K t) e = absurd (omega arith)
   size_text (S n) e = absurd (omega arith)

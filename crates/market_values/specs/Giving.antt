@@ -76,6 +76,9 @@ module _ (at m v : ℕ) (o y : List ℕ) (r : at + 9 ≤ length o) (e : y ≡ la
       e ∙ laid_there (at + 1) 8 (bytes_of 8 v) (set o at m) (length_digits 256 8 v) (le-leb (at + 1 + 8) (length (set o at m)) (rw length-set (omega arith)))
       ∙ rw (← laid_one at m o (omega arith)) (sym (laid_append at (m ∷ []) (bytes_of 8 v) o (omega arith)))
 
+  pub nine_kept : length y ≡ length o
+  nine_kept = ap length nine_laid ∙ length_laid at (m ∷ bytes_of 8 v) o (rw (length_digits 256 8 v) r)
+
 module _ (i p : ℕ) (s : List ℕ) (k w d start : ℕ) (f : FormIs (row_of i) k w d start) (at : ℕ) (o : List ℕ) where
   abbrev bytes : List ℕ
   bytes = value_bytes (value_in (row_of i) (take (wide (row_of i)) (drop p s)))
@@ -366,6 +369,12 @@ unfolding values_bytes
 all_given s o o1 o2 g h p q =
     let l : 38 ≤ length o = omega (arith, length-append (row_bytes (own_values (values_of s))) (lines_bytes (values_of s).lines), own_long s g) in
     laid_next 38 (row_bytes (own_values (values_of s))) (lines_bytes (values_of s).lines) o o1 o2 q (p ∙ ap (λ (vs : List Value). laid 0 (row_bytes vs) o) (own_values_lem s g)) (own_long s g) l
+
+pub own_kept : (s o o1 : List ℕ) → Sound s → length (values_bytes (values_of s)) ≤ length o → o1 ≡ laid 0 (row_bytes (line_values own (drop 49 s))) o → length o1 ≡ length o
+unfolding values_bytes
+own_kept s o o1 g h p =
+    let e : length (row_bytes (line_values own (drop 49 s))) ≡ 38 = ap (λ (vs : List Value). length (row_bytes vs)) (own_values_lem s g) ∙ own_long s g in
+    ap length p ∙ length_laid 0 (row_bytes (line_values own (drop 49 s))) o (rw e (omega (arith, length-append (row_bytes (own_values (values_of s))) (lines_bytes (values_of s).lines), own_long s g)))
 
 pub own_room : (s o : List ℕ) → Sound s → length (values_bytes (values_of s)) ≤ length o → 0 + sizes_of own ≤ length o
 unfolding values_bytes

@@ -17,7 +17,7 @@ use Rattle.market_columns.specs.declared.Kind.TheVariants.{Constant, Blank, Text
 use Rattle.market_columns.specs.ColumnLaws.{ok_there}
 use Rattle.market_columns.specs.Values.{text_of, fits}
 use Rattle.market_columns.proofs.Values.{column_writes}
-use Rattle.market_spec.specs.ValueBytes.{size_of, taken_of, size_text, fits_fixed, fits_number, fits_text, fits_name, text_fixed, text_number, text_own}
+use Rattle.market_spec.specs.ValueBytes.{size_of, taken_of, size_fixed, size_number, size_text, fits_fixed, fits_number, fits_text, fits_name, text_fixed, text_number, text_own}
 
 -- which kinds have no value of their own, and which their bytes
 pub fixed_kind : {k : Kind} → (k ≡ Constant) ⊎ (k ≡ Blank) → kind_number k ≤ 1
@@ -52,6 +52,12 @@ module _ (i p : ℕ) (s : List ℕ) (k w d start : ℕ) (f : FormIs (row_of i) k
   kind = sym f.kind_is
 
   -- SIZE
+
+  pub step_size_0 : k ≤ 1 → size_of (row_of i) ≡ 0
+  step_size_0 h = size_fixed s (row_of i) (rw f.kind_is at h)
+
+  pub step_size_9 : k ≡ 2 → size_of (row_of i) ≡ 9
+  step_size_9 h = size_number s (row_of i) (rw f.kind_is at h)
 
   pub step_size_w : 2 < k → size_of (row_of i) ≡ w
   step_size_w h = size_text s (row_of i) (rw f.kind_is at h) ∙ sym f.width_is

@@ -278,6 +278,9 @@ module _ (s : List ℕ) (p a : ℕ) (out goal : List ℕ) (z : PutLeft s p a out
     unfolding lines_text
     split = rw x.lines
 
+    pub put_two : p + 2 ≤ length s
+    put_two = x.room
+
     -- a line's type stands there
     pub put_some : type_of (be 2 p s) ≡ 0 → ⊥
     put_some e = not_fine 42 p 0 (λ q. omega arith) (sym (taken_type z.fuel p s (omega (arith, z.inside, z.enough)) h x.room e) ∙ z.good)
@@ -355,7 +358,13 @@ module _ (s : List ℕ) (n k : ℕ) (g : FileGood s n k) (o o1 o2 o3 : List ℕ)
   head_82 = line_text_long header (head_values v) g.head.fitting
 
   module _ (p : o1 ≡ laid 0 (head_text v) o) where
+    pub file_kept_1 : length o1 ≡ length o
+    file_kept_1 = ap length p ∙ length_laid 0 (head_text v) o (rw head_82 (omega (arith, g.size)))
+
     module _ (q : o2 ≡ laid 82 (lines_text v.lines) o1) where
+      pub file_kept_2 : length o2 ≡ length o
+      file_kept_2 = ap length q ∙ length_laid 82 (lines_text v.lines) o1 (omega (arith, g.size, file_kept_1)) ∙ file_kept_1
+
       two_laid : o2 ≡ laid 0 both_text o
       two_laid = laid_next 82 (head_text v) (lines_text v.lines) o o1 o2 q p head_82 (omega (arith, g.size))
 

@@ -2,12 +2,9 @@
 // First MDTime, MDUpdateType and MktStatus, then for each line its type and its columns' values.
 #![tactic(auto)]
 
-ghost use Rattle.std.specs.Prelude.{◌≡◌, true, ◌∷◌, ◌+◌, ◌≤◌, leb, length, get_or, take, drop};
-ghost use Rattle.terms.specs.Paper.{pick};
-ghost use Rattle.digits.specs.Digits.{nothing};
+ghost use Rattle.std.specs.Prelude.{◌≡◌, true, ◌∷◌, ◌+◌, ◌≤◌, length, get_or, take, drop};
 ghost use Rattle.octets.specs.Octets.{be, laid, bytes_of, sum8, Bytes};
 ghost use Rattle.market_columns.specs.Columns.{row_of, columns, wide, column_ok};
-ghost use Rattle.market_columns.specs.Numbers.{amount, amount_paper, sign};
 ghost use Rattle.market_columns.specs.Tables.{length_of};
 ghost use Rattle.market_columns.specs.Values.{fits, text_of, value_in};
 ghost use Rattle.market.specs.Papers.{verdict_paper};
@@ -43,20 +40,15 @@ fn size(i: usize) -> usize
     }
 }
 
-// The amount in the nine bytes of s from p on, a sign and the units. Only 0 and 1 are signs.
-fn amount_at(s: &[u8], p: usize) -> Option<Amount>
+// The nine bytes of s from p on as an amount: its sign, any byte, then the units.
+fn amount_at(s: &[u8], p: usize) -> Amount
     requires { p + 9 ≤ length s.now }
-    ensures { amount_paper result ≡ pick (leb (get_or s.now p 0) 1) (amount (get_or s.now p 0) (be 8 (p + 1) s.now)) nothing }
+    ensures { (result.sign ≡ get_or s.now p 0) × (result.units ≡ be 8 (p + 1) s.now) }
 {
-    let minus = match s[p] {
-        0 => false,
-        1 => true,
-        _ => return None,
-    };
-    Some(Amount {
-        minus,
+    Amount {
+        sign: s[p],
         units: u64::at(s, p + 1),
-    })
+    }
 }
 
 // Whether the value that stands in s from p on fits the column of row i.
@@ -67,10 +59,7 @@ fn value_fits(s: &[u8], p: usize, i: usize) -> bool
     let form = market_columns::column(i);
     match form.kind {
         Kind::Constant | Kind::Blank | Kind::Name => true,
-        Kind::Number => match amount_at(s, p) {
-            Some(amount) => market_columns::number_fits(form, amount),
-            None => false,
-        },
+        Kind::Number => market_columns::number_fits(form, amount_at(s, p)),
         Kind::Text => market_columns::column_ok(s, p, i),
     }
 }
@@ -87,9 +76,7 @@ fn put_column(out: &mut [u8], at: usize, s: &[u8], p: usize, i: usize)
             market_columns::put_fixed(out, at, i);
         }
         Kind::Number => {
-            if let Some(amount) = amount_at(s, p) {
-                market_columns::put_number(out, at, form, amount);
-            }
+            market_columns::put_number(out, at, form, amount_at(s, p));
         }
         Kind::Text | Kind::Name => {
             let _ = octets::lay(out, at, &s[p..p + form.width]);
@@ -145,9 +132,9 @@ fn put_line(out: &mut [u8], at: usize, s: &[u8], from: usize, rows: Rows)
 // Lays an amount's sign and units, nine bytes, over out from at on.
 fn give_number(out: &mut [u8], at: usize, amount: Amount)
     requires { at + 9 ≤ length out.old }
-    ensures { out.new ≡ laid at (sign amount.minus ∷ bytes_of 8 amount.units) out.old }
+    ensures { out.new ≡ laid at (amount.sign ∷ bytes_of 8 amount.units) out.old }
 {
-    out[at] = amount.minus as u8;
+    out[at] = amount.sign;
     let _ = octets::put(out, at + 1, 8, amount.units);
 }
 
@@ -252,7 +239,7 @@ fn give_lines(out: &mut [u8], s: &[u8])
     let mut p: usize = 82;
     while let Start::Line(line) = market::line_type(s, p) {
         let _ = octets::put(out, a, 2, type_number(line));
-        give_line(out, a + 2, s, p, market::rows_of(line));
+        give_line(out, a + 2, s, p, line.rows());
         let sizes = line_sizes(line);
         a += sizes.values;
         p += sizes.bytes;
@@ -315,7 +302,7 @@ fn judge_lines(s: &[u8]) -> Result<Good, Wrong>
                 place: p,
             });
         };
-        p = values_fit(s, p + 2, market::rows_of(line))?;
+        p = values_fit(s, p + 2, line.rows())?;
         size += line_sizes(line).bytes;
         lines += 1;
     }
@@ -352,7 +339,7 @@ fn put_lines(out: &mut [u8], s: &[u8])
         let Some(line) = type_of(u16::at(s, p)) else {
             return;
         };
-        put_line(out, a, s, p + 2, market::rows_of(line));
+        put_line(out, a, s, p + 2, line.rows());
         let sizes = line_sizes(line);
         a += sizes.bytes;
         p += sizes.values;

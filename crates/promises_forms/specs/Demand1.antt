@@ -25,6 +25,7 @@ market_answers : Named
 market_answers =
     let due_one_answer = market.due_one_answer in
     let line_type_one_answer = market.line_type_one_answer in
+    let LineType_rows_one_answer = market.LineType_rows_one_answer in
     let rows_of_one_answer = market.rows_of_one_answer in
     let U64FromFault_from_one_answer = market.U64FromFault_from_one_answer in
     let check_one_answer = market.check_one_answer in

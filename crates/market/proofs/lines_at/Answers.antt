@@ -14,7 +14,7 @@ use Rattle.market.proofs.lines_at.Goals.{After-line_at}
 
 -- the line that was looked at is that of the type there
 looked : (c : goal.After-line_at) → let p = c.loop-line.p in let s = c.args.s.now in line_fault 43 (layout_of (type_at p s)) p s ≡ verdict_paper c.line_at.result
-looked c = ap (λ (cs : List Column). line_fault 43 cs c.loop-line.p c.args.s.now) (ap layout_of (sym c.in-Line.ensures) ∙ sym c.rows_of.ensures.0) ∙ sym c.line_at.ensures
+looked c = ap (λ (cs : List Column). line_fault 43 cs c.loop-line.p c.args.s.now) (ap layout_of (sym c.in-Line.ensures) ∙ sym c.rows.ensures.0) ∙ sym c.line_at.ensures
 
 pub loop-line-init : goal.loop-line-init
 loop-line-init c = left_first _ _ c.requires

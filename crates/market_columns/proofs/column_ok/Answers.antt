@@ -1,4 +1,5 @@
 -- `column_ok`: the column's numbers, its room, then by its kind. Assumes nothing.
+use native.Mathlib.Omega.{arith}
 use mathlib.Core.Path.{sym, ap, ◌∙◌}
 use mathlib.Core.Bool.{not}
 use lib.Dec.{eqb}
@@ -24,4 +25,6 @@ pub returns-in-Text : goal.returns-in-Text
 returns-in-Text c = rw c.spaces-k.ensures.0 (sym (turn_text _ _ _ _ _ _ _ c.column-form.ensures.0 (sym c.if-not-has_room.ensures) (ap kind_number c.in-Text.is)))
 
 pub returns-in-Name : goal.returns-in-Name
-returns-in-Name c = sym (turn_name _ _ _ _ _ _ _ c.column-form.ensures.0 (sym c.if-not-has_room.ensures) (ap kind_number c.in-Name.is))
+returns-in-Name c =
+    let k = ap kind_number c.in-Name.is in
+    sym (turn_name _ _ _ _ _ _ _ c.column-form.ensures.0 (sym c.if-not-has_room.ensures) (λ z. omega (arith, z, k)) (λ z. omega (arith, z, k)) (λ z. omega (arith, z, k)) (λ z. omega (arith, z, k)))

@@ -21,7 +21,7 @@ typed : (c : goal.After-values_fit) → line_number c.in-Some.line ≡ type_of (
 typed c = c.in-Some.ensures ∙ ap type_of c.at.ensures
 
 told : (c : goal.After-values_fit) → let p = c.loop-p.p in let s = c.args.s.now in verdict_paper c.values_fit.result ≡ taken_fault (layout_of (type_of (be 2 p s))) (p + 2) s
-told c = c.values_fit.ensures ∙ ap (λ (cs : List Column). taken_fault cs (c.loop-p.p + 2) c.args.s.now) (c.rows_of.ensures.0 ∙ ap layout_of (typed c))
+told c = c.values_fit.ensures ∙ ap (λ (cs : List Column). taken_fault cs (c.loop-p.p + 2) c.args.s.now) (c.rows.ensures.0 ∙ ap layout_of (typed c))
 
 other : (c : goal.After-values_fit) → type_of (be 2 c.loop-p.p c.args.s.now) ≡ 0 → ⊥
 other c e = (line_not c.in-Some.line).2 (typed c ∙ e)

@@ -2,17 +2,14 @@
 use native.Mathlib.Omega.{arith}
 use mathlib.Core.Path.{sym, ap, ◌∙◌}
 use Rattle.market_columns.specs.Columns.{kind_number}
-use Rattle.market_values.specs.Steps.{step_true, step_size_w, step_number, step_sign, step_text, nine_say, nine_not}
+use Rattle.market_values.specs.Steps.{step_true, step_size_w, step_number, step_text}
 use Rattle.market_values.proofs.value_fits.Goals as goal
 
 pub returns-in-Constant : goal.returns-in-Constant
 returns-in-Constant c = let a = c.args in sym (step_true a.i a.p a.s.now _ _ _ _ c.column-form.ensures.0 c.requires c.in-Constant.is)
 
-pub returns-in-Some : goal.returns-in-Some
-returns-in-Some c = let a = c.args in let t = nine_say _ _ _ _ _ c.in-Some.ensures in c.number_fits.ensures ∙ rw (t.0, t.1) (sym (step_number a.i a.p a.s.now _ _ _ _ c.column-form.ensures.0 (ap kind_number c.in-Number.is)))
-
-pub returns-in-None : goal.returns-in-None
-returns-in-None c = let a = c.args in sym (step_sign a.i a.p a.s.now _ _ _ _ c.column-form.ensures.0 (ap kind_number c.in-Number.is) (nine_not _ _ _ c.in-None.ensures))
+pub returns-in-Number : goal.returns-in-Number
+returns-in-Number c = let a = c.args in let t = c.amount_at.ensures in c.number_fits.ensures ∙ rw (t.0, t.1) (sym (step_number a.i a.p a.s.now _ _ _ _ c.column-form.ensures.0 (ap kind_number c.in-Number.is)))
 
 pub returns-in-Text : goal.returns-in-Text
 returns-in-Text c =
