@@ -19,6 +19,7 @@ pub struct Finding {
     pub place: u64,
 }
 
+// An answer as C is told it: 0 and the count, or the fault's number and its place.
 impl From<Result<usize, Wrong>> for Finding {
     ghost from_gives = { λ answer finding. finding_paper finding ≡ verdict_paper answer };
 

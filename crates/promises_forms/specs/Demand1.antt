@@ -77,6 +77,7 @@ step_tags_answers =
 -- host_market
 host_market_answers : Named
 host_market_answers =
+    let FindingFromResultUsizeWrong_from_one_answer = host_market.FindingFromResultUsizeWrong_from_one_answer in
     let rk_market_check_one_answer = host_market.rk_market_check_one_answer in
     let rk_market_values_one_answer = host_market.rk_market_values_one_answer in
     let rk_market_write_one_answer = host_market.rk_market_write_one_answer in

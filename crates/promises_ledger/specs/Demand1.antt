@@ -98,7 +98,7 @@ pub count_numbered : (x : Result ℕ Refusal) → Numbered (count_paper x).numbe
 count_numbered (Ok n) = done refl
 count_numbered (Err w) = refused (refusal_in_table w)
 
--- opening, announcing, a new session; and the walk, and cleaning
+-- opening, announcing, a new session; the walk and cleaning answer counts (`verdict_numbered`)
 pub plain_numbered : (x : Result ⊤ Refusal) → Numbered (paper_of x).number
 plain_numbered (Ok tt) = done refl
 plain_numbered (Err w) = refused (refusal_in_table w)
