@@ -52,7 +52,7 @@ struct Ran {
 pub fn waits<T: Drop>(closing: bool, answer: Result<T, Refusal>) -> bool
     ensures { result ≡ waits_at closing (verdict_number answer) }
 {
-    !closing && matches!(answer, Err(Refusal::More))
+    !closing & matches!(answer, Err(Refusal::More))
 }
 
 // Whether the search passes over a place with this answer.
@@ -60,7 +60,7 @@ pub fn waits<T: Drop>(closing: bool, answer: Result<T, Refusal>) -> bool
 pub fn passes<T: Drop>(seeking: bool, answer: Result<T, Refusal>) -> bool
     ensures { result ≡ passed_over seeking (verdict_number answer) }
 {
-    seeking && answer.is_err()
+    seeking & answer.is_err()
 }
 
 // From a place that was read to the next one to look at.
@@ -85,22 +85,12 @@ fn counted(tally: Tally, answer: Result<(), Refusal>, after: Ledger) -> Tally
     }
 }
 
-// What is read at a place of the bytes of a, with b behind them. It is called and not inlined: few
-// places lie in a, and the loop over places carries less without this code.
-#[inline(never)]
-fn see_before(a: &[u8], b: &[u8], p: usize) -> Seen
-    requires { p < length a.now }
-    ensures { result ≡ seen_of (drop p (a.now ++ b.now)) }
-{
-    reading_parts::see(&a[p..], b)
-}
-
 // What is read at a place of the bytes of a and, behind them, of b.
 fn see_at(a: &[u8], b: &[u8], p: usize) -> Seen
     ensures { result ≡ seen_of (drop p (a.now ++ b.now)) }
 {
     if p < a.len() {
-        return see_before(a, b, p);
+        return reading_parts::see(&a[p..], b);
     }
     reading::see(b, p - a.len())
 }
