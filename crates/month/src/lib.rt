@@ -197,15 +197,13 @@ impl Named {
         places
     }
 
-    // A fresh row at each named place.
-    fn fresh_rows(&self) -> [Row; 32]
-        ensures { Kept self.now.channels self.now.count [] result }
+    // Writes a fresh row at each named place.
+    fn fresh_rows(&self, rows: &mut [Row; 32])
+        ensures { Kept self.now.channels self.now.count [] rows.new }
     {
-        let mut rows: [Row; 32] = [Row::fresh(0); 32];
         for j in 0..self.count {
             rows[j] = Row::fresh(self.channels[j]);
         }
-        rows
     }
 }
 
@@ -284,12 +282,12 @@ impl Row {
 
 // ---- one pass over a capture
 
-// The rows after all frames of a capture: each frame is read once, and turns the row of its
-// channel alone.
-fn pass(capture: &[u8], names: &Named) -> [Row; 32]
-    ensures { Kept names.now.channels names.now.count (reads_in capture.now) result }
+// Writes the rows after all frames of a capture: each frame is read once, and turns the row of its
+// channel alone. The rows are lent, as they take 4 KB of stack each time that they are copied.
+fn pass(capture: &[u8], names: &Named, rows: &mut [Row; 32])
+    ensures { Kept names.now.channels names.now.count (reads_in capture.now) rows.new }
 {
-    let mut rows = names.fresh_rows();
+    names.fresh_rows(rows);
     let places = names.hints();
     let mut p: usize = 0;
     while p < capture.len() {
@@ -305,7 +303,6 @@ fn pass(capture: &[u8], names: &Named) -> [Row; 32]
         };
         rows[i] = rows[i].turned(seen);
     }
-    rows
 }
 
 // The figures of all rows, six for each; those of unnamed places are 0.
@@ -400,7 +397,9 @@ impl Month {
         if self.taken >= 500 {
             return self.refused(Refusal::Captures);
         }
-        let figures = figures_of(&pass(capture, &names), self.named);
+        let mut rows: [Row; 32] = [Row::fresh(0); 32];
+        pass(capture, &names, &mut rows);
+        let figures = figures_of(&rows, self.named);
         let Some(sums) = summed(self.sums, figures) else {
             return self.refused(Refusal::Sums);
         };

@@ -10,7 +10,7 @@ goes : (c : goal.After-onward-p) → Goes c.args.capture.now c.loop-p.p c.onward
 goes c = goes_onward _ _ _ c.see-seen.ensures c.loop-p-test.true _ c.onward-p.ensures
 
 pub loop-p-init : goal.loop-p-init
-loop-p-init c = left_start _ _ _ _ c.fresh_rows-rows.ensures
+loop-p-init c = left_start _ _ _ _ c.fresh_rows.ensures
 
 pub loop-p-smaller-then-is_err : goal.loop-p-smaller-then-is_err
 loop-p-smaller-then-is_err c = let g = goes (goal.at.loop-p-smaller-then-is_err c).After-onward-p in omega (arith, g.further, g.inside)
