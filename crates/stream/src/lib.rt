@@ -157,8 +157,8 @@ fn behind(st: Standing, ran: Ran, n: usize, closing: bool) -> Standing
     }
 }
 
-// The m bytes from a on are stored at the front. Byte by byte: the C library's memmove, which
-// `copy_within` becomes, is no name that the library needs from outside.
+// The m bytes from a on are stored at the front. Byte by byte, as `octets::lay` stores what it is
+// given: std's copies of parts call the C library's memmove, a name that the library needs nowhere.
 fn down(w: &mut [u8], a: usize, m: usize)
     requires { a + m ≤ length w.old }
     ensures { w.new ≡ laid 0 (take m (drop a w.old)) w.old }
@@ -185,7 +185,7 @@ fn keep(kept: &mut [u8], n: usize, rest: &[u8])
     ensures { kept.new ≡ laid 0 rest.now (blank_to n kept.old) }
 {
     kept[..n].fill(0);
-    kept[..rest.len()].copy_from_slice(rest);
+    let _ = octets::lay(kept, 0, rest);
 }
 
 // Whether a store of so much room has n bytes, and takes of them and m more those from a place on.
@@ -208,8 +208,7 @@ pub fn keep_rest(kept: &mut [u8], n: usize, at: usize, cut: &[u8])
     }
     if at <= n {
         shift(kept, at, n);
-        let end = n - at + cut.len();
-        kept[n - at..end].copy_from_slice(cut);
+        let _ = octets::lay(kept, n - at, cut);
         return;
     }
     keep(kept, n, &cut[at - n..]);

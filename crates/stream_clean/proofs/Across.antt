@@ -9,13 +9,14 @@ use mathlib.Core.Bool.{true, false}
 use lib.Dec.{leb}
 use borrow.Rule.Slice.PartMut.{put_mid, mid_of, mid_len}
 use Rattle.octets.specs.Octets.{laid}
-use Rattle.octets.specs.Overlays.{mid_laid, laid_again, laid_append}
+use Rattle.octets.specs.Overlays.{length_laid, mid_laid, laid_again, laid_append}
 use Rattle.octets.specs.Papers.{laid_if_room, laid_there, laid_kept}
 use Rattle.private.specs.Scrub.{scrubbed}
 use Rattle.private.proofs.Laws.{length_always}
 use Rattle.scrub.proofs.Parts.{back}
 use Rattle.clean_spec.specs.Laid.{nothing_laid}
 use Rattle.clean_spec.specs.Turns.{scrubbed_none}
+use Rattle.stream_spec.specs.Window.{laid_in}
 use Rattle.stream_clean.specs.declared.Taken.{Taken}
 use Rattle.stream_clean.specs.Taken.{TakenIs}
 
@@ -30,12 +31,14 @@ scrubbed_back a e xs ys g p =
     ∙ ap (λ (z : List ℕ). laid a z xs) p
 
 -- both parts laid, and scrubbed there
-pub laid_both : (n : ℕ) (a b d d₁ d₂ d₃ : List ℕ) → n + (length a + length b) ≤ length d → d₁ ≡ laid n a d → d₂ ≡ laid (n + length a) b d₁
+pub laid_both : (n : ℕ) (a b d d₁ d₂ d₃ : List ℕ) → n + (length a + length b) ≤ length d → d₁ ≡ laid_if_room n a d → d₂ ≡ laid_if_room (n + length a) b d₁
     → d₃ ≡ laid n (scrubbed (take (n + length a + length b - n) (drop n d₂))) d₂ → d₃ ≡ laid n (scrubbed (a ++ b)) d
 laid_both n a b d d₁ d₂ d₃ h p q r =
     let l = length-append a b in
     let f : n + length (a ++ b) ≤ length d = omega (arith, l) in
-    let g : d₂ ≡ laid n (a ++ b) d = q ∙ ap (laid (n + length a) b) p ∙ sym (laid_append n a b d (omega arith)) in
+    let e : d₁ ≡ laid n a d = laid_in n a d d₁ (omega arith) p in
+    let m : length d₁ ≡ length d = ap length e ∙ length_laid n a d (omega arith) in
+    let g : d₂ ≡ laid n (a ++ b) d = laid_in (n + length a) b d₁ d₂ (omega arith) q ∙ ap (laid (n + length a) b) e ∙ sym (laid_append n a b d (omega arith)) in
     let k : n + length a + length b - n ≡ length (a ++ b) = omega (arith, l) in
     let t : take (n + length a + length b - n) (drop n d₂) ≡ a ++ b = rw (k, g) (mid_laid n (a ++ b) d f) in
     r

@@ -90,8 +90,8 @@ fn lay_both(a: &[u8], b: &[u8], out: &mut [u8], n: usize)
 {
     let from = n + a.len();
     let end = from + b.len();
-    out[n..from].copy_from_slice(a);
-    out[from..end].copy_from_slice(b);
+    let _ = octets::lay(out, n, a);
+    let _ = octets::lay(out, from, b);
     scrub_part(out, n, end);
 }
 

@@ -3,11 +3,11 @@
 -- Assumes nothing.
 use native.Mathlib.Omega.{arith}
 use Prim.Native.Nat.{◌+◌, ◌-◌, ◌≤◌}
-use mathlib.Core.Path.{◌≡◌, refl, sym, ap, ◌∙◌}
+use mathlib.Core.Path.{◌≡◌, sym, ap, ◌∙◌}
 use mathlib.Core.Bool.{true}
 use lib.ListN.{length, take, drop, length-drop}
 use Rattle.stream.specs.Standing.{has_rest}
-use Rattle.stream.specs.StoreLaws.{copied, tail_whole, rest_there, rest_none, rest_copied, rest_kept}
+use Rattle.stream.specs.StoreLaws.{tail_whole, rest_there, rest_none, rest_laid, rest_kept}
 use Rattle.stream.proofs.keep_rest.Goals as goal
 use Rattle.stream.proofs.keep_rest.Goals.{Else-not-has_rest}
 
@@ -28,16 +28,7 @@ pub shift-requires : goal.shift-requires
 shift-requires c = (c.if-at-n.true, (bounds (goal.at.shift-requires c).Else-not-has_rest).0)
 
 pub returns-then-at-n : goal.returns-then-at-n
-returns-then-at-n c =
-    let s = c.args in
-    rest_copied _ _ _ _ (there (goal.at.returns-then-at-n c).Else-not-has_rest) c.if-at-n.true _ _ c.shift.ensures
-    (copied (s.n - s.at) _ _ _ _ c.copy_from_slice.ensures.after refl)
-
-pub overflow_add-end : goal.overflow_add-end
-overflow_add-end c = omega (arith, (bounds (goal.at.overflow_add-end c).Else-not-has_rest).1.1)
-
-pub slice_bounds-copy_from_slice-end : goal.slice_bounds-copy_from_slice-end
-slice_bounds-copy_from_slice-end c = omega (arith, (bounds (goal.at.slice_bounds-copy_from_slice-end c).Else-not-has_rest).1.1, ap length c.shift.ensures)
+returns-then-at-n c = rest_laid _ _ _ _ (there (goal.at.returns-then-at-n c).Else-not-has_rest) c.if-at-n.true _ _ c.shift.ensures c.lay.ensures.1
 
 pub slice_bounds-keep-count : goal.slice_bounds-keep-count
 slice_bounds-keep-count c = omega (arith, (bounds (goal.at.slice_bounds-keep-count c).Else-not-has_rest).1.0)
