@@ -1,6 +1,6 @@
 -- Two parts, one behind the other: their first bytes, bytes laid together, and what the front of
 -- both says of all.
-use Rattle.std.specs.Prelude.{◌≡◌, ℕ, zero, suc, ◌+◌, ◌-◌, ◌%◌, ◌^◌, ◌<◌, ◌≤◌, min, false, ◌⊎◌, List, [], ◌∷◌, ◌++◌, length, take, drop, ◌≢◌, nat_lt, refl}
+use Rattle.std.specs.Prelude.{◌≡◌, ℕ, zero, suc, ◌+◌, ◌-◌, ◌%◌, ◌^◌, ◌<◌, ◌≤◌, min, Bool, true, false, ◌⊎◌, List, [], ◌∷◌, ◌++◌, length, take, drop, ◌≢◌, nat_lt, refl}
 use Rattle.std.proofs.Common.{sym, ap, ◌∙◌, inl, inr, ⊎_elim, arith, add-zero, length-append, length-take, length-drop, take-append-drop, drop_of_length-le, take_all, take-take, length-take-le, le-leb, le-ltb, lt-ltb}
 use Rattle.std.proofs.lemmas.Bool.{lt-leb}
 use Rattle.terms.specs.Cases.{less}
@@ -20,7 +20,7 @@ use Rattle.reading.specs.declared.Seen.{Seen}
 use Rattle.reading.specs.Seen.{blank, seen_of, seen_number}
 use Rattle.reading.specs.SeenLaws.{more_says}
 use Rattle.reading.proofs.SeenLaws.{seen_kept, seen_answer, seen_blank}
-use Rattle.reading_parts.specs.Parts.{wanted_by, Gathers, Long}
+use Rattle.reading_parts.specs.Parts.{wanted_by, Gathers, Long, Tells}
 
 -- the first n bytes of both parts, and the bytes behind them
 take_parts : (n : ℕ) (a b : List ℕ) → take n (a ++ b) ≡ take n a ++ take (n - length a) b
@@ -220,3 +220,10 @@ module _ (h s : List ℕ) (x : Seen) (e : h ≡ take (length h) s) (seen : x ≡
 
     pub seen_lacks : wanted_by h ≤ length s → (seen_number (seen_of h) ≡ 1) × (wanted_by h ≤ length s)
     seen_lacks l = (missed, l)
+
+-- and what the code's own answer to that says
+pub tells_all : (b : Bool) (h s : List ℕ) → Tells b h s → b ≡ true → seen_of h ≡ seen_of s
+tells_all b h s t e = rw e at t
+
+pub tells_lack : (b : Bool) (h s : List ℕ) → Tells b h s → b ≡ false → (seen_number (seen_of h) ≡ 1) × (wanted_by h ≤ length s)
+tells_lack b h s t e = rw e at t

@@ -1,8 +1,7 @@
 -- What the functions over two parts need of each other.
-use Rattle.std.specs.Prelude.{◌≡◌, ℕ, ◌+◌, ◌<◌, ◌≤◌, List, Option, Some, None, length, take, nat_le}
+use Rattle.std.specs.Prelude.{◌≡◌, ℕ, ◌+◌, ◌<◌, ◌≤◌, Bool, true, false, List, length, take, nat_le}
 use Rattle.terms.specs.Paper.{pick}
 use Rattle.frame_spec.specs.Frame.{body_length, Whole}
-use Rattle.reading.specs.declared.Seen.{Seen}
 use Rattle.reading.specs.Seen.{seen_of, seen_number}
 
 -- how many bytes are wanted by the frame that h begins: its header, and then all that this tells
@@ -22,6 +21,6 @@ pub record Long (front s : List ℕ) : Type 0 where
   pub big : 512 < 28 + body_length s
 
 -- what the front of s tells of it: the reading, or that bytes are missing of the front alone
-abbrev pub Tells : Option Seen → List ℕ → List ℕ → Type 0
-Tells (Some x) front s = x ≡ seen_of s
-Tells None front s = (seen_number (seen_of front) ≡ 1) × (wanted_by front ≤ length s)
+abbrev pub Tells : Bool → List ℕ → List ℕ → Type 0
+Tells true front s = seen_of front ≡ seen_of s
+Tells false front s = (seen_number (seen_of front) ≡ 1) × (wanted_by front ≤ length s)

@@ -8,7 +8,7 @@ ghost use Rattle.octets.specs.Octets.{be, sum8};
 ghost use Rattle.rules.specs.Fields.{entry_ok, entries_ok, m102_ok, fields_ok};
 ghost use Rattle.rules.specs.Sizes.{Wide};
 ghost use Rattle.frame_spec.specs.Frame.{body_length, body};
-ghost use Rattle.reading.specs.Seen.{seen_of};
+ghost use Rattle.reading.specs.Seen.{seen_of, seen_number};
 ghost use Rattle.reading_parts.specs.Parts.{wanted_by, Gathers, Long, Tells};
 
 use octets::Number;
@@ -165,20 +165,20 @@ fn waits(answer: Result<(), Refusal>) -> bool
     answer == Err(Refusal::More)
 }
 
-// What the first bytes of both parts tell of them, of so many bytes: the reading, unless bytes are
-// missing for it and they are all there.
-fn told_by(begun: &[u8], first: &[u8], second: &[u8]) -> Option<Seen>
-    requires { begun.now ≡ take (length begun.now) (first.now ++ second.now) }
+// Whether the answer for the first bytes of both parts is that for them all: it is, unless bytes
+// are missing for it and they are all there. What they want is looked up only where bytes are
+// missing: a search passes over most places before that.
+fn is_told(answer: Result<(), Refusal>, begun: &[u8], first: &[u8], second: &[u8]) -> bool
+    requires { (begun.now ≡ take (length begun.now) (first.now ++ second.now)) × (verdict_number answer ≡ seen_number (seen_of begun.now)) }
     ensures { Tells result begun.now (first.now ++ second.now) }
 {
-    let seen = reading::see(begun, 0);
-    if !waits(seen.answer) {
-        return Some(seen);
+    if !waits(answer) {
+        return true;
     }
     if second.len() < wanted_by(begun).saturating_sub(first.len()) {
-        return Some(seen);
+        return true;
     }
-    None
+    false
 }
 
 // The reading of both parts, of which at most 512 bytes are laid together.
@@ -187,10 +187,11 @@ fn see_wide(first: &[u8], second: &[u8]) -> Seen
 {
     let mut front: [u8; 512] = [0; 512];
     let m = gather(first, second, &mut front);
-    match told_by(&front[..m], first, second) {
-        Some(seen) => seen,
-        None => see_long(&front[..m], first, second),
+    let seen = reading::see(&front[..m], 0);
+    if is_told(seen.answer, &front[..m], first, second) {
+        return seen;
     }
+    see_long(&front[..m], first, second)
 }
 
 // The reading of both parts where the header may lie across them: it is laid together and looked at
@@ -200,10 +201,11 @@ fn see_across(first: &[u8], second: &[u8]) -> Seen
 {
     let mut head: [u8; 24] = [0; 24];
     let m = gather(first, second, &mut head);
-    match told_by(&head[..m], first, second) {
-        Some(seen) => seen,
-        None => see_wide(first, second),
+    let seen = reading::see(&head[..m], 0);
+    if is_told(seen.answer, &head[..m], first, second) {
+        return seen;
     }
+    see_wide(first, second)
 }
 
 // The reading at the front of two parts, one behind the other. Where the first tells, or where its
@@ -214,8 +216,9 @@ pub fn see(first: &[u8], second: &[u8]) -> Seen
     if first.len() < 24 {
         return see_across(first, second);
     }
-    match told_by(first, first, second) {
-        Some(seen) => seen,
-        None => see_wide(first, second),
+    let seen = reading::see(first, 0);
+    if is_told(seen.answer, first, first, second) {
+        return seen;
     }
+    see_wide(first, second)
 }
